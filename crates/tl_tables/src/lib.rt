@@ -1,0 +1,347 @@
+//! The tables of TileLink 1.8 as this product reads them: channels, levels, messages, params, permissions, and the
+//! names of the rules. Each call is one table, over all its arguments.
+#![tactic(auto)]
+
+ghost use Rattle.std.specs.Prelude.{◌≡◌, ◌<◌};
+ghost use Rattle.tl_tables.specs.Messages.{op_at, carries_data_of, least_level, level_le, replies_to, chan_number};
+ghost use Rattle.tl_tables.specs.Params.{is_lawful, cap_of, from_of, to_of};
+ghost use Rattle.tl_tables.specs.Rules.{rule_text_of};
+
+/// A channel of a link. A, C and E run from client to manager, B and D from manager to client. Within one cycle the
+/// beats of a link stand in the order A to E.
+#[derive(Clone, Copy, Debug, PartialEq, Eq)]
+pub enum Chan {
+    A,
+    B,
+    C,
+    D,
+    E,
+}
+
+/// How much of the protocol a link speaks.
+#[derive(Clone, Copy, Debug, PartialEq, Eq)]
+pub enum Level {
+    /// TL-UL: single-beat accesses.
+    Ul,
+    /// TL-UH: bursts, atomics and hints.
+    Uh,
+    /// TL-C: cached blocks.
+    C,
+}
+
+/// What a client may do with a block, from least to most.
+#[derive(Clone, Copy, Debug, PartialEq, Eq)]
+pub enum Perm {
+    /// Neither read nor write (N).
+    Nothing,
+    /// Read (B).
+    Branch,
+    /// Read and write (T).
+    Trunk,
+}
+
+/// A message.
+#[derive(Clone, Copy, Debug, PartialEq, Eq)]
+pub enum Op {
+    PutFullData,
+    PutPartialData,
+    ArithmeticData,
+    LogicalData,
+    Get,
+    Intent,
+    AcquireBlock,
+    AcquirePerm,
+    ProbeBlock,
+    ProbePerm,
+    AccessAck,
+    AccessAckData,
+    HintAck,
+    ProbeAck,
+    ProbeAckData,
+    Release,
+    ReleaseData,
+    Grant,
+    GrantData,
+    ReleaseAck,
+    GrantAck,
+}
+
+/// A rule, in the order of reports.
+#[derive(Clone, Copy, Debug, Default, PartialEq, Eq)]
+pub enum Rule {
+    #[default]
+    /// The opcode is no message of its channel at the link's level.
+    F1,
+    /// The param is not lawful for the message.
+    F2,
+    /// The address is not a multiple of the size.
+    F3,
+    /// The size is above the link's largest.
+    F4,
+    /// The mask is not that of the active lanes, or for PutPartialData not within it.
+    F5,
+    /// Corrupt is high on a message without data.
+    F6,
+    /// Data is denied and not corrupt.
+    F7,
+    /// A message of a whole block has another size.
+    F8,
+    /// The source is not below the link's number of sources.
+    F9,
+    /// No region of the manager permits the access to all its bytes.
+    F10,
+    /// A later beat of a burst differs from its head.
+    U1,
+    /// A request's source is already in flight.
+    S1,
+    /// A reply without an open request on its source.
+    S2,
+    /// A reply of a kind that its request doesn't have.
+    S3,
+    /// A reply of another size than its request.
+    S4,
+    /// A ReleaseAck without an open Release on its source.
+    S5,
+    /// A Release's source is already in flight.
+    S6,
+    /// A ReleaseAck of another size than its Release.
+    S7,
+    /// A Grant's sink is already in use.
+    S8,
+    /// A GrantAck without an open Grant on its sink.
+    S9,
+    /// An Acquire claims to hold more than its client can.
+    P1,
+    /// A ProbeAck or Release claims to hold more than its client can.
+    P2,
+    /// A ProbeAck without an open Probe on its block.
+    P3,
+    /// A ProbeAck keeps more than the open Probe allows.
+    P4,
+    /// A Probe while one is open on its block at this client.
+    P5,
+    /// An Acquire while this client has one open on the block.
+    P6,
+    /// A Release while this client has an Acquire open on the block.
+    P7,
+    /// An Acquire, Release or ProbeAck while this client has a Release open on the block.
+    P8,
+    /// A Grant gives what another client's hold forbids.
+    M1,
+    /// A Grant while a client has an open Probe on the block.
+    M2,
+    /// A Probe while a client has an open Grant on the block.
+    M3,
+    /// A monitor's watch flags the beat.
+    X1,
+}
+
+/// The lowest level that has this message on this channel.
+fn level_of(chan: Chan, op: Op) -> Level
+    ensures { result ≡ least_level chan op }
+{
+    match (chan, op) {
+        (Chan::A, Op::PutFullData | Op::PutPartialData | Op::Get) => Level::Ul,
+        (Chan::D, Op::AccessAck | Op::AccessAckData) => Level::Ul,
+        (Chan::A, Op::ArithmeticData | Op::LogicalData | Op::Intent) => Level::Uh,
+        (Chan::D, Op::HintAck) => Level::Uh,
+        _ => Level::C,
+    }
+}
+
+/// Whether a link of the level has what needs at least the other level.
+fn has_level(least: Level, level: Level) -> bool
+    ensures { result ≡ level_le least level }
+{
+    match least {
+        Level::Ul => true,
+        Level::Uh => level != Level::Ul,
+        Level::C => level == Level::C,
+    }
+}
+
+/// The message of an opcode on a channel of a link of this level, or None where there is none. GrantAck, which has no
+/// opcode on the wire, is code 0 of channel E. [TileLink 1.8: message opcodes]
+#[tactic(auto, unfolding(crate::specs::Messages::op_at))]
+pub fn op_of(level: Level, chan: Chan, code: u8) -> Option<Op>
+    ensures { result ≡ op_at level chan code }
+{
+    let op = match (chan, code) {
+        (Chan::A | Chan::B, 0) => Op::PutFullData,
+        (Chan::A | Chan::B, 1) => Op::PutPartialData,
+        (Chan::A | Chan::B, 2) => Op::ArithmeticData,
+        (Chan::A | Chan::B, 3) => Op::LogicalData,
+        (Chan::A | Chan::B, 4) => Op::Get,
+        (Chan::A | Chan::B, 5) => Op::Intent,
+        (Chan::A, 6) => Op::AcquireBlock,
+        (Chan::A, 7) => Op::AcquirePerm,
+        (Chan::B, 6) => Op::ProbeBlock,
+        (Chan::B, 7) => Op::ProbePerm,
+        (Chan::C | Chan::D, 0) => Op::AccessAck,
+        (Chan::C | Chan::D, 1) => Op::AccessAckData,
+        (Chan::C | Chan::D, 2) => Op::HintAck,
+        (Chan::C, 4) => Op::ProbeAck,
+        (Chan::C, 5) => Op::ProbeAckData,
+        (Chan::C, 6) => Op::Release,
+        (Chan::C, 7) => Op::ReleaseData,
+        (Chan::D, 4) => Op::Grant,
+        (Chan::D, 5) => Op::GrantData,
+        (Chan::D, 6) => Op::ReleaseAck,
+        (Chan::E, 0) => Op::GrantAck,
+        _ => return None,
+    };
+    if has_level(level_of(chan, op), level) {
+        Some(op)
+    } else {
+        None
+    }
+}
+
+/// Whether a param is lawful for the message. Messages that have no param want 0. [TileLink 1.8: param fields]
+pub fn param_ok(op: Op, param: u8) -> bool
+    ensures { result ≡ is_lawful op param }
+{
+    let count = match op {
+        Op::ArithmeticData => 5,
+        Op::LogicalData => 4,
+        Op::Intent => 2,
+        Op::ProbeBlock | Op::ProbePerm | Op::Grant | Op::GrantData => 3,
+        Op::AcquireBlock | Op::AcquirePerm => 3,
+        Op::ProbeAck | Op::ProbeAckData | Op::Release | Op::ReleaseData => 6,
+        _ => 1,
+    };
+    param < count
+}
+
+/// Whether the message carries data, and so may take several beats. [TileLink 1.8: serialization]
+pub fn carries_data(op: Op) -> bool
+    ensures { result ≡ carries_data_of op }
+{
+    matches!(
+        op,
+        Op::PutFullData
+            | Op::PutPartialData
+            | Op::ArithmeticData
+            | Op::LogicalData
+            | Op::AccessAckData
+            | Op::ProbeAckData
+            | Op::ReleaseData
+            | Op::GrantData
+    )
+}
+
+/// Whether the second message is a reply to the first. [TileLink 1.8: operations and their responses]
+pub fn replies(request: Op, reply: Op) -> bool
+    ensures { result ≡ replies_to request reply }
+{
+    match request {
+        Op::PutFullData | Op::PutPartialData => reply == Op::AccessAck,
+        Op::Get | Op::ArithmeticData | Op::LogicalData => reply == Op::AccessAckData,
+        Op::Intent => reply == Op::HintAck,
+        Op::AcquireBlock => reply == Op::Grant || reply == Op::GrantData,
+        Op::AcquirePerm => reply == Op::Grant,
+        Op::Release | Op::ReleaseData => reply == Op::ReleaseAck,
+        Op::Grant | Op::GrantData => reply == Op::GrantAck,
+        Op::ProbeBlock | Op::ProbePerm => reply == Op::ProbeAck || reply == Op::ProbeAckData,
+        _ => false,
+    }
+}
+
+/// The permission that a Probe or a Grant caps its client to; None for other messages and unlawful params.
+/// [TileLink 1.8: permission transitions, Cap]
+pub fn cap_of(op: Op, param: u8) -> Option<Perm>
+    ensures { result ≡ cap_of op param }
+{
+    match (op, param) {
+        (Op::ProbeBlock | Op::ProbePerm | Op::Grant | Op::GrantData, 0) => Some(Perm::Trunk),
+        (Op::ProbeBlock | Op::ProbePerm | Op::Grant | Op::GrantData, 1) => Some(Perm::Branch),
+        (Op::ProbeBlock | Op::ProbePerm | Op::Grant | Op::GrantData, 2) => Some(Perm::Nothing),
+        _ => None,
+    }
+}
+
+/// The permission that a client says it held before an Acquire, ProbeAck or Release; None for other messages and
+/// unlawful params. [TileLink 1.8: permission transitions, Grow, Shrink and Report]
+pub fn from_of(op: Op, param: u8) -> Option<Perm>
+    ensures { result ≡ from_of op param }
+{
+    match (op, param) {
+        (Op::AcquireBlock | Op::AcquirePerm, 0 | 1) => Some(Perm::Nothing),
+        (Op::AcquireBlock | Op::AcquirePerm, 2) => Some(Perm::Branch),
+        (Op::ProbeAck | Op::ProbeAckData | Op::Release | Op::ReleaseData, 0 | 1 | 3) => Some(
+            Perm::Trunk,
+        ),
+        (Op::ProbeAck | Op::ProbeAckData | Op::Release | Op::ReleaseData, 2 | 4) => Some(
+            Perm::Branch,
+        ),
+        (Op::ProbeAck | Op::ProbeAckData | Op::Release | Op::ReleaseData, 5) => Some(Perm::Nothing),
+        _ => None,
+    }
+}
+
+/// The permission that a client wants after an Acquire, or says it holds after a ProbeAck or Release; None for other
+/// messages and unlawful params. [TileLink 1.8: permission transitions, Grow, Shrink and Report]
+pub fn to_of(op: Op, param: u8) -> Option<Perm>
+    ensures { result ≡ to_of op param }
+{
+    match (op, param) {
+        (Op::AcquireBlock | Op::AcquirePerm, 0) => Some(Perm::Branch),
+        (Op::AcquireBlock | Op::AcquirePerm, 1 | 2) => Some(Perm::Trunk),
+        (Op::ProbeAck | Op::ProbeAckData | Op::Release | Op::ReleaseData, 3) => Some(Perm::Trunk),
+        (Op::ProbeAck | Op::ProbeAckData | Op::Release | Op::ReleaseData, 0 | 4) => Some(
+            Perm::Branch,
+        ),
+        (Op::ProbeAck | Op::ProbeAckData | Op::Release | Op::ReleaseData, 1 | 2 | 5) => Some(
+            Perm::Nothing,
+        ),
+        _ => None,
+    }
+}
+
+/// The channel's place in the order of one cycle, from 0 for A to 4 for E.
+pub fn chan_index(chan: Chan) -> usize
+    ensures value { result ≡ chan_number chan }
+    ensures below { result < 5 }
+{
+    chan as usize
+}
+
+/// What a report calls the rule.
+pub fn rule_text(rule: Rule) -> &'static str
+    ensures { result.now ≡ rule_text_of rule }
+{
+    match rule {
+        Rule::F1 => "F1",
+        Rule::F2 => "F2",
+        Rule::F3 => "F3",
+        Rule::F4 => "F4",
+        Rule::F5 => "F5",
+        Rule::F6 => "F6",
+        Rule::F7 => "F7",
+        Rule::F8 => "F8",
+        Rule::F9 => "F9",
+        Rule::F10 => "F10",
+        Rule::U1 => "U1",
+        Rule::S1 => "S1",
+        Rule::S2 => "S2",
+        Rule::S3 => "S3",
+        Rule::S4 => "S4",
+        Rule::S5 => "S5",
+        Rule::S6 => "S6",
+        Rule::S7 => "S7",
+        Rule::S8 => "S8",
+        Rule::S9 => "S9",
+        Rule::P1 => "P1",
+        Rule::P2 => "P2",
+        Rule::P3 => "P3",
+        Rule::P4 => "P4",
+        Rule::P5 => "P5",
+        Rule::P6 => "P6",
+        Rule::P7 => "P7",
+        Rule::P8 => "P8",
+        Rule::M1 => "M1",
+        Rule::M2 => "M2",
+        Rule::M3 => "M3",
+        Rule::X1 => "X1",
+    }
+}

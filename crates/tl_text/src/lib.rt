@@ -1,0 +1,17 @@
+//! What all text forms of the product share: lines, words, numbers, bits and names, each accepted in its one spelling,
+//! and the traits through which bytes come in and go out.
+#![tactic(auto)]
+
+mod counted;
+mod input;
+mod names;
+mod numbers;
+mod output;
+mod words;
+
+pub use counted::{CountedReader, CountedWriter};
+pub use input::{ByteIn, ReadFailed, TextFault, read_text};
+pub use names::{bit, is_name};
+pub use numbers::{decimal, hexadecimal};
+pub use output::{ByteOut, WriteFault, write_all};
+pub use words::{line, word};

@@ -1,0 +1,69 @@
+//! Numbers, in decimal and hexadecimal.
+
+ghost use Rattle.std.specs.Prelude.{◌≡◌, ◌≤◌, ◌^◌, ◌-◌, ◌<◌, ℕ, Some, IfSome};
+ghost use Rattle.tl_text.specs.Numbers.{digit, number_at, is_led, numeral};
+
+#[tactic(auto, unfolding(crate::specs::Numbers::digit))]
+fn digit(byte: u8, base: u64) -> Option<u64>
+    requires { base ≤ 16 }
+    ensures { result ≡ digit base byte }
+{
+    let value = match byte {
+        b'0'..=b'9' => byte - b'0',
+        b'a'..=b'f' => byte - b'a' + 10,
+        _ => return None,
+    };
+    let value = u64::from(value);
+    if value < base { Some(value) } else { None }
+}
+
+/// Whether there is a digit, and no zero before others.
+fn is_led(word: &[u8]) -> bool
+    ensures { result ≡ is_led word.now }
+{
+    match word {
+        [] => false,
+        [_] => true,
+        [first, ..] => *first != b'0',
+    }
+}
+
+#[tactic(auto, unfolding(crate::specs::Numbers::number_at))]
+fn number(word: &[u8], base: u64, most: u64) -> Option<u64>
+    requires low { 2 ≤ base }
+    requires high { base ≤ 16 }
+    ensures exact { result ≡ number_at base most word.now }
+    ensures within { IfSome result (λ n. n ≤ most) }
+{
+    if !is_led(word) {
+        return None;
+    }
+    let mut value = 0u64;
+    for byte in word {
+        let digit = digit(*byte, base)?;
+        value = value.checked_mul(base)?.checked_add(digit)?;
+    }
+    if value <= most { Some(value) } else { None }
+}
+
+/// The number of at most `most` that a word spells in decimal with no leading zero; None where it spells none.
+pub fn decimal(word: &[u8], most: u64) -> Option<u64>
+    ensures exact { result ≡ number_at 10 most word.now }
+    ensures within { IfSome result (λ n. n ≤ most) }
+    // What is read is the number's spelling, and each spelling is read.
+    ensures spelled { IfSome result (λ n. word.now ≡ numeral 10 n) }
+    ensures every { (n : ℕ) → n ≤ most → word.now ≡ numeral 10 n → result ≡ Some n }
+{
+    number(word, 10, most)
+}
+
+/// The number that a word spells in hexadecimal: 1 to 16 lower-case digits, no leading zero, no prefix; None where it
+/// spells none.
+pub fn hexadecimal(word: &[u8]) -> Option<u64>
+    ensures exact { result ≡ number_at 16 (2 ^ 64 - 1) word.now }
+    // What is read is the number's spelling, and each spelling is read.
+    ensures spelled { IfSome result (λ n. word.now ≡ numeral 16 n) }
+    ensures every { (n : ℕ) → n < 2 ^ 64 → word.now ≡ numeral 16 n → result ≡ Some n }
+{
+    number(word, 16, u64::MAX)
+}

@@ -1,0 +1,43 @@
+//! Lines and words.
+
+ghost use Rattle.std.specs.Prelude.{◌≡◌, ◌==◌, ◌∷◌, ◌++◌, IfSome, option_map};
+ghost use Rattle.std.specs.List.{position};
+ghost use Rattle.tl_text.specs.Words.{before_stop, word_at, line_at, lines_of, first_line};
+
+fn place(bytes: &[u8], stop: u8) -> Option<usize>
+    ensures { result ≡ position (λ byte. byte == stop) bytes.now }
+{
+    bytes.iter().position(|byte| *byte == stop)
+}
+
+/// The bytes before the first `stop` and those after it, or None where there is no stop.
+#[tactic(auto, using(crate::proofs::Cuts::cut_place))]
+fn cut(bytes: &[u8], stop: u8) -> Option<(&[u8], &[u8])>
+    ensures { option_map (λ x. (x.0.now, x.1.now)) result ≡ before_stop stop bytes.now }
+{
+    match place(bytes, stop) {
+        Some(at) => Some((&bytes[..at], &bytes[at + 1..])),
+        None => None,
+    }
+}
+
+/// The first word of a line and what follows the one space behind it, or None where the line has no space. The word
+/// can be empty: no spelling of anything is, so two spaces, or one at either end, are found there.
+#[tactic(auto, unfolding(crate::specs::Words::word_at))]
+pub fn word(line: &[u8]) -> Option<(&[u8], &[u8])>
+    ensures exact { option_map (λ x. (x.0.now, x.1.now)) result ≡ word_at line.now }
+    ensures joins { IfSome result (λ x. line.now ≡ x.0.now ++ 32 ∷ x.1.now) }
+{
+    cut(line, b' ')
+}
+
+/// The first line of a text, without its newline (byte 10), and what follows, or None where no newline follows.
+#[tactic(auto, unfolding(crate::specs::Words::line_at))]
+pub fn line(bytes: &[u8]) -> Option<(&[u8], &[u8])>
+    ensures exact { option_map (λ x. (x.0.now, x.1.now)) result ≡ line_at bytes.now }
+    ensures joins { IfSome result (λ x. bytes.now ≡ x.0.now ++ 10 ∷ x.1.now) }
+    // The same on the text as its lines.
+    ensures lines { option_map (λ x. (x.0.now, lines_of x.1.now)) result ≡ first_line (lines_of bytes.now) }
+{
+    cut(bytes, b'\n')
+}

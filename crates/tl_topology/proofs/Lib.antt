@@ -1,0 +1,3 @@
+pub mod Inserting
+pub mod Declaring
+pub mod Lines

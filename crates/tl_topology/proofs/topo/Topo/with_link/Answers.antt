@@ -1,0 +1,13 @@
+use Rattle.std.proofs.Common.{◌≡◌, ◌∙◌, sym, rules, arith}
+use Rattle.tl_topology.proofs.Declaring.{link_declared, topology_with_link}
+use Rattle.tl_topology.proofs.topo.Topo.with_link.Goals as goal
+
+pub invariant_of-self : goal.invariant_of-self
+invariant_of-self c =
+    topology_with_link c.self.inside.managers.entries c.self.inside.links.entries c.insert.new.self.entries c.args.self c.args.link.name _ c.self.view_is
+    (sym c.is_named.ensures ∙ c.if-is_named.false) c.self.invariant (search rules) (search rules) c.in_ok-insert.ensures.entries
+
+pub returns : goal.returns
+returns c =
+    link_declared c.args.self c.self.inside.managers.entries c.self.inside.links.entries c.insert.new.self.entries c.args.link c.args.line (c.in-Some.manager, c.in-Some.exponent) c.in_ok-decl.decl c.self.view_is
+    (sym c.is_named.ensures ∙ c.if-is_named.false) (search rules) (sym c.in_ok-decl.ensures.exact) (search rules) c.in_ok-insert.ensures.entries

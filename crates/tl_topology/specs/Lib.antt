@@ -1,0 +1,4 @@
+pub mod Naming
+pub mod Faults
+pub mod Topology
+pub mod Reading

@@ -1,0 +1,28 @@
+//! Names, links, managers and the text of a topology.
+#![tactic(auto)]
+
+mod fault;
+mod name;
+mod reading;
+mod topo;
+
+pub use fault::TopoFault;
+pub use name::Name;
+pub use reading::read_topo;
+use tl_tables::Level;
+pub use topo::Topo;
+
+/// A link as its topology declares it.
+#[derive(Clone, Copy, Debug, PartialEq, Eq)]
+pub struct LinkDecl {
+    pub name: Name,
+    /// The number of its manager, from 0 in declared order.
+    pub manager: u16,
+    pub level: Level,
+    /// Bytes of data in one beat: a power of two from 1 to 64.
+    pub width: u8,
+    /// The exponent of the largest message in bytes, 0 to 15.
+    pub max_size: u8,
+    /// How many sources it has, 1 to 65,536; they are numbered from 0.
+    pub sources: u32,
+}

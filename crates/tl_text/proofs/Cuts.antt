@@ -112,7 +112,7 @@ lines_cut [] = refl
 lines_cut (b ∷ bytes) = lines_at (eqb b 10) b bytes (cut 10 bytes) (lines_cut bytes)
 
 -- there is a piece
-abbrev starts : List (List ℕ) → Type 0
+abbrev pub starts : List (List ℕ) → Type 0
 starts [] = ⊥
 starts (line ∷ lines) = Unit {0}
 
@@ -120,7 +120,7 @@ cut_starts : (c : List ℕ × Option (List ℕ)) → starts (lines_by c)
 cut_starts (line, None) = tt
 cut_starts (line, Some rest) = tt
 
-lines_start : (bytes : List ℕ) → starts (lines_of bytes)
+pub lines_start : (bytes : List ℕ) → starts (lines_of bytes)
 lines_start bytes = subst starts (sym (lines_cut bytes)) (cut_starts (cut 10 bytes))
 
 more : (line : List ℕ) (lines : List (List ℕ)) → starts lines → Some (line, lines) ≡ first_line (line ∷ lines)
@@ -157,3 +157,7 @@ behind_drop bytes rest behind =
     let whole : length bytes ≡ length behind.0 + length rest = ap (λ (l : List ℕ). length l) behind.1 ∙ length-append behind.0 rest in
     let front : length bytes - length rest ≡ length behind.0 = omega (arith, whole) in
     rw front (ap (λ (l : List ℕ). drop (length behind.0) l) behind.1 ∙ drop-append_seam behind.0 rest)
+
+pub behind_on : (bytes rest last : List ℕ) → IsBehind bytes rest → IsBehind rest last → IsBehind bytes last
+behind_on bytes rest last first second =
+    (first.0 ++ second.0, first.1 ∙ ap (λ (l : List ℕ). first.0 ++ l) second.1 ∙ sym (append_assoc first.0 second.0 last))

@@ -1,0 +1,88 @@
+-- One beat more behind those of a fragment.
+use Rattle.std.proofs.Common.{◌≡◌, ℕ, zero, suc, ◌+◌, ◌-◌, ◌<◌, ◌≤◌, Bool, true, false, cond, eqb, leb, ltb, List, [], ◌∷◌, ◌++◌, length, get_or, Option, Some, None, Result, Ok, Err, refl, sym, ap, subst, ◌∙◌, arith, inl, inr, length-append}
+use Rattle.std.specs.Prelude.{◌||◌, ◌==◌, slice_get, slice_index_or, if◌then◌else◌}
+use Rattle.std.specs.List.{All, AllAdjacentBelow}
+use Rattle.std.proofs.lemmas.Bool.{leb-false, ltb-false, or_parts, cases_lt}
+use Rattle.std.proofs.lemmas.List.Elements.{All-append}
+use Rattle.std.proofs.lemmas.Option.{slice_get-get_or}
+use Rattle.std.proofs.Math.ListN.{get_or-append}
+use Rattle.std.proofs.Math.Seq.{get_or-append_seam}
+use Rattle.tl_text.specs.Readings.{◌>>>◌, or_fault}
+use Rattle.tl_beats.specs.declared.Beat.{Beat}
+use Rattle.tl_beats.specs.declared.fault.FragmentFault.{FragmentFault}
+use Rattle.tl_beats.specs.declared.fault.FragmentFault.TheVariants as fault
+use Rattle.tl_beats.specs.Beats.{IsWellFormed, rises}
+use Rattle.tl_beats.specs.Fragments.{AreBeats}
+use Rattle.tl_beats.specs.Reading.{beat_at, rises_behind, next_at}
+
+-- what a beat has that is read behind others
+record IsNext (first last : ℕ) (before : List Beat) (beat : Beat) : Type 0 where
+  pub room : length before < 65536
+  pub low : first ≤ beat.cycle
+  pub high : beat.cycle ≤ last
+  pub rises_here : rises_behind (slice_get before (length before - 1)) beat ≡ true
+
+passed : (t u v : Bool) (b beat : Beat) (x y z : FragmentFault) → ◌≡◌ {A = Result Beat FragmentFault} (cond t (Err x) (cond u (Err y) (cond v (Ok b) (Err z)))) (Ok beat) → (t ≡ false) × (u ≡ false) × (v ≡ true) × (b ≡ beat)
+passed true u v b beat x y z e = absurd cc
+passed false true v b beat x y z e = absurd cc
+passed false false true b beat x y z e = (refl, refl, refl, cc)
+passed false false false b beat x y z e = absurd cc
+
+tested : (first last : ℕ) (before : List Beat) (b beat : Beat) (x y z : FragmentFault)
+    → ◌≡◌ {A = Result Beat FragmentFault} (cond (leb 65536 (length before)) (Err x) (cond (ltb b.cycle first || ltb last b.cycle) (Err y) (cond (rises_behind (slice_get before (length before - 1)) b) (Ok b) (Err z)))) (Ok beat) → IsNext first last before beat
+tested first last before b beat x y z e =
+    let p = passed _ _ _ b beat x y z e in
+    let range = or_parts (ltb b.cycle first) (ltb last b.cycle) p.1 in
+    subst (IsNext first last before) p.3 (record {
+      room = leb-false 65536 (length before) p.0;
+      low = ltb-false b.cycle first range.0;
+      high = ltb-false last b.cycle range.1;
+      rises_here = p.2;
+    })
+
+by_beat : (first last n : ℕ) (before : List Beat) (found : Option Beat) (beat : Beat)
+    → (or_fault found (fault.BadField n) >>> λ b. cond (leb 65536 (length before)) (Err fault.TooManyBeats) (cond (ltb b.cycle first || ltb last b.cycle) (Err (fault.OutOfRange n)) (cond (rises_behind (slice_get before (length before - 1)) b) (Ok b) (Err (fault.NotRising n))))) ≡ Ok beat
+    → IsNext first last before beat
+by_beat first last n before None beat e = absurd cc
+by_beat first last n before (Some b) beat e = tested first last before b beat _ _ _ e
+
+next_is : (first last n : ℕ) (before : List Beat) (line : List ℕ) (beat : Beat) → next_at first last n before line ≡ Ok beat → IsNext first last before beat
+unfolding next_at
+next_is first last n before line beat e = by_beat first last n before (beat_at line) beat e
+
+all_one : (P : Beat → Type 0) (beat : Beat) → P beat → All P (beat ∷ [])
+all_one P beat p zero d lt = p
+all_one P beat p (suc k) d lt = absurd (omega arith)
+
+last_rises : (before : List Beat) (beat d : Beat) (k : ℕ) → k + 1 ≡ length before → rises_behind (slice_get before (length before - 1)) beat ≡ true → rises (get_or before k d) beat ≡ true
+last_rises before beat d k is h =
+    let at : length before - 1 ≡ k = omega (arith, is) in
+    let one : slice_get before k ≡ Some (get_or before k d) = slice_get-get_or before k d (omega (arith, is)) in
+    subst (λ (o : Option Beat). rises_behind o beat ≡ true) one (subst (λ (n : ℕ). rises_behind (slice_get before n) beat ≡ true) at h)
+
+rising_more : (before : List Beat) (beat : Beat) → AllAdjacentBelow (λ a b. rises a b ≡ true) before (length before) → rises_behind (slice_get before (length before - 1)) beat ≡ true
+    → AllAdjacentBelow (λ a b. rises a b ≡ true) (before ++ beat ∷ []) (length (before ++ beat ∷ []))
+rising_more before beat rising h k d lt =
+    let len : length (before ++ beat ∷ []) ≡ length before + 1 = length-append before (beat ∷ []) in
+    let left : get_or (before ++ beat ∷ []) k d ≡ get_or before k d = get_or-append before (beat ∷ []) d k (omega (arith, len, lt)) in
+    elim (cases_lt (k + 1) (length before)) [
+      | inl below ↦ rw (left, get_or-append before (beat ∷ []) d (k + 1) below) (rising k d below)
+      | inr above ↦
+          let is : k + 1 ≡ length before = omega (arith, len, lt, above) in
+          let right : get_or (before ++ beat ∷ []) (k + 1) d ≡ beat = rw is (get_or-append_seam before beat [] d) in
+          rw (left, right) (last_rises before beat d k is h)
+    ]
+
+pub grown : (first last n : ℕ) (before : List Beat) (line : List ℕ) (beat : Beat) → AreBeats first last before → next_at first last n before line ≡ Ok beat → IsWellFormed beat → AreBeats first last (before ++ beat ∷ [])
+grown first last n before line beat kept read formed =
+    let next = next_is first last n before line beat read in
+    let len : length (before ++ beat ∷ []) ≡ length before + 1 = length-append before (beat ∷ []) in
+    record {
+      few = omega (arith, len, next.room);
+      formed = All-append IsWellFormed before (beat ∷ []) kept.formed (all_one IsWellFormed beat formed);
+      within = All-append (λ (b : Beat). (first ≤ b.cycle) × (b.cycle ≤ last)) before (beat ∷ []) kept.within (all_one (λ (b : Beat). (first ≤ b.cycle) × (b.cycle ≤ last)) beat (next.low, next.high));
+      rising = rising_more before beat kept.rising next.rises_here;
+    }
+
+pub room_for : (first last n : ℕ) (before : List Beat) (line : List ℕ) (beat : Beat) → next_at first last n before line ≡ Ok beat → length before < 65536
+room_for first last n before line beat read = (next_is first last n before line beat read).room

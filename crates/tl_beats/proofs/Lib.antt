@@ -1,0 +1,3 @@
+pub mod Growing
+pub mod Lines
+pub mod Whole

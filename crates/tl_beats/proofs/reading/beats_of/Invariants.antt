@@ -1,0 +1,16 @@
+use Rattle.std.proofs.Common.{◌≡◌, ◌+◌, [], length}
+use Rattle.tl_text.specs.Words.{lines_of, IsBehind}
+use Rattle.tl_beats.specs.Fragments.{AreBeats}
+use Rattle.tl_beats.specs.Reading.{beats_from}
+use Rattle.tl_beats.proofs.reading.beats_of.Given as goal
+
+abbrev pub invariant-loop-next : goal.invariant-loop-next
+invariant-loop-next l = record {
+  read : beats_from l.first l.last l.number l.beats.items (lines_of l.rest) ≡ beats_from l.first l.last 2 [] (lines_of l.bytes);
+  counted : l.number ≡ length l.beats.items + 2;
+  kept : AreBeats l.first l.last l.beats.items;
+  behind : IsBehind l.bytes l.rest;
+}
+
+abbrev pub decreases-loop-next : goal.decreases-loop-next
+decreases-loop-next l = length l.rest

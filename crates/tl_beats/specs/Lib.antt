@@ -1,0 +1,4 @@
+pub mod Beats
+pub mod Faults
+pub mod Fragments
+pub mod Reading

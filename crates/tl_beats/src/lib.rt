@@ -8,8 +8,8 @@ mod reading;
 
 pub use fault::FragmentFault;
 pub use fragment::Fragment;
-pub use reading::{parse_fragment, read_fragment};
-use tl_tables::{Chan, Rule};
+pub use reading::{parse_fragment, parse_whole_fragment, read_fragment};
+use tl_tables::{Chan, Op, Rule};
 pub use tl_text::{ByteIn, ByteOut};
 
 /// One accepted beat, as it was recorded at the client's port. A field that its channel lacks is 0.
@@ -36,6 +36,28 @@ pub struct Beat {
     pub denied: bool,
     /// On A to D.
     pub corrupt: bool,
+}
+
+/// A beat of a link, and where it is written.
+#[derive(Clone, Copy, Debug, PartialEq, Eq)]
+pub struct Placed {
+    /// The number of the link.
+    pub link: u16,
+    /// The number of the fragment.
+    pub fragment: u32,
+    /// The line in the fragment's text; the header is line 1.
+    pub line: u32,
+    pub beat: Beat,
+}
+
+/// What a reply is compared with: the fields of the request that it answers.
+#[derive(Clone, Copy, Debug, PartialEq, Eq)]
+pub struct Request {
+    pub op: Op,
+    pub param: u8,
+    pub size: u8,
+    pub source: u16,
+    pub address: u64,
 }
 
 /// A rule that a beat breaks. Rows stand in the order of link, cycle, channel, rule and monitor.

@@ -1,6 +1,6 @@
 //! The text of a whole fragment.
 
-ghost use Rattle.std.specs.Prelude.{◌≡◌, ◌+◌, ◌<◌, ◌≤◌, ◌^◌, [], drop, length, option_map, IfErr, IfOk, IfSome, OnOk};
+ghost use Rattle.std.specs.Prelude.{◌≡◌, ◌↔◌, ◌+◌, ◌<◌, ◌≤◌, ◌^◌, [], drop, length, option_map, IfErr, IfOk, IfSome, OnOk};
 ghost use Rattle.std.specs.Result.{IsErrOf};
 ghost use Rattle.tl_text.specs.Words.{lines_of, IsBehind};
 ghost use Rattle.tl_text.specs.Readings.{Gives};
@@ -180,6 +180,19 @@ fn whole_fragment(alloc: Global, bytes: &[u8]) -> Result<Fragment, FragmentFault
     } else {
         Err(FragmentFault::BadField(fragment.beats().len() as u32 + 3))
     }
+}
+
+/// The fragment whose text is all the bytes. TooLong where they are more than 8,388,608, before anything is parsed; bytes
+/// behind the last line are BadField of the next line.
+pub fn parse_whole_fragment(alloc: Global, bytes: &[u8]) -> Result<Fragment, FragmentFault>
+    ensures exact { length bytes.now ≤ 8388608 → Gives is_memory (λ f. f) result (whole_fragment_in (lines_of bytes.now)) }
+    ensures too_long { IsErrOf result FragmentFault.TooLong ↔ (8388608 < length bytes.now) }
+    ensures inside { length bytes.now ≤ 8388608 → IfErr result (λ e. is_outside e ≡ is_memory e) }
+{
+    if bytes.len() as u64 > MOST_BYTES {
+        return Err(FragmentFault::TooLong);
+    }
+    whole_fragment(alloc, bytes)
 }
 
 /// Reads the input to its end, in at most 8,388,610 reads, as the text of one fragment. TooLong where it has more than

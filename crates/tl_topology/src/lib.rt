@@ -26,3 +26,27 @@ pub struct LinkDecl {
     /// How many sources it has, 1 to 65,536; they are numbered from 0.
     pub sources: u32,
 }
+
+/// The kinds of access that a region permits.
+#[derive(Clone, Copy, Debug, PartialEq, Eq)]
+pub struct Permits {
+    /// Get.
+    pub get: bool,
+    /// PutFullData and PutPartialData.
+    pub put: bool,
+    /// ArithmeticData and LogicalData.
+    pub atomic: bool,
+    /// Intent.
+    pub hint: bool,
+    /// AcquireBlock and AcquirePerm.
+    pub cache: bool,
+}
+
+/// The bytes of a manager from a first to a last address, with the kinds of access that they permit.
+#[derive(Clone, Copy, Debug, PartialEq, Eq)]
+pub struct Region {
+    pub first: u64,
+    /// The last address of the region, not below the first.
+    pub last: u64,
+    pub permits: Permits,
+}

@@ -1,12 +1,13 @@
 //! Names of links and managers.
 
-ghost use Rattle.std.specs.Prelude.{◌≡◌};
+ghost use Rattle.std.specs.Prelude.{◌≡◌, Some};
 ghost use Rattle.std.specs.Cmp.Rules.{comparing, hashing};
 ghost use Rattle.std.proofs.Common.{rules};
 ghost use Rattle.std.specs.Hash as fed;
 ghost use lib.Pointwise.{pointwise};
 ghost use Rattle.std.specs.Prelude.{nat_eq};
 
+use std::fmt;
 use std::hash::{Hash, Hasher};
 use std::marker::Model;
 use tl_text::is_name;
@@ -58,6 +59,21 @@ impl Name {
         ensures { result.now ≡ self.now }
     {
         &self.bytes[..self.len as usize]
+    }
+
+    /// Its text.
+    pub fn as_str(&self) -> &str
+        ensures { result.now ≡ self.now }
+    {
+        str::from_utf8(&self.bytes[..self.len as usize]).unwrap()
+    }
+}
+
+impl fmt::Display for Name {
+    ghost output = { λ name. Some name };
+
+    fn fmt<W: fmt::Write>(&self, f: &mut fmt::Formatter<W>) -> fmt::Result {
+        f.write_str(self.as_str())
     }
 }
 

@@ -1,0 +1,10 @@
+pub mod Lists
+pub mod RowLaws
+pub mod HeadLaws
+pub mod TableLaws
+pub mod CoherenceLaws
+pub mod BoundLaws
+pub mod SanityLaws
+pub mod JudgingLaws
+pub mod ReportLaws
+pub mod PositionLaws

@@ -1,0 +1,5 @@
+use Rattle.tl_definitions.proofs.ReportLaws.{sorted_rows_are_the_report}
+use Rattle.tl_definitions.proofs.report.sorted_rows_are_the_report.Goals as goal
+
+pub returns : goal.returns
+returns c = sorted_rows_are_the_report

@@ -1,0 +1,14 @@
+pub mod Kinds
+pub mod OpenTables
+pub mod Heads
+pub mod Messages
+pub mod Past
+pub mod Rules
+pub mod Breaks
+pub mod Positions
+pub mod Report
+pub mod Written
+pub mod Rows
+pub mod Laws
+pub mod Coherence
+pub mod Judging

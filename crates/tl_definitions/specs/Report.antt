@@ -1,0 +1,134 @@
+-- The report: the rows of all broken rules, each once and in order.
+use Rattle.std.specs.Prelude.{ℕ, ◌≡◌, ◌↔◌, Bool, true, List, [], ◌∷◌, ◌++◌, filter}
+use Rattle.std.specs.declared.cmp.Ordering.{Ordering}
+use Rattle.std.specs.declared.cmp.Ordering.TheVariants.{Equal}
+use Rattle.std.specs.Ordering.{nat_cmp, on, then_cmp, match_ordering}
+use Rattle.std.specs.Option.{option_cmp}
+use Rattle.std.specs.List.{Contains}
+use Rattle.std.specs.List.Sorted.{IsStrictlySortedBy}
+use Rattle.tl_tables.specs.declared.Rule.{Rule}
+use Rattle.tl_tables.specs.declared.Rule.TheVariants as rule
+use Rattle.tl_tables.specs.Messages.{chan_number}
+use Rattle.tl_beats.specs.declared.Placed.{Placed}
+use Rattle.tl_beats.specs.declared.Row.{Row}
+use Rattle.tl_definitions.specs.Positions.{position_order}
+use Rattle.tl_definitions.specs.Rules.{Manager}
+use Rattle.tl_definitions.specs.Breaks.{Breaks, rows_in}
+
+-- The place of a rule among the rules, from 1.
+abbrev pub rule_number : Rule → ℕ
+rule_number rule.F1 = 1
+rule_number rule.F2 = 2
+rule_number rule.F3 = 3
+rule_number rule.F4 = 4
+rule_number rule.F5 = 5
+rule_number rule.F6 = 6
+rule_number rule.F7 = 7
+rule_number rule.F8 = 8
+rule_number rule.F9 = 9
+rule_number rule.F10 = 10
+rule_number rule.U1 = 11
+rule_number rule.S1 = 12
+rule_number rule.S2 = 13
+rule_number rule.S3 = 14
+rule_number rule.S4 = 15
+rule_number rule.S5 = 16
+rule_number rule.S6 = 17
+rule_number rule.S7 = 18
+rule_number rule.S8 = 19
+rule_number rule.S9 = 20
+rule_number rule.P1 = 21
+rule_number rule.P2 = 22
+rule_number rule.P3 = 23
+rule_number rule.P4 = 24
+rule_number rule.P5 = 25
+rule_number rule.P6 = 26
+rule_number rule.P7 = 27
+rule_number rule.P8 = 28
+rule_number rule.M1 = 29
+rule_number rule.M2 = 30
+rule_number rule.M3 = 31
+rule_number rule.X1 = 32
+
+-- By link number, cycle, channel, rule and monitor, a row of a manager's rule before those of monitors.
+abbrev pub key_order : Row → Row → Ordering
+key_order =
+    then_cmp (on (λ row. row.link) nat_cmp) (then_cmp (on (λ row. row.cycle) nat_cmp) (then_cmp (on (λ row. chan_number row.chan) nat_cmp)
+    (then_cmp (on (λ row. rule_number row.rule) nat_cmp) (on (λ row. row.monitor) (option_cmp nat_cmp)))))
+
+-- The same, then by where the beat is written, so that only equal rows tie.
+abbrev pub row_order : Row → Row → Ordering
+row_order =
+    then_cmp (on (λ row. row.link) nat_cmp) (then_cmp (on (λ row. row.cycle) nat_cmp) (then_cmp (on (λ row. chan_number row.chan) nat_cmp)
+    (then_cmp (on (λ row. rule_number row.rule) nat_cmp) (then_cmp (on (λ row. row.monitor) (option_cmp nat_cmp))
+    (then_cmp (on (λ row. row.fragment) nat_cmp) (on (λ row. row.line) nat_cmp))))))
+
+-- A manager with its beats, in the order of positions.
+pub record Capture : Type 0 where
+  pub manager : Manager
+  pub beats : List Placed
+
+-- The row is of a beat of one of the captures, and of a rule that this beat breaks.
+abbrev pub BreaksIn : List Capture → Row → Type 0
+BreaksIn captures row = (capture : Capture) × Contains captures capture × Breaks capture.manager capture.beats row
+
+-- The rows rise strictly by their keys, and a row is among them if and only if its beat breaks its rule.
+pub record IsReport (captures : List Capture) (rows : List Row) : Type 0 where
+  pub rises : IsStrictlySortedBy key_order rows
+  pub members : (row : Row) → Contains rows row ↔ BreaksIn captures row
+
+-- The same of some rules alone, as a checker of these reports them.
+pub record IsReportOf (kept : Rule → Bool) (captures : List Capture) (rows : List Row) : Type 0 where
+  pub rises : IsStrictlySortedBy key_order rows
+  pub members : (row : Row) → Contains rows row ↔ ((kept row.rule ≡ true) × BreaksIn captures row)
+
+-- All rows of the captures, one capture after the other.
+abbrev pub all_rows : List Capture → List Row
+all_rows [] = []
+all_rows (capture ∷ captures) = rows_in capture.manager capture.beats ++ all_rows captures
+
+abbrev pub insert_row : Row → List Row → List Row
+insert_row row [] = row ∷ []
+insert_row row (r ∷ rows) = match_ordering (row_order row r) (row ∷ r ∷ rows) (r ∷ rows) (r ∷ insert_row row rows)
+
+abbrev pub sorted_rows : List Row → List Row
+sorted_rows [] = []
+sorted_rows (row ∷ rows) = insert_row row (sorted_rows rows)
+
+-- The report, computed.
+abbrev pub report_of : List Capture → List Row
+report_of captures = sorted_rows (all_rows captures)
+
+-- A row is among them if and only if its beat breaks its rule.
+abbrev pub RowsAreBreaks : Type 0
+RowsAreBreaks = (m : Manager) (beats : List Placed) (row : Row) → Contains (rows_in m beats) row ↔ Breaks m beats row
+
+-- There is at most one report.
+abbrev pub OneReport : Type 0
+OneReport = (captures : List Capture) (one two : List Row) → IsReport captures one → IsReport captures two → one ≡ two
+
+-- Beats of one link, cycle and channel are written at one place.
+abbrev pub HasOnePlace : List Capture → Type 0
+HasOnePlace captures = (here there : Capture) (p q : Placed) → Contains captures here → Contains captures there → Contains here.beats p → Contains there.beats q
+    → position_order p q ≡ Equal → (p.fragment ≡ q.fragment) × (p.line ≡ q.line)
+
+-- Rows in strict order that are those of the captures are the report, where beats have one place.
+abbrev pub SortedRowsAreTheReport : Type 0
+SortedRowsAreTheReport = (captures : List Capture) (rows : List Row) → HasOnePlace captures → IsStrictlySortedBy row_order rows
+    → ((row : Row) → Contains rows row ↔ Contains (all_rows captures) row) → IsReport captures rows
+
+-- The same of some rules alone.
+abbrev pub SortedRowsAreTheirReport : Type 0
+SortedRowsAreTheirReport = (kept : Rule → Bool) (captures : List Capture) (rows : List Row) → HasOnePlace captures → IsStrictlySortedBy row_order rows
+    → ((row : Row) → Contains rows row ↔ Contains (filter (λ r. kept r.rule) (all_rows captures)) row) → IsReportOf kept captures rows
+
+-- There is at most one report of some rules, and it is the part of the report that has them.
+abbrev pub OneReportOf : Type 0
+OneReportOf = (kept : Rule → Bool) (captures : List Capture) (one two : List Row) → IsReportOf kept captures one → IsReportOf kept captures two → one ≡ two
+
+abbrev pub PartsOfReports : Type 0
+PartsOfReports = (kept : Rule → Bool) (captures : List Capture) (rows : List Row) → IsReport captures rows → IsReportOf kept captures (filter (λ r. kept r.rule) rows)
+
+-- So there is one, and it can be computed.
+abbrev pub ReportsAreComputed : Type 0
+ReportsAreComputed = (captures : List Capture) → HasOnePlace captures → IsReport captures (report_of captures)

@@ -1,0 +1,89 @@
+-- Captures written out, and lines of reports, as a reader would write them.
+use Rattle.std.specs.Prelude.{ℕ, ◌+◌, Bool, true, false, List, [], ◌∷◌, ◌++◌, map, zero, suc}
+use Rattle.tl_tables.specs.declared.Chan.TheVariants as chan
+use Rattle.tl_tables.specs.declared.Level.TheVariants as level
+use Rattle.tl_tables.specs.declared.Rule.{Rule}
+use Rattle.tl_topology.specs.declared.LinkDecl.{LinkDecl}
+use Rattle.tl_topology.specs.declared.Region.{Region}
+use Rattle.tl_beats.specs.declared.Beat.{Beat}
+use Rattle.tl_beats.specs.declared.Placed.{Placed}
+use Rattle.tl_beats.specs.declared.Row.{Row}
+use Rattle.tl_definitions.specs.Positions.{placed_from, in_order, links_of, clients_of}
+use Rattle.tl_definitions.specs.Rules.{Manager}
+use Rattle.tl_definitions.specs.Report.{Capture, report_of}
+
+-- Beats in the words of a fragment's text, without the bit corrupt, which is low; a field that a channel lacks is 0.
+abbrev pub a : ℕ → ℕ → ℕ → ℕ → ℕ → ℕ → ℕ → Beat
+a cycle opcode param size source address mask =
+    record { cycle = cycle; chan = chan.A; opcode = opcode; param = param; size = size; source = source; sink = 0; address = address; mask = mask; denied = false; corrupt = false }
+
+abbrev pub b : ℕ → ℕ → ℕ → ℕ → ℕ → ℕ → ℕ → Beat
+b cycle opcode param size source address mask =
+    record { cycle = cycle; chan = chan.B; opcode = opcode; param = param; size = size; source = source; sink = 0; address = address; mask = mask; denied = false; corrupt = false }
+
+abbrev pub c : ℕ → ℕ → ℕ → ℕ → ℕ → ℕ → Beat
+c cycle opcode param size source address =
+    record { cycle = cycle; chan = chan.C; opcode = opcode; param = param; size = size; source = source; sink = 0; address = address; mask = 0; denied = false; corrupt = false }
+
+abbrev pub d : ℕ → ℕ → ℕ → ℕ → ℕ → ℕ → Bool → Beat
+d cycle opcode param size source sink denied =
+    record { cycle = cycle; chan = chan.D; opcode = opcode; param = param; size = size; source = source; sink = sink; address = 0; mask = 0; denied = denied; corrupt = false }
+
+abbrev pub e : ℕ → ℕ → Beat
+e cycle sink =
+    record { cycle = cycle; chan = chan.E; opcode = 0; param = 0; size = 0; source = 0; sink = sink; address = 0; mask = 0; denied = false; corrupt = false }
+
+abbrev pub corrupt : Beat → Beat
+corrupt beat = record beat { corrupt = true }
+
+-- A burst of n beats from a cycle on.
+abbrev pub burst : ℕ → ℕ → (ℕ → Beat) → List Beat
+burst zero cycle beat = []
+burst (suc n) cycle beat = beat cycle ∷ burst n (cycle + 1) beat
+
+abbrev pub fragment : ℕ → ℕ → List Beat → List Placed
+fragment link number beats = placed_from link number 2 beats
+
+-- One manager of 64-byte blocks without regions, with two links of level TL-C, numbers 0 and 1, and one of TL-UL, number 2.
+abbrev pub cached : LinkDecl
+cached = record { name = []; manager = 0; level = level.C; width = 8; max_size = 6; sources = 4 }
+
+abbrev pub uncached : LinkDecl
+uncached = record { name = []; manager = 0; level = level.Ul; width = 8; max_size = 3; sources = 2 }
+
+abbrev pub decls : List LinkDecl
+decls = cached ∷ cached ∷ uncached ∷ []
+
+abbrev pub with_regions : List Region → Manager
+with_regions regions = record { links = links_of decls; clients = clients_of 0 decls; exponent = 6; regions = regions }
+
+-- From 0 to 1fff for get, from 8000 to 8fff for put.
+abbrev pub gets : Region
+gets = record { first = 0; last = 8191; permits = record { get = true; put = false; atomic = false; hint = false; cache = false } }
+
+abbrev pub puts : Region
+puts = record { first = 32768; last = 36863; permits = record { get = false; put = true; atomic = false; hint = false; cache = false } }
+
+-- A line of a report: link, fragment, line of the fragment's text, rule.
+pub record Line : Type 0 where
+  pub link : ℕ
+  pub fragment : ℕ
+  pub line : ℕ
+  pub rule : Rule
+
+abbrev pub row : ℕ → ℕ → ℕ → Rule → Line
+row link number line broken = record { link = link; fragment = number; line = line; rule = broken }
+
+abbrev pub line_of : Row → Line
+line_of r = row r.link r.fragment r.line r.rule
+
+-- What the report of these beats says, with these regions.
+abbrev pub found_with : List Region → List Placed → List Line
+found_with regions beats = map line_of (report_of (record { manager = with_regions regions; beats = in_order beats } ∷ []))
+
+abbrev pub found : List Placed → List Line
+found beats = found_with [] beats
+
+-- An Acquire to T of the block 1000, its Grant of eight beats, and its GrantAck.
+abbrev pub owned : List Beat
+owned = a 10 6 1 6 0 4096 255 ∷ burst 8 20 (λ cycle. d cycle 5 0 6 0 1 false) ++ e 30 1 ∷ []

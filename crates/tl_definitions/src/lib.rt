@@ -1,0 +1,19 @@
+//! What the product means by each rule, said once: over whole lists of beats, the newest first. The definitions stand in
+//! `specs/`; the functions here run nothing, and carry the laws about the definitions as their contracts.
+#![tactic(auto)]
+
+pub mod coherence;
+pub mod judging;
+pub mod laws;
+pub mod positions;
+pub mod report;
+pub mod rows;
+
+use tl_beats::Beat;
+
+/// A burst with beats still to come: its head, and how many are missing.
+#[derive(Clone, Copy, Debug, PartialEq, Eq)]
+pub struct Unfinished {
+    pub head: Beat,
+    pub missing: u16,
+}

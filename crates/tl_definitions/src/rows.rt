@@ -1,0 +1,45 @@
+//! What is found in captures that are written out.
+
+ghost use Rattle.tl_definitions.specs.Rows.{FormatRows, RegionRows, BurstRows, FlowRows, BoundRows, ConcurrencyRows, ManagerRows};
+
+/// Opcodes, params, addresses, sizes, lanes and sources of heads.
+#[tactic(auto, using(crate::proofs::RowLaws::format_rows))]
+pub fn format_rows()
+    ensures { FormatRows }
+{}
+
+/// Accesses within and beside the regions of a manager.
+#[tactic(auto, using(crate::proofs::RowLaws::region_rows))]
+pub fn region_rows()
+    ensures { RegionRows }
+{}
+
+/// Later beats that differ from their heads, and ones that do not.
+#[tactic(auto, using(crate::proofs::RowLaws::burst_rows))]
+pub fn burst_rows()
+    ensures { BurstRows }
+{}
+
+/// Requests and replies, Releases and ReleaseAcks, Grants and GrantAcks.
+#[tactic(auto, using(crate::proofs::RowLaws::flow_rows))]
+pub fn flow_rows()
+    ensures { FlowRows }
+{}
+
+/// Claims and what clients can hold.
+#[tactic(auto, using(crate::proofs::RowLaws::bound_rows))]
+pub fn bound_rows()
+    ensures { BoundRows }
+{}
+
+/// Probes, Acquires and Releases of one client on one block.
+#[tactic(auto, using(crate::proofs::RowLaws::concurrency_rows))]
+pub fn concurrency_rows()
+    ensures { ConcurrencyRows }
+{}
+
+/// Grants and Probes of several clients on one block.
+#[tactic(auto, using(crate::proofs::RowLaws::manager_rows))]
+pub fn manager_rows()
+    ensures { ManagerRows }
+{}

@@ -1,6 +1,6 @@
 //! Links and managers by name, in declared order.
 
-ghost use Rattle.std.specs.Prelude.{◌≡◌, ◌≤◌, [], IsSome, IfSome, IfOk, option_map, slice_get, length};
+ghost use Rattle.std.specs.Prelude.{◌≡◌, ◌↔◌, ◌<◌, ◌≤◌, [], IsSome, IfSome, IfOk, option_map, slice_get, length};
 ghost use Rattle.std.specs.Option.{option_copied};
 ghost use Rattle.tl_text.specs.Readings.{Gives};
 ghost use Rattle.tl_topology.specs.Faults.{is_memory};
@@ -118,14 +118,16 @@ impl Topo {
 
     /// The number of a link, or None where no link has the name.
     pub fn link_of(&self, name: &Name) -> Option<u16>
-        ensures { result ≡ number_of_name self.now.links name.now }
+        ensures exact { result ≡ number_of_name self.now.links name.now }
+        ensures within { IfSome result (λ number. number < length self.now.links) }
     {
         self.links.get_index_of(name).map(|number| number as u16)
     }
 
     /// The number of a manager, or None where no manager has the name.
     pub fn manager_of(&self, name: &Name) -> Option<u16>
-        ensures { result ≡ number_of_name self.now.managers name.now }
+        ensures exact { result ≡ number_of_name self.now.managers name.now }
+        ensures within { IfSome result (λ number. number < length self.now.managers) }
     {
         self.managers.get_index_of(name).map(|number| number as u16)
     }
@@ -133,6 +135,7 @@ impl Topo {
     /// The link of a number, or None past the last.
     pub fn link(&self, number: u16) -> Option<&LinkDecl>
         ensures exact { option_copied result ≡ option_map (λ p. p.1) (slice_get self.now.links number) }
+        ensures found { IsSome result ↔ (number < length self.now.links) }
         ensures sound { IfSome result (λ link. IsSound link.now) }
     {
         self.links.get_index(number as usize).map(|(_, link)| link)

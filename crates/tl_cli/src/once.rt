@@ -1,0 +1,131 @@
+//! The report of one fragment.
+
+ghost use Rattle.std.specs.Prelude.{◌≡◌, ◌<◌, ◌≤◌, ◌+◌, ◌^◌, ◌++◌, ◌↔◌, ℕ, None, IfOk, IfErr, OnOk, length, map, take};
+ghost use Rattle.std.specs.Result.{IsErrOf};
+ghost use Rattle.std.specs.Io.KnownBytes.{Appends};
+ghost use Rattle.std.specs.List.{All};
+ghost use Rattle.tl_topology.specs.Topology.{IsSound, number_of_name};
+ghost use Rattle.tl_beats.specs.Beats.{IsWellFormed};
+ghost use Rattle.tl_definitions.specs.Breaks.{row_of};
+ghost use Rattle.tl_cli.specs.Once.{head_rows, rows_once, text_once, CanFail};
+ghost use Rattle.tl_cli.specs.declared.once.OnceFault.TheVariants.{Memory, WriteFault as Unwritten};
+
+use crate::report::{Report, report_text};
+use std::alloc::{AllocError, Global};
+use thiserror::Error;
+use tl_beats::{Beat, ByteOut, Fragment, Placed, Row};
+use tl_format_rules::check_head;
+use tl_tables::Rule;
+use tl_text::{WriteFault, write_all};
+use tl_topology::{LinkDecl, Topo};
+
+const UNKNOWN_LINK: u8 = 21;
+
+/// Why a fragment has no report.
+#[derive(Clone, Copy, Debug, Drop, Error, PartialEq, Eq)]
+pub enum OnceFault {
+    /// The fragment is refused, with the number of the refusal.
+    #[error("refused with {code}")]
+    Refused { code: u8, number: Option<u64> },
+    /// A growth was refused; nothing was written.
+    #[error("out of memory")]
+    Memory,
+    /// A write failed; a front of the report was written.
+    #[error("a write failed")]
+    WriteFault,
+}
+
+impl From<AllocError> for OnceFault {
+    ghost from_gives = { λ _ e. e ≡ Memory };
+
+    fn from(_error: AllocError) -> OnceFault {
+        OnceFault::Memory
+    }
+}
+
+impl From<WriteFault> for OnceFault {
+    ghost from_gives = { λ _ e. e ≡ Unwritten };
+
+    fn from(_error: WriteFault) -> OnceFault {
+        OnceFault::WriteFault
+    }
+}
+
+/// Puts the rows of one beat at the end.
+fn add_rows(rows: &mut Vec<Row>, at: &Placed, rules: &[Rule]) -> Result<(), AllocError>
+    ensures { OnOk result (rows.new.items ≡ rows.old.items ++ map (row_of at.now) rules.now) }
+{
+    for rule in rules {
+        rows.push(Row {
+            link: at.link,
+            cycle: at.beat.cycle,
+            chan: at.beat.chan,
+            rule: *rule,
+            monitor: None,
+            fragment: at.fragment,
+            line: at.line,
+        })?;
+    }
+    Ok(())
+}
+
+/// The rows of beats, each read as a head.
+fn rows_of(
+    alloc: Global,
+    link: u16,
+    decl: &LinkDecl,
+    fragment: u32,
+    beats: &[Beat],
+) -> Result<Vec<Row>, AllocError>
+    requires decl { IsSound decl.now }
+    requires beats { All IsWellFormed beats.now }
+    requires few { length beats.now ≤ 65536 }
+    ensures { IfOk result (λ rows. rows.items ≡ head_rows decl.now link fragment 2 beats.now) }
+{
+    let mut rows = Vec::new(alloc);
+    for (index, beat) in beats.iter().enumerate() {
+        let at = Placed {
+            link,
+            fragment,
+            line: index as u32 + 2,
+            beat: *beat,
+        };
+        add_rows(&mut rows, &at, check_head(alloc, decl, beat).as_slice())?;
+    }
+    Ok(rows)
+}
+
+/// Writes the report of a topology with this fragment alone, version 1 after edit 1, and answers the number of its rows:
+/// those of F1 to F6, each beat read as a head. Refused with 21 where the topology has no such link.
+pub fn run_once<O: ByteOut>(
+    alloc: Global,
+    topo: &Topo,
+    fragment: Fragment,
+    out: &mut O,
+) -> Result<u64, OnceFault>
+    requires { O.failure_count out.old < 2 ^ 63 }
+    ensures count { IfOk result (λ count. count ≡ length (rows_once topo.now fragment)) }
+    ensures written { OnOk result (Appends (O.contents out.old) (O.contents out.new) (text_once topo.now fragment)) }
+    ensures quiet { OnOk result (O.failure_count out.new ≡ O.failure_count out.old) }
+
+    // A refusal and want of memory write nothing, and a write that fails leaves a front of the text.
+    ensures unknown { IsErrOf result (OnceFault.Refused 21 None) ↔ (number_of_name topo.now.links fragment.link ≡ None) }
+    ensures only { IfErr result CanFail }
+    ensures refused { IsErrOf result (OnceFault.Refused 21 None) → out.new ≡ out.old }
+    ensures memory { IsErrOf result OnceFault.Memory → out.new ≡ out.old }
+    ensures failed { IsErrOf result OnceFault.WriteFault → (O.failure_count out.new ≡ O.failure_count out.old + 1)
+        × ((n : ℕ) × Appends (O.contents out.old) (O.contents out.new) (take n (text_once topo.now fragment))) }
+{
+    let Some(link) = topo.link_of(&fragment.link()) else {
+        return Err(OnceFault::Refused {
+            code: UNKNOWN_LINK,
+            number: None,
+        });
+    };
+    let decl = topo.link(link).unwrap();
+    let rows = rows_of(alloc, link, decl, fragment.number(), fragment.beats())?;
+    let report = Report::new(1, 1, rows);
+    let text = report_text(alloc, topo, &report)?;
+    write_all(out, text.as_bytes())?;
+    Ok(report.rows().len() as u64)
+}

@@ -1,0 +1,89 @@
+//! Reports and their text.
+
+ghost use Rattle.std.specs.Prelude.{◌≡◌, ◌<◌, IfOk, length, string_bytes};
+ghost use Rattle.std.specs.List.{All};
+ghost use Rattle.tl_cli.specs.Output.{row_text, head_text, report_bytes};
+
+use std::alloc::{AllocError, Global};
+use std::marker::Model;
+use tl_beats::Row;
+use tl_tables::rule_text;
+use tl_topology::Topo;
+
+/// A published report: its version, the number of accepted edits that it speaks of, and its rows in their order.
+#[derive(Drop)]
+pub struct Report {
+    version: u64,
+    edit: u64,
+    rows: Vec<Row>,
+}
+
+impl Model for Report {
+    ghost use Rattle.tl_cli.specs.Output.{Rows};
+
+    ghost Value = { Rows };
+
+    ghost view = { λ r. record { version = r.version; edit = r.edit; rows = r.rows.items } };
+}
+
+impl Report {
+    /// The report with these parts.
+    pub fn new(version: u64, edit: u64, rows: Vec<Row>) -> Report
+        ensures { result ≡ record { version = version; edit = edit; rows = rows.items } }
+    {
+        Report {
+            version,
+            edit,
+            rows,
+        }
+    }
+
+    /// Its rows, in their order.
+    pub fn rows(&self) -> &[Row]
+        ensures { result.now ≡ self.now.rows }
+    {
+        self.rows.as_slice()
+    }
+}
+
+/// The line of a row: link, fragment, line and rule, and the monitor of an X1.
+#[tactic(auto, unfolding(crate::specs::Output::row_text))]
+fn row_text(alloc: Global, topo: &Topo, row: &Row) -> Result<String, AllocError>
+    requires { row.now.link < length topo.now.links }
+    ensures { IfOk result (λ text. string_bytes text ≡ row_text topo.now row.now) }
+{
+    let link = topo.link(row.link).unwrap().name;
+    let fragment = row.fragment;
+    let line = row.line;
+    let rule = rule_text(row.rule);
+    match row.monitor {
+        Some(monitor) => format!(in alloc; "{link} {fragment} {line} {rule} {monitor}\n"),
+        None => format!(in alloc; "{link} {fragment} {line} {rule}\n"),
+    }
+}
+
+/// The first line of a report, which counts its rows.
+#[tactic(auto, unfolding(crate::specs::Output::head_text))]
+fn head_text(alloc: Global, report: &Report) -> Result<String, AllocError>
+    ensures { IfOk result (λ text. string_bytes text ≡ head_text report.now) }
+{
+    let version = report.version;
+    let edit = report.edit;
+    let count = report.rows().len();
+    format!(in alloc; "report {version} edit {edit} rows {count}\n")
+}
+
+/// The text of a report of a topology that has the links of its rows: a line that counts the rows, and a line for each.
+/// AllocError where memory is refused.
+#[tactic(auto, unfolding(crate::specs::Output::report_bytes))]
+pub fn report_text(alloc: Global, topo: &Topo, report: &Report) -> Result<String, AllocError>
+    requires { All (λ row. row.link < length topo.now.links) report.now.rows }
+    ensures { IfOk result (λ text. string_bytes text ≡ report_bytes topo.now report.now) }
+{
+    let mut text = head_text(alloc, report)?;
+    for row in report.rows() {
+        let line = row_text(alloc, topo, row)?;
+        text.push_str(line.as_str())?;
+    }
+    Ok(text)
+}

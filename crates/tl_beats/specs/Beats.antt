@@ -1,5 +1,5 @@
 -- What a beat of a capture is, and the order of the beats of a link.
-use Rattle.std.specs.Prelude.{◌≡◌, ℕ, ◌^◌, ◌<◌, ◌≤◌, ◌&&◌, ◌||◌, ◌==◌, Bool, true, false, nat_lt}
+use Rattle.std.specs.Prelude.{◌≡◌, ◌^◌, ◌<◌, ◌≤◌, ◌&&◌, ◌||◌, ◌==◌, Bool, false, nat_lt}
 use Rattle.tl_tables.specs.declared.Chan.{Chan}
 use Rattle.tl_tables.specs.declared.Chan.TheVariants as chan
 use Rattle.tl_tables.specs.Messages.{chan_number}

@@ -5,7 +5,6 @@ use Rattle.tl_text.specs.Words.{◌>>=◌, word_at}
 use Rattle.tl_text.specs.Numbers.{number_at}
 use Rattle.tl_text.specs.Names.{bit_at}
 use Rattle.tl_text.specs.Readings.{◌>>>◌, or_fault}
-use Rattle.tl_tables.specs.declared.Chan.{Chan}
 use Rattle.tl_tables.specs.declared.Chan.TheVariants as chan
 use Rattle.tl_topology.specs.Naming.{name_at}
 use Rattle.tl_beats.specs.declared.Beat.{Beat}

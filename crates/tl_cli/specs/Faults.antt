@@ -1,5 +1,5 @@
 -- The faults that end the program with one line.
-use Rattle.std.specs.Prelude.{ℕ, Option, Some, None}
+use Rattle.std.specs.Prelude.{None}
 use Rattle.tl_topology.specs.declared.fault.TopoFault.{TopoFault}
 use Rattle.tl_topology.specs.Faults as topo
 use Rattle.tl_beats.specs.declared.fault.FragmentFault.{FragmentFault}

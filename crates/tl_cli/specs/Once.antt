@@ -1,5 +1,5 @@
 -- The report of one fragment.
-use Rattle.std.specs.Prelude.{◌≡◌, ℕ, ◌+◌, List, [], ◌∷◌, ◌++◌, map, Option, None}
+use Rattle.std.specs.Prelude.{◌≡◌, ℕ, ◌+◌, List, [], ◌∷◌, ◌++◌, map, None}
 use Rattle.std.specs.Option.{option_map_or}
 use Rattle.std.specs.List.{slice_get}
 use Rattle.tl_topology.specs.Topology.{Topology, number_of_name}
@@ -9,7 +9,6 @@ use Rattle.tl_cli.specs.declared.once.OnceFault.{OnceFault}
 use Rattle.tl_cli.specs.declared.once.OnceFault.TheVariants as once
 use Rattle.tl_topology.specs.declared.LinkDecl.{LinkDecl}
 use Rattle.tl_beats.specs.declared.Beat.{Beat}
-use Rattle.tl_beats.specs.declared.Placed.{Placed}
 use Rattle.tl_beats.specs.declared.Row.{Row}
 use Rattle.tl_definitions.specs.Breaks.{row_of}
 use Rattle.tl_format_rules.specs.Checked.{checked_rules}

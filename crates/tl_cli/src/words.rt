@@ -50,8 +50,10 @@ fn program<'a>(alloc: Global) -> Result<clap::Command<'a>, Error> {
 }
 
 const HELP: &str =
-    "Without words it reads a topology text followed at once by a fragment text from standard input, \
-at most 67,108,864 bytes, and does as once.\n\n\
+    "tlcheck once TOPO FRAGMENT checks one fragment of a capture, from two files: TOPO is a topology text \
+of at most 1,048,576 bytes, FRAGMENT a fragment text of at most 8,388,608 bytes.\n\
+Without words tlcheck reads both from standard input, the fragment right behind the topology, at most 67,108,864 bytes, \
+and does as once.\n\n\
 Exit status: 0 no rule is broken, 1 the report has rows, 2 a fault, told on standard error as `tlcheck: CODE` \
 or `tlcheck: CODE NUMBER`.";
 

@@ -1,5 +1,5 @@
 -- Where no bound is exceeded, no two clients' bounds conflict.
-use Rattle.std.proofs.Common.{◌≡◌, ℕ, ◌==◌, ◌&&◌, ◌||◌, ◌⊎◌, inl, inr, Bool, true, false, cond, List, [], ◌∷◌, ◌++◌, Option, Some, None, refl, sym, ap, subst, ◌∙◌, arith, zero, suc, reverse}
+use Rattle.std.proofs.Common.{◌≡◌, ℕ, ◌==◌, ◌&&◌, ◌||◌, Bool, true, false, cond, List, [], ◌∷◌, ◌++◌, Option, Some, None, refl, sym, ap, subst, ◌∙◌, arith, zero, suc, reverse}
 use Rattle.std.specs.Prelude.{filter, not, slice_get, map}
 use Rattle.std.specs.List.{list_any, Contains}
 use Rattle.std.specs.Option.{option_map, option_map_or}
@@ -10,8 +10,7 @@ use Rattle.tl_tables.specs.declared.Perm.{Perm}
 use Rattle.tl_tables.specs.declared.Perm.TheVariants as perm
 use Rattle.tl_tables.specs.declared.Rule.{Rule}
 use Rattle.tl_tables.specs.declared.Rule.TheVariants as rule
-use Rattle.tl_tables.specs.Params.{from_of, to_of, is_above, shrink_froms, shrink_tos, perm_number}
-use Rattle.tl_beats.specs.declared.Beat.{Beat}
+use Rattle.tl_tables.specs.Params.{from_of, to_of, is_above, shrink_froms, shrink_tos}
 use Rattle.tl_beats.specs.declared.Placed.{Placed}
 use Rattle.tl_beats.specs.declared.Row.{Row}
 use Rattle.tl_definitions.specs.Kinds.{is_acquire, is_probe_ack, is_release, is_grant, conflicts}
@@ -21,7 +20,6 @@ use Rattle.tl_definitions.specs.Past.{LinkPast, ClientPast, pasts_of}
 use Rattle.tl_definitions.specs.Rules.{Manager, breaks_format, breaks_flow, breaks_permission, breaks_manager, format_order, flow_order, permission_order, manager_order, rules_of_message, conflicts_with_other}
 use Rattle.tl_definitions.specs.Breaks.{head_rules, later_rules, rules_at, row_of, rows_after, rows_in}
 use Rattle.tl_definitions.specs.Coherence.{guards_bounds, IsGuarded, is_client, OneWriter, exceeds, GuardedCapturesAreCoherent, ReportedCapturesAreCoherent}
-use Rattle.tl_definitions.specs.Report.{Capture, IsReport}
 use Rattle.tl_definitions.proofs.Lists.{onto, onto_reverse, contains_none, contains_kept, none_kept}
 use Rattle.tl_definitions.proofs.ReportLaws.{rows_are_breaks}
 
@@ -262,13 +260,12 @@ guarded_captures_are_coherent m beats h earlier later parts =
     guarded_is_coherent m (reverse earlier)
     (subst (IsGuarded m) (onto_reverse [] earlier) (guarded_onto m [] earlier later tt (subst (λ ps. filter exceeds (rows_in m ps) ≡ []) parts h)))
 
-
 pub reported_captures_are_coherent : ReportedCapturesAreCoherent
 reported_captures_are_coherent captures rows report clean capture is =
     guarded_captures_are_coherent capture.manager capture.beats (none_kept exceeds (rows_in capture.manager capture.beats) (λ row h.
-      let reported : Contains rows row = (report.members row).1 (capture, is, (rows_are_breaks capture.manager capture.beats row).0 h) in
-      let unkept : (t : Bool) → exceeds row ≡ t → t ≡ false = λ t. elim t as (λ t. exceeds row ≡ t → t ≡ false) [
-        | true ↦ λ e. absurd (contains_none row (subst (λ rs. Contains rs row) clean (contains_kept exceeds rows row reported e)))
-        | false ↦ λ e. refl
-      ] in
-      unkept (exceeds row) refl))
+    let reported : Contains rows row = (report.members row).1 (capture, is, (rows_are_breaks capture.manager capture.beats row).0 h) in
+    let unkept : (t : Bool) → exceeds row ≡ t → t ≡ false = λ t. elim t as (λ t. exceeds row ≡ t → t ≡ false) [
+      | true ↦ λ e. absurd (contains_none row (subst (λ rs. Contains rs row) clean (contains_kept exceeds rows row reported e)))
+      | false ↦ λ e. refl
+    ] in
+    unkept (exceeds row) refl))

@@ -1,5 +1,5 @@
 -- Heads, later beats, and what a burst leaves unfinished.
-use Rattle.std.proofs.Common.{◌≡◌, ℕ, ◌+◌, ◌-◌, ◌<◌, ◌≤◌, ◌^◌, ◌/◌, ◌⊎◌, inl, inr, ◌==◌, ◌&&◌, ◌||◌, max, Bool, true, false, cond, List, [], ◌∷◌, ◌++◌, length, Option, Some, None, refl, sym, ap, subst, ◌∙◌, arith, length-append}
+use Rattle.std.proofs.Common.{◌≡◌, ℕ, ◌+◌, ◌-◌, ◌<◌, ◌≤◌, ◌^◌, ◌/◌, ◌⊎◌, inl, inr, ◌==◌, ◌||◌, max, Bool, true, false, cond, List, [], ◌∷◌, ◌++◌, length, Option, Some, None, refl, sym, ap, subst, ◌∙◌, arith, length-append}
 use Rattle.std.specs.Prelude.{nat_lt, slice_index, is_none}
 use Rattle.std.specs.List.{list_any}
 use Rattle.std.specs.Option.{option_map, option_map_or}
@@ -9,8 +9,8 @@ use Rattle.tl_tables.specs.Messages.{carries_data_of}
 use Rattle.tl_topology.specs.declared.LinkDecl.{LinkDecl}
 use Rattle.tl_beats.specs.declared.Beat.{Beat}
 use Rattle.tl_definitions.specs.declared.Unfinished.{Unfinished}
-use Rattle.tl_definitions.specs.Heads.{message_of, beat_count, begins, with_end, ends, is_head, last_head, unfinished, left, after_beat}
-use Rattle.tl_definitions.specs.Laws.{HeadsAreByBursts, NoHeads, IsLastHead, LaterBeatsHaveAHead, OneBeatIsAll, OneBeatMessagesAreHeads, MessagesOwnTheirBeats}
+use Rattle.tl_definitions.specs.Heads.{message_of, beat_count, begins, ends, is_head, last_head, unfinished, left, after_beat}
+use Rattle.tl_definitions.specs.Laws.{HeadsAreByBursts, IsLastHead, LaterBeatsHaveAHead, OneBeatIsAll, OneBeatMessagesAreHeads, MessagesOwnTheirBeats, UnfinishedIsTheRest}
 
 -- Some head's burst ends at k.
 abbrev EndsAt : LinkDecl → List Beat → ℕ → Type 0
@@ -114,14 +114,19 @@ ended link before {head} {end} h l k lt =
     l.alone k (omega arith) ∙ (grind (arith, nat_tests))
 
 -- After each beat there is a newest head.
-pub latest : (link : LinkDecl) (beat : Beat) (before : List Beat) → (head : Beat) × (end : ℕ) × Latest link (beat ∷ before) head end
-latest link beat [] = (beat, _, at_head link beat [] refl (λ k lt. grind (arith, nat_tests)))
-latest link beat (last ∷ before) =
-    let known = latest link last before in
-    elim (is_head link (last ∷ before)) as (λ b. is_head link (last ∷ before) ≡ b → (head : Beat) × (end : ℕ) × Latest link (beat ∷ last ∷ before) head end) [
-      | true ↦ λ h. (beat, _, at_head link beat (last ∷ before) h (ended link (last ∷ before) h known.2))
-      | false ↦ λ h. (known.0, known.1, at_later link beat (last ∷ before) h known.2)
+latest_at : (link : LinkDecl) (beat : Beat) (before : List Beat) → (head : Beat) × (newer older : List Beat) × ((beat ∷ before) ≡ newer ++ head ∷ older) × (is_head link older ≡ true)
+    × Latest link (beat ∷ before) head (length older + beat_count link head)
+latest_at link beat [] = (beat, [], [], refl, refl, at_head link beat [] refl (λ k lt. grind (arith, nat_tests)))
+latest_at link beat (last ∷ before) =
+    let known = latest_at link last before in
+    elim (is_head link (last ∷ before)) as (λ b. is_head link (last ∷ before) ≡ b → (head : Beat) × (newer older : List Beat) × ((beat ∷ last ∷ before) ≡ newer ++ head ∷ older) × (is_head link older ≡ true)
+    × Latest link (beat ∷ last ∷ before) head (length older + beat_count link head)) [
+      | true ↦ λ h. (beat, [], last ∷ before, refl, h, at_head link beat (last ∷ before) h (ended link (last ∷ before) h known.5))
+      | false ↦ λ h. (known.0, beat ∷ known.1, known.2, ap (λ bs. beat ∷ bs) known.3, known.4, at_later link beat (last ∷ before) h known.5)
     ] refl
+
+pub latest : (link : LinkDecl) (beat : Beat) (before : List Beat) → (head : Beat) × (end : ℕ) × Latest link (beat ∷ before) head end
+latest link beat before = let known = latest_at link beat before in (known.0, length known.2 + beat_count link known.0, known.5)
 
 -- A head that comes next is the latest, whatever came before it.
 latest_head : (link : LinkDecl) (before : List Beat) (beat : Beat) → is_head link before ≡ true → Latest link (beat ∷ before) beat (length before + beat_count link beat)
@@ -154,15 +159,42 @@ one_beat_messages_are_heads link [] all = refl
 one_beat_messages_are_heads link (beat ∷ before) all = one_beat_is_all link before beat (one_beat_messages_are_heads link before all.1) all.0
 
 -- What is unfinished is the rest of the newest head's burst.
+rest_of : (head : Beat) (end first index : ℕ) (last : Option Beat) (b : Bool) → last ≡ Some head → first ≡ end → index ≤ end → (end == index) ≡ b
+    → cond b None (option_map (λ h. record { head = h; missing = first - index }) last) ≡ left head (end - index)
+rest_of head end first index last true is same le e = let none : end - index ≡ 0 = grind (arith, nat_tests) in rw none refl
+rest_of head end first index last false is same le e =
+    let some : nat_lt 0 (end - index) ≡ true = grind (arith, nat_tests) in rw (some, is, same) refl
+
 shown : (link : LinkDecl) (before : List Beat) {head : Beat} {end : ℕ} → Latest link before head end → unfinished link before ≡ left head (end - length before)
 shown link before {head} {end} l =
-    let here : is_head link before ≡ (end == length before) = l.alone (length before) (omega arith) in
-    let rest : (b : Bool) → (end == length before) ≡ b → cond b None (option_map (λ h. record { head = h; missing = slice_index (ends link before) 0 - length before }) (last_head link before)) ≡ left head (end - length before) =
-    λ b. elim b as (λ b. (end == length before) ≡ b → cond b None (option_map (λ h. record { head = h; missing = slice_index (ends link before) 0 - length before }) (last_head link before)) ≡ left head (end - length before)) [
-      | true ↦ λ e. let z : end - length before ≡ 0 = grind (arith, nat_tests) in rw z refl
-      | false ↦ λ e. let lt : nat_lt 0 (end - length before) ≡ true = (let r = l.reaches in grind (arith, nat_tests)) in rw (lt, l.is, l.first) refl
-    ] in
-    ap (λ b. cond b None (option_map (λ h. record { head = h; missing = slice_index (ends link before) 0 - length before }) (last_head link before))) here ∙ rest (end == length before) refl
+    ap (λ b. cond b None (option_map (λ h. record { head = h; missing = slice_index (ends link before) 0 - length before }) (last_head link before))) (l.alone (length before) (omega arith))
+    ∙ rest_of head end (slice_index (ends link before) 0) (length before) (last_head link before) (end == length before) l.is l.first l.reaches refl
+
+-- What is left of a burst.
+left_is : (head : Beat) (missing : ℕ) (rest : Unfinished) → left head missing ≡ Some rest → (rest.head ≡ head) × (rest.missing ≡ missing) × (0 < missing)
+left_is head missing rest h =
+    elim (nat_lt 0 missing) as (λ b. nat_lt 0 missing ≡ b → cond b (Some (record { head = head; missing = missing })) None ≡ Some rest → (rest.head ≡ head) × (rest.missing ≡ missing) × (0 < missing)) [
+      | true ↦ λ e g. let is : record { head = head; missing = missing } ≡ rest = cc in
+          let some : 0 < missing = grind (arith, nat_tests) in
+          (sym (ap (λ (u : Unfinished). u.head) is), sym (ap (λ (u : Unfinished). u.missing) is), some)
+      | false ↦ λ e g. cc
+    ] refl h
+
+pub unfinished_is_the_rest : UnfinishedIsTheRest
+unfinished_is_the_rest link [] rest h = cc
+unfinished_is_the_rest link (beat ∷ before) rest h =
+    let known = latest_at link beat before in
+    let head : Beat = known.0 in
+    let newer : List Beat = known.1 in
+    let older : List Beat = known.2 in
+    let is = left_is head ((length older + beat_count link head) - length (beat ∷ before)) rest (sym (shown link (beat ∷ before) known.5) ∙ h) in
+    let count : length (beat ∷ before) ≡ length newer + (length older + 1) = ap length known.3 ∙ length-append newer (head ∷ older) ∙ ap (λ n. length newer + n) (omega arith) in
+    let same : beat_count link rest.head ≡ beat_count link head = ap (beat_count link) is.0 in
+    let missing : rest.missing ≡ (length older + beat_count link head) - length (beat ∷ before) = is.1 in
+    let some : 0 < (length older + beat_count link head) - length (beat ∷ before) = is.2 in
+    let all : (length newer + 1) + rest.missing ≡ beat_count link rest.head = omega arith in
+    let some_left : 0 < rest.missing = omega arith in
+    (newer, older, known.3 ∙ ap (λ x. newer ++ x ∷ older) (sym is.0), known.4, all, some_left)
 
 -- The head that comes next leaves all its other beats missing.
 next_at_head : (link : LinkDecl) (beat : Beat) (before : List Beat) → Latest link (beat ∷ before) beat (length before + beat_count link beat)

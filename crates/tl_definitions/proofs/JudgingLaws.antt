@@ -1,27 +1,24 @@
 -- A snapshot stands for all beats before.
-use Rattle.std.proofs.Common.{◌≡◌, ℕ, ◌==◌, ◌&&◌, Bool, true, false, cond, List, [], ◌∷◌, ◌++◌, Option, Some, None, refl, sym, ◌∙◌, ap, subst, append_assoc, arith, inl, inr, ◌⊎◌, reverse}
-use Rattle.std.specs.Prelude.{is_none, map, slice_index, length, ◌-◌, ◌↔◌}
+use Rattle.std.proofs.Common.{◌≡◌, ℕ, ◌==◌, ◌&&◌, Bool, true, false, cond, List, [], ◌∷◌, ◌++◌, Option, Some, None, refl, sym, ◌∙◌, ap, subst, append_assoc, inl, inr}
+use Rattle.std.specs.Prelude.{map, slice_index, length, ◌-◌}
 use Rattle.std.specs.Option.{option_map, option_map_or}
 use Rattle.std.specs.List.{Contains}
-use Rattle.std.proofs.lemmas.Bool.Decides.{nat_tests}
 use Rattle.std.proofs.lemmas.List.Elements.{Contains-append_left, Contains-append_right, Contains-append_cases}
 use Rattle.tl_tables.specs.declared.Chan.{Chan}
 use Rattle.tl_tables.specs.declared.Op.{Op}
-use Rattle.tl_tables.specs.declared.Rule.{Rule}
 use Rattle.tl_tables.specs.Messages.{same_chan}
 use Rattle.tl_tables.specs.Params.{cap_of}
 use Rattle.tl_topology.specs.declared.LinkDecl.{LinkDecl}
 use Rattle.tl_beats.specs.declared.Beat.{Beat}
 use Rattle.tl_beats.specs.declared.Placed.{Placed}
 use Rattle.tl_beats.specs.declared.Row.{Row}
-use Rattle.tl_definitions.specs.declared.Unfinished.{Unfinished}
 use Rattle.tl_definitions.specs.OpenTables.{Table, open_at, entry_at, open_keys, count_after}
 use Rattle.tl_definitions.specs.Heads.{message_of, before_on, is_head, last_head, ends, unfinished, after_beat}
 use Rattle.tl_definitions.specs.Messages.{Message, as_request, message_at, messages_on, with_message, at_head, granted_block, claim, claimed_or, bound_of, sources, releases, sinks, probes}
 use Rattle.tl_definitions.specs.Past.{flow_past, client_past, past_of, acquires_block, releases_block, grants_block}
 use Rattle.tl_definitions.specs.Rules.{Manager}
-use Rattle.tl_definitions.specs.Breaks.{head_rules, later_rules, rules_at, row_of, rows_after, rows_in}
-use Rattle.tl_definitions.specs.Judging.{Snapshot, snapshot, judged_head, judged_place, judged_rules, flow_after, client_after, past_after, past_with, judged_next, JudgingIsExact, all_judged, all_next, Pass, IsPass, pass_beats, IsChain, last_exit, ChainsAreWhole}
+use Rattle.tl_definitions.specs.Breaks.{head_rules, later_rules, rules_at, row_of, rows_after}
+use Rattle.tl_definitions.specs.Judging.{Snapshot, snapshot, judged_head, judged_place, judged_rules, flow_after, client_after, past_after, past_with, judged_next, JudgingIsExact, all_judged, all_next, Pass, pass_beats, IsChain, last_exit, ChainsAreWhole}
 use Rattle.tl_definitions.proofs.HeadLaws.{later_beats_have_a_head, next_law, none_law}
 use Rattle.tl_definitions.proofs.TableLaws.{entry_next, open_next, count_next, kept_passes}
 use Rattle.tl_definitions.proofs.Lists.{contains_none, contains_cases, contains_here, contains_there, onto, onto_reverse}
@@ -55,7 +52,7 @@ burst_next m before p link chan =
     ]
 
 -- One more message of a link.
-flow_next : (before : List Message) (message : Message) → flow_after (flow_past before) message ≡ flow_past (message ∷ before)
+pub flow_next : (before : List Message) (message : Message) → flow_after (flow_past before) message ≡ flow_past (message ∷ before)
 flow_next before message = λ i. record {
   source = λ key. entry_next sources as_request before message key i;
   release = λ key. entry_next releases as_request before message key i;
@@ -63,14 +60,14 @@ flow_next before message = λ i. record {
 }
 
 -- A count after one more message, from what is kept under its key.
-count_kept : {V : Type 0} (table : Table Message) (kept : Message → V) (test : V → Bool) (before : List Message) (message : Message)
+pub count_kept : {V : Type 0} (table : Table Message) (kept : Message → V) (test : V → Bool) (before : List Message) (message : Message)
     → count_after table (λ m. test (kept m)) message (option_map_or test (entry_at table kept before (table.key message)) false) (length (open_keys table (λ m. test (kept m)) before))
     ≡ length (open_keys table (λ m. test (kept m)) (message ∷ before))
 count_kept table kept test before message =
     ap (λ old. count_after table (λ m. test (kept m)) message old (length (open_keys table (λ m. test (kept m)) before))) (kept_passes test kept (open_at table (table.key message) before))
     ∙ count_next table (λ m. test (kept m)) before message
 
-client_next : (exponent : ℕ) (before : List Message) (message : Message) → client_after exponent (flow_past before) (client_past exponent before) message ≡ client_past exponent (message ∷ before)
+pub client_next : (exponent : ℕ) (before : List Message) (message : Message) → client_after exponent (flow_past before) (client_past exponent before) message ≡ client_past exponent (message ∷ before)
 client_next exponent before message = λ i. record {
   probe = λ key. entry_next (probes exponent) (λ m. cap_of m.op m.beat.param) before message key i;
   bound = λ block. claimed_or (claim exponent message) block (bound_of exponent before block);
@@ -80,7 +77,7 @@ client_next exponent before message = λ i. record {
   grants = λ block. count_kept sinks (granted_block exponent) (grants_block block) before message i;
 }
 
-message_next : (exponent : ℕ) (before : List Message) (message : Message) → past_after exponent (past_of exponent before) message ≡ past_of exponent (message ∷ before)
+pub message_next : (exponent : ℕ) (before : List Message) (message : Message) → past_after exponent (past_of exponent before) message ≡ past_of exponent (message ∷ before)
 message_next exponent before message = λ i. record { flow = flow_next before message i; client = client_next exponent before message i }
 
 with_next : (exponent : ℕ) (before : List Message) (beat : Beat) (found : Option Op) → past_with exponent (past_of exponent before) beat found ≡ past_of exponent (with_message beat found before)
@@ -107,7 +104,7 @@ pub judging_is_exact : JudgingIsExact
 judging_is_exact m before p = (rules_law m before p, next_snapshot m before p)
 
 -- Beats judged one after the other.
-all_exact : (m : Manager) (before beats : List Placed) → all_judged m (snapshot m before) beats ≡ rows_after m before beats
+pub all_exact : (m : Manager) (before beats : List Placed) → all_judged m (snapshot m before) beats ≡ rows_after m before beats
 all_exact m before [] = refl
 all_exact m before (p ∷ beats) =
     ap (λ rules. map (row_of p) rules ++ all_judged m (judged_next m (snapshot m before) p) beats) (rules_law m before p)

@@ -8,3 +8,4 @@ pub mod SanityLaws
 pub mod JudgingLaws
 pub mod ReportLaws
 pub mod PositionLaws
+pub mod OneBeatLaws

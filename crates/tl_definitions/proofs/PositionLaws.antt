@@ -1,18 +1,18 @@
 -- Where beats stand.
-use Rattle.std.proofs.Common.{◌≡◌, ℕ, ◌+◌, ◌<◌, ◌≤◌, ◌==◌, ◌⊎◌, inl, inr, Bool, true, false, cond, List, [], ◌∷◌, ◌++◌, Option, Some, None, refl, sym, ap, subst, ◌∙◌, arith, zero, suc}
-use Rattle.std.specs.Prelude.{◌↔◌, filter, nat_lt, slice_get}
+use Rattle.std.proofs.Common.{◌≡◌, ℕ, ◌+◌, ◌≤◌, ◌==◌, ◌⊎◌, inl, inr, Bool, true, false, cond, List, [], ◌∷◌, Some, refl, sym, ap, subst, ◌∙◌, arith, zero, suc}
+use Rattle.std.specs.Prelude.{filter, nat_lt, slice_get}
 use Rattle.std.specs.Option.{option_map}
 use Rattle.std.specs.declared.cmp.Ordering.{Ordering}
 use Rattle.std.specs.declared.cmp.Ordering.TheVariants.{Less, Equal, Greater}
 use Rattle.std.specs.Ordering.{is_lt}
-use Rattle.std.specs.List.{list_any, Contains, AllByRecursion}
+use Rattle.std.specs.List.{list_any, Contains}
 use Rattle.std.proofs.lemmas.Cmp.{then_total, on_total, nat_cmp_total, tied_itself}
 use Rattle.std.proofs.lemmas.Bool.Decides.{nat_tests}
 use Rattle.std.proofs.lemmas.List.Elements.{Contains-append_left, Contains-append_right, Contains-append_cases}
 use Rattle.tl_tables.specs.Messages.{chan_number}
 use Rattle.tl_beats.specs.declared.Beat.{Beat}
 use Rattle.tl_beats.specs.declared.Placed.{Placed}
-use Rattle.tl_definitions.specs.Positions.{position_order, lies_before, Recorded, placed_from, placed_beats, insert_by_range, by_range, all_placed, beats_of, insert_in_order, in_order, beats_of_all, PositionsAreOrdered, LinesAreIndexes, AreByRange, RangesRise, BeatsAreOfFragments, AreInOrder, BeatsAreInOrder}
+use Rattle.tl_definitions.specs.Positions.{position_order, lies_before, Recorded, placed_from, placed_beats, insert_by_range, by_range, all_placed, insert_in_order, in_order, PositionsAreOrdered, LinesAreIndexes, AreByRange, RangesRise, BeatsAreOfFragments, AreInOrder, BeatsAreInOrder}
 use Rattle.tl_definitions.proofs.Lists.{contains_none, contains_here, contains_there, contains_cases, contains_kept, kept_from, all_of, all_by}
 
 pub positions_are_ordered : PositionsAreOrdered
@@ -59,11 +59,13 @@ ranged_rises f [] s = (tt, tt)
 ranged_rises f (g ∷ gs) s = elim (nat_lt f.first g.first) as (λ b. nat_lt f.first g.first ≡ b → AreByRange (cond b (f ∷ g ∷ gs) (g ∷ insert_by_range f gs))) [
   | true ↦ λ e. let lt : f.first ≤ g.first = grind (arith, nat_tests) in
       ((lt, all_by (λ (x : Recorded). f.first ≤ x.first) gs (λ x h. let above : g.first ≤ x.first = all_of (λ (y : Recorded). g.first ≤ y.first) gs s.0 x h in omega arith)), s)
-  | false ↦ λ e. let le : g.first ≤ f.first = grind (arith, nat_tests) in
-      (all_by (λ (x : Recorded). g.first ≤ x.first) (insert_by_range f gs) (λ x h. elim (ranged_from f gs x h) [
-        | inl is ↦ subst (λ (y : Recorded). g.first ≤ y.first) is le
-        | inr k ↦ all_of (λ (y : Recorded). g.first ≤ y.first) gs s.0 x k
-      ]), ranged_rises f gs s.1)
+  | false ↦ λ e. let le : g.first ≤ f.first = grind (arith, nat_tests) in (
+    all_by (λ (x : Recorded). g.first ≤ x.first) (insert_by_range f gs) (λ x h. elim (ranged_from f gs x h) [
+      | inl is ↦ subst (λ (y : Recorded). g.first ≤ y.first) is le
+      | inr k ↦ all_of (λ (y : Recorded). g.first ≤ y.first) gs s.0 x k
+    ]),
+    ranged_rises f gs s.1,
+  )
 ] refl
 
 ranges_hold : (fs : List Recorded) → AreByRange (by_range fs)
@@ -147,10 +149,13 @@ ordered_rises p [] s = (tt, tt)
 ordered_rises p (q ∷ qs) s = elim (lies_before p q) as (λ b. lies_before p q ≡ b → AreInOrder (cond b (p ∷ q ∷ qs) (q ∷ insert_in_order p qs))) [
   | true ↦ λ e. let itself : lies_before q q ≡ false = ap is_lt (tied_itself positions_are_ordered q) in
       ((not_after p q q e itself, all_by (λ r. lies_before r p ≡ false) qs (λ r h. not_after p q r e (all_of (λ y. lies_before y q ≡ false) qs s.0 r h))), s)
-  | false ↦ λ e. (all_by (λ r. lies_before r q ≡ false) (insert_in_order p qs) (λ r h. elim (ordered_from p qs r h) [
+  | false ↦ λ e. (
+    all_by (λ r. lies_before r q ≡ false) (insert_in_order p qs) (λ r h. elim (ordered_from p qs r h) [
       | inl is ↦ subst (λ y. lies_before y q ≡ false) is e
       | inr k ↦ all_of (λ y. lies_before y q ≡ false) qs s.0 r k
-    ]), ordered_rises p qs s.1)
+    ]),
+    ordered_rises p qs s.1,
+  )
 ] refl
 
 order_holds : (ps : List Placed) → AreInOrder (in_order ps)
@@ -168,8 +173,11 @@ order_has (p ∷ ps) x h = elim (contains_cases p ps x h) [ inl e ↦ ordered_ha
 pub beats_are_in_order : BeatsAreInOrder
 beats_are_in_order links fragments =
     let of_links : Recorded → Bool = λ f. list_any (λ link. f.link == link) links in
-    let own : List Recorded = filter of_links fragments in (order_holds (all_placed own), λ p. (
-      (λ h. let found = placed_from_some own p (order_from (all_placed own) p h) in
-          let kept = kept_from of_links fragments found.0 found.1 in (found.0, kept.0, kept.1, found.2)),
-      (λ r. order_has (all_placed own) p (some_placed own r.0 p (contains_kept of_links fragments r.0 r.1 r.2) r.3)),
-    ))
+    let own : List Recorded = filter of_links fragments in (
+      order_holds (all_placed own),
+      λ p. (
+        (λ h. let found = placed_from_some own p (order_from (all_placed own) p h) in
+            let kept = kept_from of_links fragments found.0 found.1 in (found.0, kept.0, kept.1, found.2)),
+        (λ r. order_has (all_placed own) p (some_placed own r.0 p (contains_kept of_links fragments r.0 r.1 r.2) r.3)),
+      ),
+    )

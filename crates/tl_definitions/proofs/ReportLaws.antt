@@ -1,9 +1,9 @@
 -- There is one report, and it can be computed.
-use Rattle.std.proofs.Common.{◌≡◌, ℕ, ◌+◌, ◌<◌, ◌⊎◌, inl, inr, Bool, true, false, cond, List, [], ◌∷◌, ◌++◌, Option, Some, None, refl, sym, ap, subst, ◌∙◌, arith, length, reverse}
+use Rattle.std.proofs.Common.{◌≡◌, ℕ, ◌⊎◌, inl, inr, List, [], ◌∷◌, ◌++◌, Option, Some, None, refl, sym, ap, subst, ◌∙◌}
 use Rattle.std.specs.Prelude.{map, ◌↔◌, slice_get}
 use Rattle.std.specs.declared.cmp.Ordering.{Ordering}
 use Rattle.std.specs.declared.cmp.Ordering.TheVariants.{Less, Equal, Greater}
-use Rattle.std.specs.Ordering.{nat_cmp, on, then_cmp, ordering_then, match_ordering, ordering_reverse}
+use Rattle.std.specs.Ordering.{nat_cmp, ordering_then, match_ordering, ordering_reverse}
 use Rattle.std.specs.Option.{option_cmp}
 use Rattle.std.specs.Cmp.{IsTotalOrder}
 use Rattle.std.specs.FinMap.{nat_cmp-IsAntisymmetric}
@@ -23,7 +23,7 @@ use Rattle.tl_beats.specs.declared.Row.{Row}
 use Rattle.tl_definitions.specs.Positions.{position_order}
 use Rattle.tl_definitions.specs.Rules.{Manager}
 use Rattle.tl_definitions.specs.Breaks.{rules_at, row_of, Breaks, rows_after, rows_in}
-use Rattle.tl_definitions.specs.Report.{rule_number, key_order, row_order, Capture, BreaksIn, IsReport, IsReportOf, all_rows, insert_row, sorted_rows, report_of, HasOnePlace, RowsAreBreaks, OneReport, SortedRowsAreTheReport, SortedRowsAreTheirReport, OneReportOf, PartsOfReports, ReportsAreComputed}
+use Rattle.tl_definitions.specs.Report.{rule_number, key_order, row_order, Capture, BreaksIn, all_rows, insert_row, sorted_rows, report_of, HasOnePlace, RowsAreBreaks, OneReport, SortedRowsAreTheReport, SortedRowsAreTheirReport, OneReportOf, PartsOfReports, ReportsAreComputed}
 use Rattle.tl_definitions.proofs.Lists.{contains_none, contains_here, contains_there, contains_cases, contains_mapped, mapped_from, contains_kept, kept_from, all_of, all_by, onto, onto_reverse}
 
 -- Rows and the rules that are broken.

@@ -5,15 +5,15 @@ use Rattle.tl_definitions.specs.Rows.{FormatRows, RegionRows, BurstRows, FlowRow
 
 pub format_rows : FormatRows
 unfolding op_at
-format_rows = (refl, refl, refl, refl, refl, refl, refl, refl, refl, refl, refl, refl, refl)
+format_rows = (refl, refl, refl, refl, refl, refl, refl, refl, refl, refl, refl, refl, refl, refl, refl, refl, refl, refl)
 
 pub region_rows : RegionRows
 unfolding op_at
-region_rows = (refl, refl, refl, refl)
+region_rows = (refl, refl, refl, refl, refl, refl, refl, refl, refl, refl, refl, refl, refl)
 
 pub burst_rows : BurstRows
 unfolding op_at
-burst_rows = (refl, refl, refl, refl, refl, refl, refl)
+burst_rows = (refl, refl, refl, refl, refl, refl, refl, refl)
 
 pub flow_rows : FlowRows
 unfolding op_at
@@ -21,11 +21,11 @@ flow_rows = (refl, refl, refl, refl, refl, refl, refl, refl, refl, refl)
 
 pub bound_rows : BoundRows
 unfolding op_at
-bound_rows = (refl, refl, refl, refl, refl, refl, refl, refl)
+bound_rows = (refl, refl, refl, refl, refl, refl, refl, refl, refl, refl, refl, refl)
 
 pub concurrency_rows : ConcurrencyRows
 unfolding op_at
-concurrency_rows = (refl, refl, refl, refl, refl, refl, refl, refl, refl, refl, refl)
+concurrency_rows = (refl, refl, refl, refl, refl, refl, refl, refl, refl, refl, refl, refl, refl, refl)
 
 pub manager_rows : ManagerRows
 unfolding op_at

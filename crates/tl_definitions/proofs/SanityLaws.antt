@@ -1,27 +1,27 @@
 -- What a TileLink engineer expects of the rules.
-use Rattle.std.proofs.Common.{◌≡◌, ℕ, ◌+◌, ◌*◌, ◌/◌, ◌%◌, ◌^◌, ◌<◌, ◌≤◌, ◌==◌, ◌&&◌, ◌||◌, ◌⊎◌, inl, inr, Bool, true, false, cond, List, [], ◌∷◌, ◌++◌, Option, Some, None, refl, sym, ap, subst, ◌∙◌, arith, length}
-use Rattle.std.specs.Prelude.{filter, not, is_none, slice_index_or}
-use Rattle.std.specs.List.{list_any, Contains}
+use Rattle.std.proofs.Common.{◌≡◌, ℕ, ◌^◌, ◌==◌, ◌&&◌, ◌||◌, Bool, true, false, cond, List, [], ◌∷◌, ◌++◌, Option, Some, None, refl, sym, ap, ◌∙◌, arith}
+use Rattle.std.specs.Prelude.{filter, not, is_none}
+use Rattle.std.specs.List.{list_any}
 use Rattle.std.specs.Option.{option_map_or}
 use Rattle.std.proofs.lemmas.Bool.Decides.{nat_tests}
 use Rattle.std.proofs.lemmas.List.Folds.{list_any_at}
 use Rattle.std.proofs.lemmas.Nat.{pow_pos}
+use Rattle.std.proofs.lemmas.List.{append-nil}
 use Rattle.std.proofs.Math.Nat.{div-mul-le_self, lt-div-mul-add}
-use Rattle.tl_tables.specs.declared.Chan.TheVariants as chan
 use Rattle.tl_tables.specs.declared.Op.{Op}
 use Rattle.tl_tables.specs.declared.Rule.{Rule}
 use Rattle.tl_tables.specs.declared.Rule.TheVariants as rule
-use Rattle.tl_tables.specs.Messages.{same_chan, replies_to}
+use Rattle.tl_tables.specs.Messages.{replies_to}
 use Rattle.tl_topology.specs.declared.LinkDecl.{LinkDecl}
 use Rattle.tl_beats.specs.declared.Beat.{Beat}
 use Rattle.tl_beats.specs.declared.Placed.{Placed}
-use Rattle.tl_beats.specs.declared.Request.{Request}
 use Rattle.tl_definitions.specs.Heads.{message_of, last_head, before_on}
-use Rattle.tl_definitions.specs.Messages.{Message, is_reply, request_of, message_at, messages_on, at_head}
+use Rattle.tl_definitions.specs.Messages.{Message, is_reply, message_at, messages_on, at_head}
 use Rattle.tl_definitions.specs.Past.{LinkPast, pasts_of}
-use Rattle.tl_definitions.specs.Rules.{Manager, breaks_format, breaks_flow, breaks_permission, breaks_manager, format_order, flow_order, permission_order, manager_order, rules_of_message, of_request}
+use Rattle.tl_definitions.specs.Rules.{Manager, breaks_format, breaks_flow, breaks_permission, breaks_manager, format_order, flow_order, permission_order, manager_order, rules_of_message, format_rules}
 use Rattle.tl_definitions.specs.Breaks.{head_rules, later_rules, later_order, breaks_later, rules_at}
-use Rattle.tl_definitions.specs.Laws.{FittingRepliesAreSound, NoMessageBreaksF1Alone, BlocksHoldTheirAddresses}
+use Rattle.tl_definitions.specs.Laws.{FittingRepliesAreSound, NoMessageBreaksF1Alone, BlocksHoldTheirAddresses, FormatNeedsNoPast}
+use Rattle.tl_definitions.proofs.Lists.{kept_of_both}
 
 and_none : (a b : Bool) → b ≡ false → (a && b) ≡ false
 and_none true b h = h
@@ -67,8 +67,8 @@ no_f1 m pasts link message =
     let permission : List Rule = filter (breaks_permission m.exponent (pasts link).client message) permission_order in
     none_of_both is_f1 (format ++ flow ++ permission) (filter (breaks_manager m.clients m.exponent (λ client. (pasts client).client) link message) manager_order)
     (none_of_both is_f1 (format ++ flow) permission
-      (none_of_both is_f1 format flow (none_left is_f1 (breaks_format m.exponent m.regions (m.links link) message.op message.beat) format_order refl) (none_left is_f1 (breaks_flow (pasts link).flow message) flow_order refl))
-      (none_left is_f1 (breaks_permission m.exponent (pasts link).client message) permission_order refl))
+    (none_of_both is_f1 format flow (none_left is_f1 (breaks_format m.exponent m.regions (m.links link) message.op message.beat) format_order refl) (none_left is_f1 (breaks_flow (pasts link).flow message) flow_order refl))
+    (none_left is_f1 (breaks_permission m.exponent (pasts link).client message) permission_order refl))
     (none_left is_f1 (breaks_manager m.clients m.exponent (λ client. (pasts client).client) link message) manager_order refl)
 
 no_f1_later : (link : LinkDecl) (beat head : Beat) (found : Option Op) → list_any is_f1 (option_map_or (λ o. filter (breaks_later link o head beat) later_order) found []) ≡ false
@@ -92,3 +92,38 @@ no_message_breaks_f1_alone m before p has =
 
 pub blocks_hold_their_addresses : BlocksHoldTheirAddresses
 blocks_hold_their_addresses exponent address = (div-mul-le_self address (2 ^ exponent), lt-div-mul-add {a = address} {b = 2 ^ exponent} (pow_pos exponent))
+
+-- Rules that don't pass are not among those kept.
+none_of : (kept f : Rule → Bool) (xs : List Rule) → list_any kept xs ≡ false → filter kept (filter f xs) ≡ []
+none_of kept f [] h = refl
+none_of kept f (x ∷ xs) h =
+    elim (kept x) as (λ t. kept x ≡ t → (t || list_any kept xs) ≡ false → filter kept (cond (f x) (x ∷ filter f xs) (filter f xs)) ≡ []) [
+      | true ↦ λ e g. cc
+      | false ↦ λ e g. elim (f x) as (λ t. filter kept (cond t (x ∷ filter f xs) (filter f xs)) ≡ []) [
+        | true ↦ ap (λ t. cond t (x ∷ filter kept (filter f xs)) (filter kept (filter f xs))) e ∙ none_of kept f xs g
+        | false ↦ none_of kept f xs g
+      ]
+    ] refl h
+
+-- The first of two lists, where nothing of the second is kept.
+first_kept : (kept : Rule → Bool) (xs ys : List Rule) → filter kept ys ≡ [] → filter kept (xs ++ ys) ≡ filter kept xs
+first_kept kept xs ys none = kept_of_both kept xs ys ∙ ap (λ zs. filter kept xs ++ zs) none ∙ append-nil (filter kept xs)
+
+format_of : (kept : Rule → Bool) (m : Manager) (before : List Placed) (p : Placed) (found : Option Op) → list_any kept flow_order ≡ false → list_any kept permission_order ≡ false → list_any kept manager_order ≡ false
+    → filter kept (head_rules m before p found) ≡ filter kept (format_rules m.exponent m.regions (m.links p.link) p.beat found)
+format_of kept m before p None flow permission manager = refl
+format_of kept m before p (Some o) flow permission manager =
+    let pasts : ℕ → LinkPast = pasts_of m.links m.exponent before in
+    let message : Message = message_at (messages_on m.links p.link before) p.beat o in
+    let format_part : List Rule = filter (breaks_format m.exponent m.regions (m.links p.link) o p.beat) format_order in
+    let flow_part : List Rule = filter (breaks_flow (pasts p.link).flow message) flow_order in
+    let permission_part : List Rule = filter (breaks_permission m.exponent (pasts p.link).client message) permission_order in
+    let manager_part : List Rule = filter (breaks_manager m.clients m.exponent (λ client. (pasts client).client) p.link message) manager_order in
+    first_kept kept (format_part ++ flow_part ++ permission_part) manager_part (none_of kept (breaks_manager m.clients m.exponent (λ client. (pasts client).client) p.link message) manager_order manager)
+    ∙ first_kept kept (format_part ++ flow_part) permission_part (none_of kept (breaks_permission m.exponent (pasts p.link).client message) permission_order permission)
+    ∙ first_kept kept format_part flow_part (none_of kept (breaks_flow (pasts p.link).flow message) flow_order flow)
+
+pub format_needs_no_past : FormatNeedsNoPast
+format_needs_no_past kept m before p flow permission manager head =
+    ap (λ t. filter kept (cond t (head_rules m before p (message_of (m.links p.link) p.beat)) (option_map_or (later_rules (m.links p.link) p.beat) (last_head (m.links p.link) (before_on p.link p.beat.chan before)) []))) head
+    ∙ format_of kept m before p (message_of (m.links p.link) p.beat) flow permission manager

@@ -4,15 +4,12 @@ use Rattle.std.specs.Prelude.{find, not, is_some}
 use Rattle.std.specs.List.{list_any, AllByRecursion}
 use Rattle.std.specs.Option.{option_and_then, option_map, option_map_or}
 use Rattle.std.proofs.lemmas.Bool.Decides.{nat_tests}
-use Rattle.tl_tables.specs.declared.Chan.TheVariants as chan
-use Rattle.tl_tables.specs.declared.Op.{Op}
-use Rattle.tl_tables.specs.Messages.{same_chan}
-use Rattle.tl_beats.specs.declared.Beat.{Beat}
 use Rattle.tl_beats.specs.declared.Request.{Request}
-use Rattle.tl_definitions.specs.Kinds.{is_release_ack}
+use Rattle.tl_definitions.specs.Kinds.{is_acquire, is_release_ack}
 use Rattle.tl_definitions.specs.OpenTables.{Table, IsOpen, acts, touches, if_opens, open_at, entry_at, without, open_keys, entry_after, one_if, count_after}
-use Rattle.tl_definitions.specs.Messages.{Message, sources, releases, as_request, request_of}
-use Rattle.tl_definitions.specs.Laws.{EntriesAreOpen, OneEntry, CountsAreOfOpen, RequestsAreOpen}
+use Rattle.tl_definitions.specs.Messages.{Message, sources, releases, sinks, as_request, granted_block, block_of, request_of}
+use Rattle.tl_definitions.specs.Past.{acquires_block, releases_block, grants_block}
+use Rattle.tl_definitions.specs.Laws.{EntriesAreOpen, OneEntry, CountsAreOfOpen, BlockCountsAreOfOpen, RequestsAreOpen}
 
 and_parts : (a b : Bool) → (a && b) ≡ true → (a ≡ true) × (b ≡ true)
 and_parts true b h = (refl, h)
@@ -119,19 +116,19 @@ listed table test (m ∷ before) k =
     elim (acts table m) as (λ act. list_any (λ x. x == k) (cond act (cond (table.opens m && test m) (table.key m ∷ without_m) without_m) ks)
     ≡ option_map_or test (option_and_then (if_opens table) (cond (act && (table.key m == k)) (Some m) (find (touches table k) before))) false) [
       | true ↦ elim (table.key m == k) as (λ t. (table.key m == k) ≡ t → list_any (λ x. x == k) (cond (table.opens m && test m) (table.key m ∷ without_m) without_m)
-      ≡ option_map_or test (option_and_then (if_opens table) (cond t (Some m) (find (touches table k) before))) false) [
-        | true ↦ λ e. let same : table.key m ≡ k = grind (arith, nat_tests) in
-            let gone : list_any (λ x. x == k) without_m ≡ false = subst (λ j. list_any (λ x. x == k) (without j ks) ≡ false) (sym same) (lacks k ks) in
-            elim (table.opens m) as (λ o. list_any (λ x. x == k) (cond (o && test m) (table.key m ∷ without_m) without_m) ≡ option_map_or test (cond o (Some m) None) false) [
-              | true ↦ elim (test m) as (λ t. list_any (λ x. x == k) (cond t (table.key m ∷ without_m) without_m) ≡ t) [ true ↦ ap (λ b. b || list_any (λ x. x == k) without_m) e | false ↦ gone ]
-              | false ↦ gone
-            ]
-        | false ↦ λ e. let rest : list_any (λ x. x == k) without_m ≡ option_map_or test (open_at table k before) false = keeps k (table.key m) ks (not_same (table.key m) k e) ∙ known in
-            elim (table.opens m && test m) as (λ b. list_any (λ x. x == k) (cond b (table.key m ∷ without_m) without_m) ≡ option_map_or test (open_at table k before) false) [
-              | true ↦ ap (λ b. b || list_any (λ x. x == k) without_m) e ∙ rest
-              | false ↦ rest
-            ]
-      ] refl
+          ≡ option_map_or test (option_and_then (if_opens table) (cond t (Some m) (find (touches table k) before))) false) [
+            | true ↦ λ e. let same : table.key m ≡ k = grind (arith, nat_tests) in
+                let gone : list_any (λ x. x == k) without_m ≡ false = subst (λ j. list_any (λ x. x == k) (without j ks) ≡ false) (sym same) (lacks k ks) in
+                elim (table.opens m) as (λ o. list_any (λ x. x == k) (cond (o && test m) (table.key m ∷ without_m) without_m) ≡ option_map_or test (cond o (Some m) None) false) [
+                  | true ↦ elim (test m) as (λ t. list_any (λ x. x == k) (cond t (table.key m ∷ without_m) without_m) ≡ t) [ true ↦ ap (λ b. b || list_any (λ x. x == k) without_m) e | false ↦ gone ]
+                  | false ↦ gone
+                ]
+            | false ↦ λ e. let rest : list_any (λ x. x == k) without_m ≡ option_map_or test (open_at table k before) false = keeps k (table.key m) ks (not_same (table.key m) k e) ∙ known in
+                elim (table.opens m && test m) as (λ b. list_any (λ x. x == k) (cond b (table.key m ∷ without_m) without_m) ≡ option_map_or test (open_at table k before) false) [
+                  | true ↦ ap (λ b. b || list_any (λ x. x == k) without_m) e ∙ rest
+                  | false ↦ rest
+                ]
+          ] refl
       | false ↦ known
     ]
 
@@ -182,7 +179,7 @@ count_next table test before m =
     elim (acts table m) as (λ act. cond act (one_if (table.opens m && test m) + (length ks - one_if old)) (length ks)
     ≡ length (cond act (cond (table.opens m && test m) (table.key m ∷ without (table.key m) ks) (without (table.key m) ks)) ks)) [
       | true ↦ elim (table.opens m && test m) as (λ b. one_if b + (length ks - one_if old)
-      ≡ length (cond b (table.key m ∷ without (table.key m) ks) (without (table.key m) ks))) [ true ↦ omega arith | false ↦ omega arith ]
+          ≡ length (cond b (table.key m ∷ without (table.key m) ks) (without (table.key m) ks))) [ true ↦ omega arith | false ↦ omega arith ]
       | false ↦ refl
     ]
 
@@ -225,3 +222,38 @@ counts_are_of_open table test before = (
   (λ r. some_listed (table.key r.0) (open_keys table test before)
       (listed table test before (table.key r.0) ∙ ap (λ found. option_map_or test found false) (at_own_key table before r.0 r.1) ∙ r.2)),
 )
+
+-- The counts by block.
+same_number : (a b : ℕ) → (a == b) ≡ true → a ≡ b
+same_number a b h = grind (arith, nat_tests)
+
+number_same : (a b : ℕ) → a ≡ b → (a == b) ≡ true
+number_same a b h = grind (arith, nat_tests)
+
+both_true : (a b : Bool) → a ≡ true → b ≡ true → (a && b) ≡ true
+both_true true b h g = g
+both_true false b h g = h
+
+granted_from : (block : ℕ) (granted : Option ℕ) → grants_block block granted ≡ true → granted ≡ Some block
+granted_from block None h = cc
+granted_from block (Some b) h = ap Some (same_number b block h)
+
+pub block_counts_are_of_open : BlockCountsAreOfOpen
+block_counts_are_of_open exponent before block =
+    let acquires = counts_are_of_open sources (λ message. acquires_block exponent block (as_request message)) before in
+    let released = counts_are_of_open releases (λ message. releases_block exponent block (as_request message)) before in
+    let grants = counts_are_of_open sinks (λ message. grants_block block (granted_block exponent message)) before in (
+      (
+        (λ h. let found = acquires.0 h in let parts = and_parts (is_acquire found.0.op) (block_of exponent found.0 == block) found.2 in
+            (found.0, found.1, parts.0, same_number (block_of exponent found.0) block parts.1)),
+        (λ r. acquires.1 (r.0, r.1, both_true (is_acquire r.0.op) (block_of exponent r.0 == block) r.2 (number_same (block_of exponent r.0) block r.3))),
+      ),
+      (
+        (λ h. let found = released.0 h in (found.0, found.1, same_number (block_of exponent found.0) block found.2)),
+        (λ r. released.1 (r.0, r.1, number_same (block_of exponent r.0) block r.2)),
+      ),
+      (
+        (λ h. let found = grants.0 h in (found.0, found.1, granted_from block (granted_block exponent found.0) found.2)),
+        (λ r. grants.1 (r.0, r.1, ap (grants_block block) r.2 ∙ number_same block block refl)),
+      ),
+    )

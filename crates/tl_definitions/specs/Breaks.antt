@@ -1,5 +1,5 @@
 -- Which rules a beat breaks, by all beats of its manager before it, the newest first.
-use Rattle.std.specs.Prelude.{ℕ, ◌≡◌, ◌==◌, ◌&&◌, not, Bool, true, false, List, [], ◌∷◌, ◌++◌, Option, Some, None, if◌then◌else◌, filter, map, reverse}
+use Rattle.std.specs.Prelude.{◌≡◌, ◌==◌, ◌&&◌, not, Bool, true, false, List, [], ◌∷◌, ◌++◌, Option, Some, None, if◌then◌else◌, filter, map, reverse}
 use Rattle.std.specs.Option.{option_map_or}
 use Rattle.std.specs.List.{Contains}
 use Rattle.tl_tables.specs.declared.Chan.TheVariants as chan
@@ -13,7 +13,7 @@ use Rattle.tl_beats.specs.declared.Placed.{Placed}
 use Rattle.tl_beats.specs.declared.Row.{Row}
 use Rattle.tl_definitions.specs.Heads.{message_of, before_on, last_head}
 use Rattle.tl_definitions.specs.Messages.{message_at, at_head, messages_on}
-use Rattle.tl_definitions.specs.Past.{LinkPast, pasts_of}
+use Rattle.tl_definitions.specs.Past.{pasts_of}
 use Rattle.tl_definitions.specs.Rules.{Manager, breaks_mask, breaks_denied, rules_of_message}
 
 abbrev pub same_bit : Bool → Bool → Bool
@@ -50,8 +50,7 @@ later_order = rule.F5 ∷ rule.F7 ∷ rule.U1 ∷ []
 abbrev pub later_rules : LinkDecl → Beat → Beat → List Rule
 later_rules link beat head = option_map_or (λ o. filter (breaks_later link o head beat) later_order) (message_of link head) []
 
--- F1: the opcode of a head is no message of its channel at the link's level. [TileLink 1.8: message opcodes; own profile:
--- which codes belong to a level]
+-- The rules of a head. One without a message breaks F1 alone.
 abbrev pub head_rules : Manager → List Placed → Placed → Option Op → List Rule
 head_rules m before p None = rule.F1 ∷ []
 head_rules m before p (Some o) = rules_of_message m (pasts_of m.links m.exponent before) p.link (message_at (messages_on m.links p.link before) p.beat o)

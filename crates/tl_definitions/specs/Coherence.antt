@@ -36,9 +36,11 @@ exceeds row = guards_bounds row.rule
 
 -- In a capture without a row of P1, P2 or M1, each block has one writer or many readers at every position.
 abbrev pub GuardedCapturesAreCoherent : Type 0
-GuardedCapturesAreCoherent = (m : Manager) (beats : List Placed) → filter exceeds (rows_in m beats) ≡ [] → (earlier later : List Placed) → beats ≡ earlier ++ later → OneWriter m (reverse earlier)
+GuardedCapturesAreCoherent = (m : Manager) (beats : List Placed) → filter exceeds (rows_in m beats) ≡ []
+    → (earlier later : List Placed) → beats ≡ earlier ++ later → OneWriter m (reverse earlier)
 
 -- So it has wherever the report has no such row, and so where the report is clean.
 abbrev pub ReportedCapturesAreCoherent : Type 0
-ReportedCapturesAreCoherent = (captures : List Capture) (rows : List Row) → IsReport captures rows → filter exceeds rows ≡ [] → (capture : Capture) → Contains captures capture
+ReportedCapturesAreCoherent = (captures : List Capture) (rows : List Row) → IsReport captures rows → filter exceeds rows ≡ []
+    → (capture : Capture) → Contains captures capture
     → (earlier later : List Placed) → capture.beats ≡ earlier ++ later → OneWriter capture.manager (reverse earlier)

@@ -1,5 +1,5 @@
 -- Judging by a snapshot: what the past of a manager leaves for its future stands for all beats before.
-use Rattle.std.specs.Prelude.{ℕ, ◌≡◌, ◌↔◌, ◌==◌, ◌&&◌, false, List, [], ◌∷◌, ◌++◌, Option, Some, None, if◌then◌else◌, map, is_none, reverse}
+use Rattle.std.specs.Prelude.{ℕ, ◌≡◌, ◌↔◌, ◌==◌, ◌&&◌, List, [], ◌∷◌, ◌++◌, Option, Some, None, if◌then◌else◌, map, is_none, reverse}
 use Rattle.std.specs.Option.{option_map_or}
 use Rattle.std.specs.List.{Contains}
 use Rattle.std.specs.List.Sorted.{IsStrictlySortedBy}
@@ -16,7 +16,7 @@ use Rattle.tl_beats.specs.declared.Request.{Request}
 use Rattle.tl_beats.specs.declared.Row.{Row}
 use Rattle.tl_definitions.specs.declared.Unfinished.{Unfinished}
 use Rattle.tl_definitions.specs.Kinds.{is_grant, is_release_ack}
-use Rattle.tl_definitions.specs.OpenTables.{touches, entry_after, count_after}
+use Rattle.tl_definitions.specs.OpenTables.{touches, entry_after, passes, count_after}
 use Rattle.tl_definitions.specs.Heads.{message_of, before_on, unfinished, after_beat}
 use Rattle.tl_definitions.specs.Messages.{Message, as_request, sources, releases, sinks, probes, granted_block, claim, claimed_or}
 use Rattle.tl_definitions.specs.Past.{FlowPast, ClientPast, LinkPast, pasts_of, acquires_block, releases_block, grants_block}
@@ -69,9 +69,12 @@ client_after exponent flow past message = record {
   probe = entry_after (probes exponent) (λ m. cap_of m.op m.beat.param) message past.probe;
   bound = λ block. claimed_or (claim exponent message) block (past.bound block);
   granted = entry_after sinks (granted_block exponent) message past.granted;
-  acquires = λ block. count_after sources (λ m. acquires_block exponent block (as_request m)) message (option_map_or (acquires_block exponent block) (flow.source message.beat.source) false) (past.acquires block);
-  releases = λ block. count_after releases (λ m. releases_block exponent block (as_request m)) message (option_map_or (releases_block exponent block) (flow.release message.beat.source) false) (past.releases block);
-  grants = λ block. count_after sinks (λ m. grants_block block (granted_block exponent m)) message (option_map_or (grants_block block) (past.granted message.beat.sink) false) (past.grants block);
+  acquires = λ block. count_after sources (λ m. acquires_block exponent block (as_request m)) message
+      (passes (acquires_block exponent block) (flow.source message.beat.source)) (past.acquires block);
+  releases = λ block. count_after releases (λ m. releases_block exponent block (as_request m)) message
+      (passes (releases_block exponent block) (flow.release message.beat.source)) (past.releases block);
+  grants = λ block. count_after sinks (λ m. grants_block block (granted_block exponent m)) message
+      (passes (grants_block block) (past.granted message.beat.sink)) (past.grants block);
 }
 
 abbrev pub past_after : ℕ → LinkPast → Message → LinkPast
@@ -84,7 +87,8 @@ past_with exponent past beat found = option_map_or (λ o. past_after exponent pa
 abbrev pub judged_next : Manager → Snapshot → Placed → Snapshot
 judged_next m s p = record {
   burst = λ link chan. if (p.link == link) && same_chan p.beat.chan chan then after_beat (m.links link) p.beat (s.burst link chan) else s.burst link chan;
-  past = λ link. if (p.link == link) && is_none (s.burst p.link p.beat.chan) then past_with m.exponent (s.past link) p.beat (message_of (m.links link) p.beat) else s.past link;
+  past = λ link. if (p.link == link) && is_none (s.burst p.link p.beat.chan) then past_with m.exponent (s.past link) p.beat (message_of (m.links link) p.beat)
+      else s.past link;
 }
 
 -- Judging by the snapshot of any beats gives the rules that the next beat breaks after them, and the snapshot of them all.

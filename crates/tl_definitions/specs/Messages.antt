@@ -1,5 +1,5 @@
 -- The messages of a link, the tables that they open and close, blocks, and bounds on what a client can hold.
-use Rattle.std.specs.Prelude.{ℕ, ◌*◌, ◌/◌, ◌^◌, ◌==◌, ◌&&◌, ◌||◌, not, Bool, true, false, List, [], ◌∷◌, Option, Some, None, if◌then◌else◌}
+use Rattle.std.specs.Prelude.{ℕ, ◌*◌, ◌/◌, ◌^◌, ◌==◌, ◌&&◌, ◌||◌, not, Bool, List, [], ◌∷◌, Option, Some, None, if◌then◌else◌}
 use Rattle.std.specs.Option.{option_map, option_map_or, option_and_then}
 use Rattle.tl_tables.specs.declared.Chan.TheVariants as chan
 use Rattle.tl_tables.specs.declared.Op.{Op}
@@ -24,7 +24,8 @@ pub record Message : Type 0 where
 
 -- What is kept of a request, for its reply to be compared with.
 abbrev pub as_request : Message → Request
-as_request message = record { op = message.op; param = message.beat.param; size = message.beat.size; source = message.beat.source; address = message.beat.address }
+as_request message =
+    record { op = message.op; param = message.beat.param; size = message.beat.size; source = message.beat.source; address = message.beat.address }
 
 -- The address rounded down to a multiple of 2 ^ exponent.
 abbrev pub round_down : ℕ → ℕ → ℕ
@@ -67,7 +68,8 @@ probes exponent = record { opens = λ message. is_probe message.op; closes = λ 
 -- there. [TileLink 1.8: operations, responses]
 abbrev pub request_of : List Message → Op → Beat → Option Request
 request_of before o beat =
-    if same_chan beat.chan chan.D then (if is_release_ack o then entry_at releases as_request before beat.source else entry_at sources as_request before beat.source)
+    if same_chan beat.chan chan.D then (if is_release_ack o then entry_at releases as_request before beat.source
+    else entry_at sources as_request before beat.source)
     else None
 
 abbrev pub message_at : List Message → Beat → Op → Message

@@ -2,7 +2,7 @@
 -- far, the newest first. [TileLink 1.8: operations, transaction identifiers; own profile: which messages close]
 use Rattle.std.specs.Prelude.{◌≡◌, ℕ, ◌+◌, ◌-◌, ◌==◌, ◌&&◌, ◌||◌, not, Bool, true, false, List, [], ◌∷◌, ◌++◌, Option, Some, None, find, filter, if◌then◌else◌}
 use Rattle.std.specs.List.{AllByRecursion}
-use Rattle.std.specs.Option.{option_and_then, option_map}
+use Rattle.std.specs.Option.{option_and_then, option_map, option_map_or}
 
 -- Which messages open and close an entry, and of which key.
 pub record Table (E : Type 0) : Type 0 where
@@ -42,12 +42,16 @@ module _ {E : Type 0} where
   open_keys table test [] = []
   open_keys table test (message ∷ before) =
       if acts table message then (if table.opens message && test message then table.key message ∷ without (table.key message) (open_keys table test before)
-        else without (table.key message) (open_keys table test before))
+      else without (table.key message) (open_keys table test before))
       else open_keys table test before
 
   -- How many do after one more message, from how many did, and from whether the opener that was open on its key did.
   abbrev pub count_after : Table E → (E → Bool) → E → Bool → ℕ → ℕ
   count_after table test message old count = if acts table message then one_if (table.opens message && test message) + (count - one_if old) else count
+
+-- Something is there, and passes the test.
+abbrev pub passes : {V : Type 0} → (V → Bool) → Option V → Bool
+passes test entry = option_map_or test entry false
 
 module _ {E V : Type 0} where
   -- What is kept of the opener that is open on a key.

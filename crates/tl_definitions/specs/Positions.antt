@@ -77,7 +77,8 @@ links_of decls = λ number. slice_index_or decls number no_link
 -- The numbers of a manager's links, from a first number on.
 abbrev pub clients_from : ℕ → ℕ → List LinkDecl → List ℕ
 clients_from manager number [] = []
-clients_from manager number (link ∷ links) = if link.manager == manager then number ∷ clients_from manager (number + 1) links else clients_from manager (number + 1) links
+clients_from manager number (link ∷ links) = if link.manager == manager then number ∷ clients_from manager (number + 1) links
+    else clients_from manager (number + 1) links
 
 abbrev pub clients_of : ℕ → List LinkDecl → List ℕ
 clients_of manager decls = clients_from manager 0 decls
@@ -111,5 +112,6 @@ AreInOrder (p ∷ ps) = AllByRecursion (λ q. lies_before q p ≡ false) ps × A
 
 -- The beats of a manager are those of the fragments of its links, in the order of positions.
 abbrev pub BeatsAreInOrder : Type 0
-BeatsAreInOrder = (links : List ℕ) (fragments : List Recorded) → AreInOrder (beats_of_all links fragments) × ((p : Placed) → Contains (beats_of_all links fragments) p ↔
+BeatsAreInOrder = (links : List ℕ) (fragments : List Recorded) → AreInOrder (beats_of_all links fragments)
+    × ((p : Placed) → Contains (beats_of_all links fragments) p ↔
     ((f : Recorded) × Contains fragments f × (list_any (λ link. f.link == link) links ≡ true) × Contains (placed_beats f) p))

@@ -106,6 +106,12 @@ breaks_format exponent regions link o beat _ = false
 abbrev pub format_order : List Rule
 format_order = rule.F2 ∷ rule.F3 ∷ rule.F4 ∷ rule.F5 ∷ rule.F6 ∷ rule.F7 ∷ rule.F8 ∷ rule.F9 ∷ rule.F10 ∷ []
 
+-- The format rules that a head breaks: all of them need nothing but the beat.
+-- F1: the opcode is no message of its channel at the link's level. [message opcodes; own profile: which codes a level has]
+abbrev pub format_rules : ℕ → List Region → LinkDecl → Beat → Option Op → List Rule
+format_rules exponent regions link beat None = rule.F1 ∷ []
+format_rules exponent regions link beat (Some o) = filter (breaks_format exponent regions link o beat) format_order
+
 -- A request that isn't there breaks no rule on what it is.
 abbrev pub of_request : (Request → Bool) → Message → Bool
 of_request test reply = option_map_or test reply.request false
@@ -163,7 +169,8 @@ breaks_permission exponent past message rule.P4 = is_probe_ack message.op && kee
 breaks_permission exponent past message rule.P5 = is_probe message.op && is_some (past.probe (block_of exponent message))
 breaks_permission exponent past message rule.P6 = is_acquire message.op && nat_lt 0 (past.acquires (block_of exponent message))
 breaks_permission exponent past message rule.P7 = is_release message.op && nat_lt 0 (past.acquires (block_of exponent message))
-breaks_permission exponent past message rule.P8 = (is_acquire message.op || is_release message.op || is_probe_ack message.op) && nat_lt 0 (past.releases (block_of exponent message))
+breaks_permission exponent past message rule.P8 = (is_acquire message.op || is_release message.op || is_probe_ack message.op)
+    && nat_lt 0 (past.releases (block_of exponent message))
 breaks_permission exponent past message _ = false
 
 abbrev pub permission_order : List Rule
@@ -178,10 +185,12 @@ conflicts_with_other clients pasts link (block, set) = list_any (λ client. not 
 -- M2: a Grant while a client has an open Probe on the block. [own profile, after the concurrency rules]
 -- M3: a Probe while a client has an open Grant on the block. [own profile, after the concurrency rules]
 abbrev pub breaks_manager : List ℕ → ℕ → (ℕ → ClientPast) → ℕ → Message → Rule → Bool
-breaks_manager clients exponent pasts link message rule.M1 = is_grant message.op && option_map_or (conflicts_with_other clients pasts link) (claim exponent message) false
+breaks_manager clients exponent pasts link message rule.M1 = is_grant message.op
+    && option_map_or (conflicts_with_other clients pasts link) (claim exponent message) false
 breaks_manager clients exponent pasts link message rule.M2 =
     is_grant message.op && option_map_or (λ block. list_any (λ client. is_some ((pasts client).probe block)) clients) (granted_block exponent message) false
-breaks_manager clients exponent pasts link message rule.M3 = is_probe message.op && list_any (λ client. nat_lt 0 ((pasts client).grants (block_of exponent message))) clients
+breaks_manager clients exponent pasts link message rule.M3 = is_probe message.op
+    && list_any (λ client. nat_lt 0 ((pasts client).grants (block_of exponent message))) clients
 breaks_manager clients exponent pasts link message _ = false
 
 abbrev pub manager_order : List Rule

@@ -1,5 +1,6 @@
 -- Captures written out, and lines of reports, as a reader would write them.
 use Rattle.std.specs.Prelude.{ℕ, ◌+◌, Bool, true, false, List, [], ◌∷◌, ◌++◌, map, zero, suc}
+use Rattle.tl_tables.specs.declared.Chan.{Chan}
 use Rattle.tl_tables.specs.declared.Chan.TheVariants as chan
 use Rattle.tl_tables.specs.declared.Level.TheVariants as level
 use Rattle.tl_tables.specs.declared.Rule.{Rule}
@@ -8,30 +9,45 @@ use Rattle.tl_topology.specs.declared.Region.{Region}
 use Rattle.tl_beats.specs.declared.Beat.{Beat}
 use Rattle.tl_beats.specs.declared.Placed.{Placed}
 use Rattle.tl_beats.specs.declared.Row.{Row}
-use Rattle.tl_definitions.specs.Positions.{placed_from, in_order, links_of, clients_of}
+use Rattle.tl_definitions.specs.Positions.{placed_beats, in_order, links_of, clients_of}
 use Rattle.tl_definitions.specs.Rules.{Manager}
-use Rattle.tl_definitions.specs.Report.{Capture, report_of}
+use Rattle.tl_definitions.specs.Report.{report_of}
 
--- Beats in the words of a fragment's text, without the bit corrupt, which is low; a field that a channel lacks is 0.
+-- A beat of which all other fields are 0.
+abbrev pub blank : ℕ → Chan → Beat
+blank cycle channel = record {
+  cycle = cycle;
+  chan = channel;
+  opcode = 0;
+  param = 0;
+  size = 0;
+  source = 0;
+  sink = 0;
+  address = 0;
+  mask = 0;
+  denied = false;
+  corrupt = false;
+}
+
+-- Beats in the words of a fragment's text, without the bit corrupt, which is low.
 abbrev pub a : ℕ → ℕ → ℕ → ℕ → ℕ → ℕ → ℕ → Beat
 a cycle opcode param size source address mask =
-    record { cycle = cycle; chan = chan.A; opcode = opcode; param = param; size = size; source = source; sink = 0; address = address; mask = mask; denied = false; corrupt = false }
+    record (blank cycle chan.A) { opcode = opcode; param = param; size = size; source = source; address = address; mask = mask }
 
 abbrev pub b : ℕ → ℕ → ℕ → ℕ → ℕ → ℕ → ℕ → Beat
 b cycle opcode param size source address mask =
-    record { cycle = cycle; chan = chan.B; opcode = opcode; param = param; size = size; source = source; sink = 0; address = address; mask = mask; denied = false; corrupt = false }
+    record (blank cycle chan.B) { opcode = opcode; param = param; size = size; source = source; address = address; mask = mask }
 
 abbrev pub c : ℕ → ℕ → ℕ → ℕ → ℕ → ℕ → Beat
 c cycle opcode param size source address =
-    record { cycle = cycle; chan = chan.C; opcode = opcode; param = param; size = size; source = source; sink = 0; address = address; mask = 0; denied = false; corrupt = false }
+    record (blank cycle chan.C) { opcode = opcode; param = param; size = size; source = source; address = address }
 
 abbrev pub d : ℕ → ℕ → ℕ → ℕ → ℕ → ℕ → Bool → Beat
 d cycle opcode param size source sink denied =
-    record { cycle = cycle; chan = chan.D; opcode = opcode; param = param; size = size; source = source; sink = sink; address = 0; mask = 0; denied = denied; corrupt = false }
+    record (blank cycle chan.D) { opcode = opcode; param = param; size = size; source = source; sink = sink; denied = denied }
 
 abbrev pub e : ℕ → ℕ → Beat
-e cycle sink =
-    record { cycle = cycle; chan = chan.E; opcode = 0; param = 0; size = 0; source = 0; sink = sink; address = 0; mask = 0; denied = false; corrupt = false }
+e cycle sink = record (blank cycle chan.E) { sink = sink }
 
 abbrev pub corrupt : Beat → Beat
 corrupt beat = record beat { corrupt = true }
@@ -42,7 +58,7 @@ burst zero cycle beat = []
 burst (suc n) cycle beat = beat cycle ∷ burst n (cycle + 1) beat
 
 abbrev pub fragment : ℕ → ℕ → List Beat → List Placed
-fragment link number beats = placed_from link number 2 beats
+fragment link number beats = placed_beats (record { link = link; number = number; first = 0; last = 99999; beats = beats })
 
 -- One manager of 64-byte blocks without regions, with two links of level TL-C, numbers 0 and 1, and one of TL-UL, number 2.
 abbrev pub cached : LinkDecl
@@ -59,10 +75,20 @@ with_regions regions = record { links = links_of decls; clients = clients_of 0 d
 
 -- From 0 to 1fff for get, from 8000 to 8fff for put.
 abbrev pub gets : Region
-gets = record { first = 0; last = 8191; permits = record { get = true; put = false; atomic = false; hint = false; cache = false } }
+gets = record { first = 0; last = 0x1fff; permits = record { get = true; put = false; atomic = false; hint = false; cache = false } }
 
 abbrev pub puts : Region
-puts = record { first = 32768; last = 36863; permits = record { get = false; put = true; atomic = false; hint = false; cache = false } }
+puts = record { first = 0x8000; last = 0x8fff; permits = record { get = false; put = true; atomic = false; hint = false; cache = false } }
+
+-- From 0 to 1fff for one kind of access alone, or for several: get, put, atomic, hint, cache.
+abbrev pub only : Bool → Bool → Bool → Bool → Bool → Region
+only get put atomic hint cache = record { first = 0; last = 0x1fff; permits = record { get = get; put = put; atomic = atomic; hint = hint; cache = cache } }
+
+-- Each message of channel A, four on each of two links: Get, both Puts, Arithmetic; Logical, Intent, both Acquires.
+abbrev pub each_kind : List Placed
+each_kind =
+    fragment 0 1 (a 10 4 0 3 0 0x1000 0xff ∷ a 11 0 0 3 1 0x1000 0xff ∷ a 12 1 0 3 2 0x1000 0xff ∷ a 13 2 0 3 3 0x1000 0xff ∷ [])
+    ++ fragment 1 1 (a 10 3 0 3 0 0x1000 0xff ∷ a 11 5 0 3 1 0x1000 0xff ∷ a 12 6 0 6 2 0x1000 0xff ∷ a 13 7 0 6 3 0x1040 0xff ∷ [])
 
 -- A line of a report: link, fragment, line of the fragment's text, rule.
 pub record Line : Type 0 where
@@ -84,6 +110,10 @@ found_with regions beats = map line_of (report_of (record { manager = with_regio
 abbrev pub found : List Placed → List Line
 found beats = found_with [] beats
 
+-- The eight beats of a GrantData of a block of 64 bytes: from a cycle on, its cap, its sink.
+abbrev pub grant : ℕ → ℕ → ℕ → List Beat
+grant cycle cap sink = burst 8 cycle (λ at. d at 5 cap 6 0 sink false)
+
 -- An Acquire to T of the block 1000, its Grant of eight beats, and its GrantAck.
 abbrev pub owned : List Beat
-owned = a 10 6 1 6 0 4096 255 ∷ burst 8 20 (λ cycle. d cycle 5 0 6 0 1 false) ++ e 30 1 ∷ []
+owned = a 10 6 1 6 0 0x1000 0xff ∷ grant 20 0 1 ++ e 30 1 ∷ []

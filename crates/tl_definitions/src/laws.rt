@@ -1,6 +1,6 @@
 //! What the definitions of heads, open tables, requests and bounds mean.
 
-ghost use Rattle.tl_definitions.specs.Laws.{HeadsAreByBursts, LaterBeatsHaveAHead, OneBeatIsAll, OneBeatMessagesAreHeads, MessagesOwnTheirBeats, EntriesAreOpen, OneEntry, CountsAreOfOpen, RequestsAreOpen, FittingRepliesAreSound, NoMessageBreaksF1Alone, BlocksHoldTheirAddresses, BoundsAreLastSet, DeniedGivesNothing, ReleaseLeaves, OnlyGrantsRaise};
+ghost use Rattle.tl_definitions.specs.Laws.{HeadsAreByBursts, LaterBeatsHaveAHead, OneBeatIsAll, OneBeatMessagesAreHeads, MessagesOwnTheirBeats, UnfinishedIsTheRest, EntriesAreOpen, OneEntry, CountsAreOfOpen, BlockCountsAreOfOpen, RequestsAreOpen, FittingRepliesAreSound, NoMessageBreaksF1Alone, FormatNeedsNoPast, BlocksHoldTheirAddresses, BoundsAreLastSet, DeniedGivesNothing, ReleaseLeaves, OnlyGrantsRaise};
 
 /// A beat is a head exactly where it is the first of its channel, or a head's beats end before it.
 #[tactic(auto, using(crate::proofs::HeadLaws::heads_by_bursts))]
@@ -27,31 +27,36 @@ pub fn one_beat_messages_are_heads()
 {}
 
 /// A head of n beats owns exactly the n - 1 beats that follow it on its channel.
-#[tactic(auto, using(crate::proofs::HeadLaws::messages_own_their_beats))]
 pub fn messages_own_their_beats()
     ensures { MessagesOwnTheirBeats }
 {}
 
+/// What a past leaves unfinished is the last head, with the number of its beats that have not come.
+pub fn unfinished_is_the_rest()
+    ensures { UnfinishedIsTheRest }
+{}
+
 /// What a table finds under a key is the opener that is open on it.
-#[tactic(auto, using(crate::proofs::TableLaws::entries_are_open))]
 pub fn entries_are_open()
     ensures { EntriesAreOpen }
 {}
 
 /// A key has at most one open entry.
-#[tactic(auto, using(crate::proofs::TableLaws::one_entry))]
 pub fn one_entry()
     ensures { OneEntry }
 {}
 
 /// A count of open entries is above 0 exactly where one of them is of the kind that it counts.
-#[tactic(auto, using(crate::proofs::TableLaws::counts_are_of_open))]
 pub fn counts_are_of_open()
     ensures { CountsAreOfOpen }
 {}
 
+/// So are the counts of Acquires, Releases and Grants that are open on a block.
+pub fn block_counts_are_of_open()
+    ensures { BlockCountsAreOfOpen }
+{}
+
 /// The request that a head on D answers is the one that is open on its source.
-#[tactic(auto, using(crate::proofs::TableLaws::requests_are_open))]
 pub fn requests_are_open()
     ensures { RequestsAreOpen }
 {}
@@ -60,6 +65,11 @@ pub fn requests_are_open()
 #[tactic(auto, using(crate::proofs::SanityLaws::no_message_breaks_f1_alone))]
 pub fn no_message_breaks_f1_alone()
     ensures { NoMessageBreaksF1Alone }
+{}
+
+/// The format rules that a head breaks need no beats before it.
+pub fn format_needs_no_past()
+    ensures { FormatNeedsNoPast }
 {}
 
 /// A reply of the right kind and size to an open request breaks none of S2, S3 and S4.

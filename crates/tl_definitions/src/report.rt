@@ -1,6 +1,6 @@
 //! The report has one answer.
 
-ghost use Rattle.tl_definitions.specs.Report.{RowsAreBreaks, OneReport, SortedRowsAreTheReport, ReportsAreComputed, SortedRowsAreTheirReport, OneReportOf, PartsOfReports};
+ghost use Rattle.tl_definitions.specs.Report.{RowsAreBreaks, OneReport, SortedRowsAreTheReport, ReportsAreComputed, SortedRowsAreTheirReport, OneReportOf, PartsOfReports, RisingBeatsHaveOnePlace, OneBeatReports};
 
 /// A row is among those of a capture if and only if its beat breaks its rule.
 pub fn rows_are_breaks()
@@ -35,4 +35,14 @@ pub fn one_report_of()
 /// The rows of a report that are of some rules are the report of these.
 pub fn parts_of_reports()
     ensures { PartsOfReports }
+{}
+
+/// Beats that rise strictly stand at one place each, in one capture and in several that share no link.
+pub fn rising_beats_have_one_place()
+    ensures { RisingBeatsHaveOnePlace }
+{}
+
+/// Where the messages of a link all have one beat, the report of format rules is what each beat gives by itself.
+pub fn one_beat_reports()
+    ensures { OneBeatReports }
 {}

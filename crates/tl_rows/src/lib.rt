@@ -1,13 +1,15 @@
-// A library with one function.
+//! Tests that cross crates: worked captures, text forms with their faults, and each public call once.
 #![tactic(auto)]
 
-ghost use Rattle.std.specs.Prelude.{◌≡◌};
-ghost use Rattle.tl_rows.specs.Echo.{echo_of};
-
-// The `ensures` clause is the contract: what `echo` returns is `echo_of` of its argument, a definition
-// in `specs/Echo.antt`, which a caller's clause can cite too.
-pub fn echo(x: usize) -> usize
-    ensures { result ≡ echo_of x }
-{
-    x
-}
+#[cfg(test)]
+mod captures;
+#[cfg(test)]
+mod fragments;
+#[cfg(test)]
+mod program;
+#[cfg(test)]
+mod streams;
+#[cfg(test)]
+mod tables;
+#[cfg(test)]
+mod topologies;

@@ -1,8 +1,8 @@
 -- A word spells the number whose text it is, and no other.
-use Rattle.std.proofs.Common.{◌≡◌, ℕ, zero, suc, ◌+◌, ◌-◌, ◌*◌, ◌/◌, ◌%◌, ◌^◌, ◌<◌, ◌≤◌, Bool, true, false, cond, eqb, ltb, leb, not, List, [], ◌∷◌, ◌++◌, length, get_or, drop, Option, Some, None, refl, sym, ap, subst, ◌∙◌, arith, rules, tests, inl, inr}
-use Rattle.std.specs.Prelude.{◌==◌, if◌then◌else◌, option_and_then, IfSome}
+use Rattle.std.proofs.Common.{◌≡◌, ℕ, zero, suc, ◌+◌, ◌-◌, ◌*◌, ◌/◌, ◌%◌, ◌^◌, ◌<◌, ◌≤◌, Bool, true, false, cond, eqb, leb, not, List, [], ◌∷◌, ◌++◌, length, get_or, drop, Option, Some, None, refl, sym, ap, subst, ◌∙◌, arith, inl, inr}
+use Rattle.std.specs.Prelude.{IfSome}
 use Rattle.std.specs.Fmt.{digits, digits_onto, digit_glyph}
-use Rattle.std.proofs.lemmas.Bool.{false≢true, cases_lt, ltb-false, le-ltb, eqb-true, eqb-false, ne_eqb, eq-eqb, leb-true, le-leb, lt-leb, and_from}
+use Rattle.std.proofs.lemmas.Bool.{false≢true, cases_lt, ne_eqb, leb-true, le-leb, lt-leb, and_from}
 use Rattle.std.proofs.lemmas.Bool.Decides.{nat_tests, eqb_tells as cases_eqb}
 use Rattle.std.proofs.lemmas.Nat.{div-mul-add, mod-mul-add}
 use Rattle.std.proofs.lemmas.Option.{none-some, same_Some, cond_some}

@@ -1,9 +1,8 @@
 -- Writes, one after another.
-use Rattle.std.proofs.Common.{◌≡◌, ℕ, ◌+◌, ◌-◌, List, ◌++◌, length, take, drop, Option, Some, None, Result, Ok, Err, refl, sym, ap, ◌∙◌, append_assoc, arith, length-drop}
+use Rattle.std.proofs.Common.{◌≡◌, ℕ, ◌+◌, ◌-◌, List, ◌++◌, length, take, drop, Option, Some, None, sym, ap, ◌∙◌, append_assoc, arith, length-drop}
 use Rattle.std.proofs.lemmas.List.{take_all}
 use Rattle.std.proofs.Math.Seq.{take-add}
 use Rattle.std.specs.Io.KnownBytes.{Appends, Keeps}
-use Rattle.tl_text.specs.Written.{Wrote}
 
 then : (old mid new : Option (List ℕ)) (a b c : List ℕ) → Appends old mid a → Appends mid new b → a ++ b ≡ c → Appends old new c
 then None mid new a b c p q e = tt

@@ -1,18 +1,17 @@
 -- One declaration more.
-use Rattle.std.proofs.Common.{◌≡◌, ℕ, zero, suc, ◌+◌, ◌<◌, ◌≤◌, Bool, true, false, cond, not, List, [], ◌∷◌, ◌++◌, length, Option, Some, None, Result, Ok, Err, refl, sym, ap, ◌∙◌, arith, length-append}
-use Rattle.std.specs.Prelude.{is_some, ◌||◌, slice_index_or, if◌then◌else◌}
+use Rattle.std.proofs.Common.{◌≡◌, ℕ, zero, suc, ◌<◌, ◌≤◌, Bool, true, false, List, [], ◌∷◌, ◌++◌, length, Some, Ok, refl, sym, ◌∙◌, arith, length-append}
+use Rattle.std.specs.Prelude.{◌||◌}
 use Rattle.std.specs.List.{All}
 use Rattle.std.specs.Str.{bytes_eq}
 use Rattle.std.proofs.Common.{subst}
 use Rattle.indexmap.specs.IndexMap.{insert_entry}
 use Rattle.tl_topology.proofs.Inserting.{insert_new}
-use Rattle.std.proofs.lemmas.Bool.{lt-ltb, le-ltb, lt-leb}
+use Rattle.std.proofs.lemmas.Bool.{le-ltb, lt-leb}
 use Rattle.std.proofs.lemmas.List.Elements.{All-append}
 use Rattle.tl_topology.specs.declared.LinkDecl.{LinkDecl}
 use Rattle.tl_topology.specs.declared.reading.ManagerLine.{ManagerLine}
 use Rattle.tl_topology.specs.declared.reading.LinkLine.{LinkLine}
-use Rattle.tl_topology.specs.declared.fault.TopoFault.{TopoFault}
-use Rattle.tl_topology.specs.Topology.{Topology, is_named, number_of_name, exponent_of, IsSound, IsTopology}
+use Rattle.tl_topology.specs.Topology.{Topology, is_named, exponent_of, IsSound, IsTopology}
 use Rattle.tl_topology.specs.Reading.{with_manager, with_link, fitted, manager_named}
 
 -- a name that nobody has is no manager's and no link's

@@ -1,5 +1,5 @@
 -- Names as the bytes of their text.
-use Rattle.std.specs.Prelude.{◌≡◌, ℕ, ◌-◌, ◌≤◌, ◌++◌, List, length, take, replicate, Option, Some, None, true, if◌then◌else◌, refl}
+use Rattle.std.specs.Prelude.{◌≡◌, ℕ, ◌-◌, ◌≤◌, ◌++◌, List, length, take, replicate, Option, Some, None, true, if◌then◌else◌}
 use Rattle.std.proofs.Common.{sym, ap, ◌∙◌, arith, length-take}
 use Rattle.tl_text.specs.Names.{is_name}
 use Rattle.tl_topology.specs.declared.name.Name.TheInside.{Inside}

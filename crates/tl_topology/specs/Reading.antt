@@ -1,5 +1,5 @@
 -- Reading a topology from its first line on, up to the first fault.
-use Rattle.std.specs.Prelude.{ℕ, ◌+◌, ◌==◌, not, Bool, true, false, List, [], ◌∷◌, ◌++◌, length, codes, Option, Some, None, Result, Ok, Err, nat_lt, nat_le, is_some, if◌then◌else◌, slice_get}
+use Rattle.std.specs.Prelude.{ℕ, ◌+◌, ◌==◌, not, List, [], ◌∷◌, ◌++◌, length, codes, Option, Some, None, Result, Ok, Err, nat_lt, nat_le, if◌then◌else◌, slice_get}
 use Rattle.std.specs.Str.{bytes_eq}
 use Rattle.tl_text.specs.Words.{◌>>=◌, word_at}
 use Rattle.tl_text.specs.Numbers.{number_at}

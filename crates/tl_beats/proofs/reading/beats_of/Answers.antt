@@ -1,13 +1,13 @@
-use Rattle.std.proofs.Common.{◌≡◌, ◌+◌, ◌<◌, suc, length, Ok, rules, arith, sym, ap, ◌∙◌}
+use Rattle.std.proofs.Common.{◌≡◌, Ok, rules, arith, sym, ◌∙◌}
 use Rattle.std.proofs.lemmas.Grind.{common_steps}
 use Rattle.std.proofs.lemmas.Result.{err_from_is_err_and}
 use Rattle.tl_text.specs.Words.{lines_of}
 use Rattle.tl_text.specs.Readings.{Fails}
 use Rattle.tl_beats.specs.Faults.{is_memory}
 use Rattle.tl_beats.specs.Reading.{next_at}
-use Rattle.tl_text.proofs.Cuts.{behind_all, behind_line}
-use Rattle.tl_beats.proofs.Growing.{grown, room_for}
-use Rattle.tl_beats.proofs.Lines.{no_line, ends, goes_on, fails, shorter}
+use Rattle.tl_text.proofs.Cuts.{behind_line}
+use Rattle.tl_beats.proofs.Growing.{grown}
+use Rattle.tl_beats.proofs.Lines.{no_line, ends, goes_on, fails}
 use Rattle.tl_beats.proofs.reading.beats_of.Goals as goal
 
 pub returns-in_default-clause-exact : goal.returns-in_default-clause-exact

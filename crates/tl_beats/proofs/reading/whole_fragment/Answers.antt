@@ -1,4 +1,4 @@
-use Rattle.std.proofs.Common.{sym, ◌∙◌, rules}
+use Rattle.std.proofs.Common.{sym, ◌∙◌}
 use Rattle.std.proofs.lemmas.Result.{err_from_is_err_and}
 use Rattle.tl_text.specs.Words.{lines_of}
 use Rattle.tl_beats.proofs.Whole.{nothing_behind, something_behind, whole_fails, whole_is, more_behind}

@@ -1,4 +1,4 @@
-use Rattle.std.proofs.Common.{◌≡◌, ◌++◌, take, map}
+use Rattle.std.proofs.Common.{◌≡◌, take}
 use Rattle.tl_cli.specs.Once.{head_rows}
 use Rattle.tl_cli.proofs.once.rows_of.Given as goal
 

@@ -1,4 +1,4 @@
-use Rattle.std.proofs.Common.{rules, length}
+use Rattle.std.proofs.Common.{length}
 use Rattle.tl_cli.proofs.Rows.{heads_linked}
 use Rattle.tl_cli.proofs.once.run_once.Goals as goal
 

@@ -1,4 +1,4 @@
-use Rattle.std.proofs.Common.{◌≡◌, ◌*◌, ◌%◌, ◌^◌, ◌<◌, rules, arith}
+use Rattle.std.proofs.Common.{◌≡◌, ◌*◌, ◌%◌, ◌^◌, ◌<◌, arith}
 use Rattle.tl_format_rules.proofs.Lanes.{lanes_coded, one_shifted}
 use Rattle.tl_format_rules.proofs.heads.active_lanes.Goals as goal
 

@@ -1,4 +1,4 @@
-use Rattle.std.proofs.Common.{◌≡◌, ◌+◌, ◌≤◌, ◌<◌, length, arith, sym, ap, ◌∙◌, length-append}
+use Rattle.std.proofs.Common.{length, arith, sym, ap, ◌∙◌, length-append}
 use Rattle.tl_tables.specs.declared.Rule.TheVariants as rule
 use Rattle.tl_format_rules.specs.Checked.{breaks_first, checked_order}
 use Rattle.tl_format_rules.proofs.Picks.{picked, passed}

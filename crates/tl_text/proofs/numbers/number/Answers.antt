@@ -1,6 +1,5 @@
-use Rattle.std.proofs.Common.{◌≡◌, ◌+◌, ◌*◌, ◌<◌, rules, arith, length, drop, get_or, sym}
+use Rattle.std.proofs.Common.{◌+◌, ◌*◌, ◌<◌, arith, sym}
 use Rattle.std.proofs.lemmas.Grind.{common_steps}
-use Rattle.tl_text.specs.Numbers.{number_at}
 use Rattle.tl_text.proofs.Numerals.{not_spelled, one_more, too_large, ends_within, ends_past}
 use Rattle.tl_text.proofs.numbers.number.Goals as goal
 

@@ -1,4 +1,4 @@
-use Rattle.std.proofs.Common.{rules, arith}
+use Rattle.std.proofs.Common.{arith}
 use Rattle.std.proofs.lemmas.Grind.{common_steps}
 use Rattle.tl_text.proofs.Writes.{wrote_more}
 use Rattle.tl_text.proofs.output.write_all.Goals as goal

@@ -1,5 +1,4 @@
 use Rattle.std.proofs.Common.{Bor, List, ℕ}
-use Rattle.tl_text.specs.Words.{word_at}
 use Rattle.tl_text.proofs.Cuts.{cut_joins}
 use Rattle.tl_text.proofs.words.word.Goals as goal
 

@@ -1,4 +1,4 @@
-use Rattle.std.proofs.Common.{◌≡◌, ◌∙◌, sym, rules, arith}
+use Rattle.std.proofs.Common.{◌∙◌, sym, rules}
 use Rattle.tl_topology.proofs.Declaring.{link_declared, topology_with_link}
 use Rattle.tl_topology.proofs.topo.Topo.with_link.Goals as goal
 

@@ -1,4 +1,4 @@
-use Rattle.std.proofs.Common.{◌≡◌, ◌∙◌, sym, rules, arith}
+use Rattle.std.proofs.Common.{◌∙◌, sym, rules}
 use Rattle.tl_topology.proofs.Declaring.{manager_declared}
 use Rattle.tl_topology.proofs.topo.Topo.with_manager.Goals as goal
 

@@ -1,0 +1,5 @@
+use Rattle.tl_definitions.proofs.OneBeatLaws.{rising_beats_have_one_place}
+use Rattle.tl_definitions.proofs.report.rising_beats_have_one_place.Goals as goal
+
+pub returns : goal.returns
+returns c = rising_beats_have_one_place

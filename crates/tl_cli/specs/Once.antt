@@ -1,7 +1,9 @@
 -- The report of one fragment.
-use Rattle.std.specs.Prelude.{◌≡◌, ℕ, ◌+◌, List, [], ◌∷◌, ◌++◌, map, None}
+use Rattle.std.specs.Prelude.{◌≡◌, ℕ, ◌+◌, Bool, true, false, List, [], ◌∷◌, ◌++◌, map, Some, None, slice_index}
 use Rattle.std.specs.Option.{option_map_or}
-use Rattle.std.specs.List.{slice_get}
+use Rattle.std.specs.List.{slice_get, All}
+use Rattle.tl_tables.specs.declared.Rule.{Rule}
+use Rattle.tl_tables.specs.declared.Rule.TheVariants as rule
 use Rattle.tl_topology.specs.Topology.{Topology, number_of_name}
 use Rattle.tl_beats.specs.Fragments.{Frag}
 use Rattle.tl_cli.specs.Output.{report_bytes}
@@ -10,7 +12,11 @@ use Rattle.tl_cli.specs.declared.once.OnceFault.TheVariants as once
 use Rattle.tl_topology.specs.declared.LinkDecl.{LinkDecl}
 use Rattle.tl_beats.specs.declared.Beat.{Beat}
 use Rattle.tl_beats.specs.declared.Row.{Row}
+use Rattle.tl_definitions.specs.Heads.{beat_count}
+use Rattle.tl_definitions.specs.Positions.{links_of, clients_of, placed_beats}
+use Rattle.tl_definitions.specs.Rules.{Manager}
 use Rattle.tl_definitions.specs.Breaks.{row_of}
+use Rattle.tl_definitions.specs.Report.{Capture, IsReportOf}
 use Rattle.tl_format_rules.specs.Checked.{checked_rules}
 
 -- the rows of beats that are written from a line on, each read as a head
@@ -22,6 +28,42 @@ head_rows decl link fragment line (beat ∷ beats) =
 -- the rows of a fragment of a link of the topology
 abbrev pub rows_once : Topology → Frag → List Row
 rows_once topo f = option_map_or (λ link. option_map_or (λ p. head_rows p.1 link f.number 2 f.beats) (slice_get topo.links link) []) (number_of_name topo.links f.link) []
+
+-- F1 to F6
+abbrev pub is_first : Rule → Bool
+is_first rule.F1 = true
+is_first rule.F2 = true
+is_first rule.F3 = true
+is_first rule.F4 = true
+is_first rule.F5 = true
+is_first rule.F6 = true
+is_first _ = false
+
+-- the links of a topology, by number
+abbrev pub declared_links : Topology → List LinkDecl
+declared_links topo = map (λ p. p.1) topo.links
+
+-- the manager of a link, with its clients and its block; a topology declares no regions
+abbrev pub manager_of : Topology → LinkDecl → Manager
+manager_of topo decl = record {
+  links = links_of (declared_links topo);
+  clients = clients_of decl.manager (declared_links topo);
+  exponent = slice_index (map (λ p. p.1) topo.managers) decl.manager;
+  regions = [];
+}
+
+-- that manager, with the beats of the fragment on the link of this number, and no others
+abbrev pub capture_once : Topology → ℕ → LinkDecl → Frag → Capture
+capture_once topo link decl f = record {
+  manager = manager_of topo decl;
+  beats = placed_beats (record { link = link; number = f.number; first = f.first; last = f.last; beats = f.beats });
+}
+
+-- Where no beat of the fragment, read as a head of its link, asks for further beats, the rows of the fragment are the report
+-- of F1 to F6: a row is among them if and only if its beat breaks its rule, and they stand in order, each once.
+abbrev pub IsReportOnce : Topology → Frag → Type 0
+IsReportOnce topo f = (link : ℕ) (decl : LinkDecl) → number_of_name topo.links f.link ≡ Some link → slice_get (declared_links topo) link ≡ Some decl
+    → All (λ beat. beat_count decl beat ≡ 1) f.beats → IsReportOf is_first (capture_once topo link decl f ∷ []) (rows_once topo f)
 
 -- their report, version 1 after edit 1
 abbrev pub text_once : Topology → Frag → List ℕ

@@ -7,7 +7,7 @@ ghost use Rattle.std.specs.List.{All};
 ghost use Rattle.tl_topology.specs.Topology.{IsSound, number_of_name};
 ghost use Rattle.tl_beats.specs.Beats.{IsWellFormed};
 ghost use Rattle.tl_definitions.specs.Breaks.{row_of};
-ghost use Rattle.tl_cli.specs.Once.{head_rows, rows_once, text_once, CanFail};
+ghost use Rattle.tl_cli.specs.Once.{head_rows, rows_once, text_once, IsReportOnce, CanFail};
 ghost use Rattle.tl_cli.specs.declared.once.OnceFault.TheVariants.{Memory, WriteFault as Unwritten};
 
 use crate::report::{Report, report_text};
@@ -96,7 +96,8 @@ fn rows_of(
 }
 
 /// Writes the report of a topology with this fragment alone, version 1 after edit 1, and answers the number of its rows:
-/// those of F1 to F6, each beat read as a head. Refused with 21 where the topology has no such link.
+/// those of F1 to F6, each beat read as a head. Where no beat read so asks for further beats, they are the report of these
+/// rules. Refused with 21 where the topology has no such link.
 pub fn run_once<O: ByteOut>(
     alloc: Global,
     topo: &Topo,
@@ -106,6 +107,7 @@ pub fn run_once<O: ByteOut>(
     requires { O.failure_count out.old < 2 ^ 63 }
     ensures count { IfOk result (λ count. count ≡ length (rows_once topo.now fragment)) }
     ensures written { OnOk result (Appends (O.contents out.old) (O.contents out.new) (text_once topo.now fragment)) }
+    ensures report { OnOk result (IsReportOnce topo.now fragment) }
     ensures quiet { OnOk result (O.failure_count out.new ≡ O.failure_count out.old) }
 
     // A refusal and want of memory write nothing, and a write that fails leaves a front of the text.

@@ -16,13 +16,13 @@ use Rattle.tl_beats.specs.Fragments.{AreBeats}
 use Rattle.tl_beats.specs.Reading.{beat_at, rises_behind, next_at}
 
 -- what a beat has that is read behind others
-record IsNext (first last : ℕ) (before : List Beat) (beat : Beat) : Type 0 where
+pub record IsNext (first last : ℕ) (before : List Beat) (beat : Beat) : Type 0 where
   pub room : length before < 65536
   pub low : first ≤ beat.cycle
   pub high : beat.cycle ≤ last
   pub rises_here : rises_behind (slice_get before (length before - 1)) beat ≡ true
 
-passed : (t u v : Bool) (b beat : Beat) (x y z : FragmentFault) → ◌≡◌ {A = Result Beat FragmentFault} (cond t (Err x) (cond u (Err y) (cond v (Ok b) (Err z)))) (Ok beat) → (t ≡ false) × (u ≡ false) × (v ≡ true) × (b ≡ beat)
+pub passed : (t u v : Bool) (b beat : Beat) (x y z : FragmentFault) → ◌≡◌ {A = Result Beat FragmentFault} (cond t (Err x) (cond u (Err y) (cond v (Ok b) (Err z)))) (Ok beat) → (t ≡ false) × (u ≡ false) × (v ≡ true) × (b ≡ beat)
 passed true u v b beat x y z e = absurd cc
 passed false true v b beat x y z e = absurd cc
 passed false false true b beat x y z e = (refl, refl, refl, cc)
@@ -46,7 +46,7 @@ by_beat : (first last n : ℕ) (before : List Beat) (found : Option Beat) (beat 
 by_beat first last n before None beat e = absurd cc
 by_beat first last n before (Some b) beat e = tested first last before b beat _ _ _ e
 
-next_is : (first last n : ℕ) (before : List Beat) (line : List ℕ) (beat : Beat) → next_at first last n before line ≡ Ok beat → IsNext first last before beat
+pub next_is : (first last n : ℕ) (before : List Beat) (line : List ℕ) (beat : Beat) → next_at first last n before line ≡ Ok beat → IsNext first last before beat
 unfolding next_at
 next_is first last n before line beat e = by_beat first last n before (beat_at line) beat e
 

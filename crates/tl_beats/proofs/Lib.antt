@@ -1,3 +1,6 @@
+pub mod BeatTexts
+pub mod FragmentTexts
 pub mod Growing
+pub mod Lacking
 pub mod Lines
 pub mod Whole

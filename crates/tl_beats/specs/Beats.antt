@@ -5,6 +5,14 @@ use Rattle.tl_tables.specs.declared.Chan.TheVariants as chan
 use Rattle.tl_tables.specs.Messages.{chan_number}
 use Rattle.tl_beats.specs.declared.Beat.{Beat}
 
+-- the channels whose beats have a mask
+abbrev pub HasMask : Chan → Type 0
+HasMask chan.A = Unit {0}
+HasMask chan.B = Unit {0}
+HasMask chan.C = ⊥
+HasMask chan.D = ⊥
+HasMask chan.E = ⊥
+
 -- Fields that the channel lacks are 0. [TileLink 1.8: the signals of the five channels]
 abbrev pub LacksOther : Chan → Beat → Type 0
 LacksOther chan.A b = (b.sink ≡ 0) × (b.denied ≡ false)

@@ -1,6 +1,7 @@
 -- A fragment as plain data.
-use Rattle.std.specs.Prelude.{◌≡◌, ℕ, ◌≤◌, List, length, true}
+use Rattle.std.specs.Prelude.{◌≡◌, ℕ, ◌<◌, ◌≤◌, ◌^◌, List, length, true}
 use Rattle.std.specs.List.{All, AllAdjacentBelow}
+use Rattle.tl_text.specs.Names.{is_name}
 use Rattle.tl_beats.specs.declared.Beat.{Beat}
 use Rattle.tl_beats.specs.Beats.{IsWellFormed, rises}
 
@@ -21,5 +22,8 @@ pub record AreBeats (first last : ℕ) (beats : List Beat) : Type 0 where
 
 -- what each fragment keeps
 pub record IsFragment (f : Frag) : Type 0 where
+  pub named : is_name f.link ≡ true
+  pub number : f.number < 2 ^ 32
   pub order : f.first ≤ f.last
+  pub last : f.last < 2 ^ 64
   pub beats : AreBeats f.first f.last f.beats

@@ -2,3 +2,4 @@ pub mod Beats
 pub mod Faults
 pub mod Fragments
 pub mod Reading
+pub mod Text

@@ -5,6 +5,7 @@ use Rattle.tl_text.specs.Words.{◌>>=◌, word_at}
 use Rattle.tl_text.specs.Numbers.{number_at}
 use Rattle.tl_text.specs.Names.{bit_at}
 use Rattle.tl_text.specs.Readings.{◌>>>◌, or_fault}
+use Rattle.tl_tables.specs.declared.Chan.{Chan}
 use Rattle.tl_tables.specs.declared.Chan.TheVariants as chan
 use Rattle.tl_topology.specs.Naming.{name_at}
 use Rattle.tl_beats.specs.declared.Beat.{Beat}
@@ -30,16 +31,25 @@ message_at words = do
   s ← number_at 10 65535 source.0
   Some (record { opcode = o; param = p; size = z; source = s }, source.1)
 
--- address, mask and corrupt, behind the message: channel A
-unfoldable pub access_at : ℕ → List ℕ → Option Beat
-access_at cycle words = do
+-- address, mask and corrupt, behind the message: channels A and B
+unfoldable pub access_at : Chan → ℕ → List ℕ → Option Beat
+access_at c cycle words = do
   message ← message_at words
   address ← word_at message.1
   a ← number_at 16 (2 ^ 64 - 1) address.0
   mask ← word_at address.1
   m ← number_at 16 (2 ^ 64 - 1) mask.0
   corrupt ← bit_at mask.1
-  Some (record { cycle = cycle; chan = chan.A; opcode = message.0.opcode; param = message.0.param; size = message.0.size; source = message.0.source; sink = 0; address = a; mask = m; denied = false; corrupt = corrupt })
+  Some (record { cycle = cycle; chan = c; opcode = message.0.opcode; param = message.0.param; size = message.0.size; source = message.0.source; sink = 0; address = a; mask = m; denied = false; corrupt = corrupt })
+
+-- address and corrupt, behind the message: channel C
+unfoldable pub release_at : ℕ → List ℕ → Option Beat
+release_at cycle words = do
+  message ← message_at words
+  address ← word_at message.1
+  a ← number_at 16 (2 ^ 64 - 1) address.0
+  corrupt ← bit_at address.1
+  Some (record { cycle = cycle; chan = chan.C; opcode = message.0.opcode; param = message.0.param; size = message.0.size; source = message.0.source; sink = 0; address = a; mask = 0; denied = false; corrupt = corrupt })
 
 -- sink, denied and corrupt, behind the message: channel D
 unfoldable pub reply_at : ℕ → List ℕ → Option Beat
@@ -52,11 +62,21 @@ reply_at cycle words = do
   corrupt ← bit_at denied.1
   Some (record { cycle = cycle; chan = chan.D; opcode = message.0.opcode; param = message.0.param; size = message.0.size; source = message.0.source; sink = s; address = 0; mask = 0; denied = d; corrupt = corrupt })
 
+-- the sink alone: channel E
+unfoldable pub grant_ack_at : ℕ → List ℕ → Option Beat
+grant_ack_at cycle words = do
+  s ← number_at 10 65535 words
+  Some (record { cycle = cycle; chan = chan.E; opcode = 0; param = 0; size = 0; source = 0; sink = s; address = 0; mask = 0; denied = false; corrupt = false })
+
 -- the fields of the channel that a word names
 abbrev pub fields_at : List ℕ → ℕ → List ℕ → Option Beat
 fields_at [] cycle words = None
 fields_at (b ∷ c ∷ name) cycle words = None
-fields_at (b ∷ []) cycle words = if b == 65 then access_at cycle words else (if b == 68 then reply_at cycle words else None)
+fields_at (b ∷ []) cycle words = if b == 65 then access_at chan.A cycle words
+    else (if b == 66 then access_at chan.B cycle words
+    else (if b == 67 then release_at cycle words
+    else (if b == 68 then reply_at cycle words
+    else (if b == 69 then grant_ack_at cycle words else None))))
 
 unfoldable pub beat_at : List ℕ → Option Beat
 beat_at line = do

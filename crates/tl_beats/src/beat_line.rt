@@ -1,8 +1,8 @@
 //! One beat line of a fragment's text.
 
 ghost use Rattle.std.specs.Prelude.{◌≡◌, ◌≤◌, IfSome, option_map};
-ghost use Rattle.tl_beats.specs.Beats.{IsWellFormed};
-ghost use Rattle.tl_beats.specs.Reading.{message_at, access_at, reply_at, beat_at};
+ghost use Rattle.tl_beats.specs.Beats.{IsWellFormed, HasMask};
+ghost use Rattle.tl_beats.specs.Reading.{message_at, access_at, release_at, reply_at, grant_ack_at, beat_at};
 
 use crate::Beat;
 use tl_tables::Chan;
@@ -47,10 +47,11 @@ fn message_of(words: &[u8]) -> Option<(Message, &[u8])>
     Some((message, words))
 }
 
-/// The beat of channel A that the words behind the channel spell.
-#[tactic(auto, unfolding(crate::specs::Reading::access_at))]
-fn access_of(cycle: u64, words: &[u8]) -> Option<Beat>
-    ensures exact { result ≡ access_at cycle words.now }
+/// The beat of channel A or B that the words behind the channel spell.
+#[tactic(auto, unfolding(crate::specs::Reading::access_at), using(crate::proofs::Lacking::access_lacks))]
+fn access_of(chan: Chan, cycle: u64, words: &[u8]) -> Option<Beat>
+    requires { HasMask chan }
+    ensures exact { result ≡ access_at chan cycle words.now }
     ensures formed { IfSome result IsWellFormed }
 {
     let (message, words) = message_of(words)?;
@@ -61,7 +62,7 @@ fn access_of(cycle: u64, words: &[u8]) -> Option<Beat>
     let corrupt = bit(corrupt)?;
     Some(Beat {
         cycle,
-        chan: Chan::A,
+        chan,
         opcode: message.opcode,
         param: message.param,
         size: message.size,
@@ -69,6 +70,31 @@ fn access_of(cycle: u64, words: &[u8]) -> Option<Beat>
         sink: 0,
         address,
         mask,
+        denied: false,
+        corrupt,
+    })
+}
+
+/// The beat of channel C that the words behind the channel spell.
+#[tactic(auto, unfolding(crate::specs::Reading::release_at))]
+fn release_of(cycle: u64, words: &[u8]) -> Option<Beat>
+    ensures exact { result ≡ release_at cycle words.now }
+    ensures formed { IfSome result IsWellFormed }
+{
+    let (message, words) = message_of(words)?;
+    let (address, corrupt) = word(words)?;
+    let address = hexadecimal(address)?;
+    let corrupt = bit(corrupt)?;
+    Some(Beat {
+        cycle,
+        chan: Chan::C,
+        opcode: message.opcode,
+        param: message.param,
+        size: message.size,
+        source: message.source,
+        sink: 0,
+        address,
+        mask: 0,
         denied: false,
         corrupt,
     })
@@ -101,7 +127,29 @@ fn reply_of(cycle: u64, words: &[u8]) -> Option<Beat>
     })
 }
 
-/// The beat that a line spells, on channel A or D; None where it spells none.
+/// The beat of channel E that the words behind the channel spell.
+#[tactic(auto, unfolding(crate::specs::Reading::grant_ack_at))]
+fn grant_ack_of(cycle: u64, words: &[u8]) -> Option<Beat>
+    ensures exact { result ≡ grant_ack_at cycle words.now }
+    ensures formed { IfSome result IsWellFormed }
+{
+    let sink = decimal(words, LAST_SOURCE)? as u16;
+    Some(Beat {
+        cycle,
+        chan: Chan::E,
+        opcode: 0,
+        param: 0,
+        size: 0,
+        source: 0,
+        sink,
+        address: 0,
+        mask: 0,
+        denied: false,
+        corrupt: false,
+    })
+}
+
+/// The beat that a line spells; None where it spells none.
 #[tactic(auto, unfolding(crate::specs::Reading::beat_at))]
 pub(crate) fn beat_of(line: &[u8]) -> Option<Beat>
     ensures exact { result ≡ beat_at line.now }
@@ -111,8 +159,11 @@ pub(crate) fn beat_of(line: &[u8]) -> Option<Beat>
     let cycle = decimal(cycle, u64::MAX)?;
     let (name, words) = word(words)?;
     match name {
-        [b'A'] => access_of(cycle, words),
+        [b'A'] => access_of(Chan::A, cycle, words),
+        [b'B'] => access_of(Chan::B, cycle, words),
+        [b'C'] => release_of(cycle, words),
         [b'D'] => reply_of(cycle, words),
+        [b'E'] => grant_ack_of(cycle, words),
         _ => None,
     }
 }

@@ -4,10 +4,12 @@
 mod beat_line;
 mod fault;
 mod fragment;
+mod laws;
 mod reading;
 
 pub use fault::FragmentFault;
 pub use fragment::Fragment;
+pub use laws::{texts_end_by_themselves, texts_tell_fragments_apart};
 pub use reading::{parse_fragment, parse_whole_fragment, read_fragment};
 use tl_tables::{Chan, Op, Rule};
 pub use tl_text::{ByteIn, ByteOut};

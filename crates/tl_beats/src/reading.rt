@@ -1,12 +1,13 @@
 //! The text of a whole fragment.
 
-ghost use Rattle.std.specs.Prelude.{◌≡◌, ◌↔◌, ◌+◌, ◌<◌, ◌≤◌, ◌^◌, [], drop, length, option_map, IfErr, IfOk, IfSome, OnOk};
+ghost use Rattle.std.specs.Prelude.{◌≡◌, ◌↔◌, ◌+◌, ◌<◌, ◌≤◌, ◌^◌, ◌++◌, ℕ, List, [], drop, take, length, option_map, Ok, IfErr, IfOk, IfSome, OnOk};
 ghost use Rattle.std.specs.Result.{IsErrOf};
 ghost use Rattle.tl_text.specs.Words.{lines_of, IsBehind};
 ghost use Rattle.tl_text.specs.Readings.{Gives};
 ghost use Rattle.tl_beats.specs.Beats.{IsWellFormed, rises};
 ghost use Rattle.tl_beats.specs.Faults.{is_memory, is_outside};
-ghost use Rattle.tl_beats.specs.Fragments.{AreBeats};
+ghost use Rattle.tl_beats.specs.Fragments.{AreBeats, Frag, IsFragment};
+ghost use Rattle.tl_beats.specs.Text.{fragment_text};
 ghost use Rattle.tl_beats.specs.Reading.{range_at, header_at, next_at, beats_from, fragment_behind, fragment_in, whole_fragment_in};
 
 use crate::Beat;
@@ -158,15 +159,27 @@ fn fragment_of(alloc: Global, bytes: &[u8]) -> Result<(Fragment, &[u8]), Fragmen
     Ok((fragment, rest))
 }
 
+/// The fragment whose text stands at the front, and the number of its bytes.
+fn front_of(alloc: Global, bytes: &[u8]) -> Result<(Fragment, usize), FragmentFault>
+    ensures exact { Gives is_memory (λ x. (x.0, lines_of (drop x.1 bytes.now))) result (fragment_in (lines_of bytes.now)) }
+    ensures used { IfOk result (λ x. x.1 ≤ length bytes.now) }
+{
+    let (fragment, rest) = fragment_of(alloc, bytes)?;
+    Ok((fragment, bytes.len() - rest.len()))
+}
+
 /// The fragment whose text stands at the front, and the number of its bytes. A refusal names the first faulty line and,
 /// in that line, the first cause in the order of its newline, header, fields, number of beats, range, order, memory.
 pub fn parse_fragment(alloc: Global, bytes: &[u8]) -> Result<(Fragment, usize), FragmentFault>
     // It is what reading the lines gives, and the bytes behind those used are the lines that reading leaves.
     ensures exact { Gives is_memory (λ x. (x.0, lines_of (drop x.1 bytes.now))) result (fragment_in (lines_of bytes.now)) }
     ensures used { IfOk result (λ x. x.1 ≤ length bytes.now) }
+    // The bytes used are the text of the fragment.
+    ensures found { IfOk result (λ x. take x.1 bytes.now ≡ fragment_text x.0) }
+    // Where the text of a fragment stands at the front, that fragment is found.
+    ensures only { (f : Frag) (rest : List ℕ) → IsFragment f → bytes.now ≡ fragment_text f ++ rest → Gives is_memory (λ x. x) result (Ok (f, length (fragment_text f))) }
 {
-    let (fragment, rest) = fragment_of(alloc, bytes)?;
-    Ok((fragment, bytes.len() - rest.len()))
+    front_of(alloc, bytes)
 }
 
 /// The fragment whose text is the whole text.
@@ -188,6 +201,9 @@ pub fn parse_whole_fragment(alloc: Global, bytes: &[u8]) -> Result<Fragment, Fra
     ensures exact { length bytes.now ≤ 8388608 → Gives is_memory (λ f. f) result (whole_fragment_in (lines_of bytes.now)) }
     ensures too_long { IsErrOf result FragmentFault.TooLong ↔ (8388608 < length bytes.now) }
     ensures inside { length bytes.now ≤ 8388608 → IfErr result (λ e. is_outside e ≡ is_memory e) }
+    // The bytes are the text of the fragment, and the text of a fragment is read as that fragment.
+    ensures found { IfOk result (λ f. bytes.now ≡ fragment_text f) }
+    ensures only { (f : Frag) → IsFragment f → length bytes.now ≤ 8388608 → bytes.now ≡ fragment_text f → Gives is_memory (λ f. f) result (Ok f) }
 {
     if bytes.len() as u64 > MOST_BYTES {
         return Err(FragmentFault::TooLong);
@@ -201,6 +217,9 @@ pub fn read_fragment<I: ByteIn>(alloc: Global, input: &mut I) -> Result<Fragment
     requires reads { I.read_count input.old < 2 ^ 63 }
     requires failures { I.failure_count input.old < 2 ^ 63 }
     ensures exact { IfSome (I.remaining input.old) (λ bytes. Gives is_outside (λ f. f) result (whole_fragment_in (lines_of bytes))) }
+    // The input was the text of the fragment, and the text of a fragment is read as that fragment.
+    ensures found { IfSome (I.remaining input.old) (λ bytes. IfOk result (λ f. bytes ≡ fragment_text f)) }
+    ensures only { IfSome (I.remaining input.old) (λ bytes. (f : Frag) → IsFragment f → bytes ≡ fragment_text f → Gives is_outside (λ f. f) result (Ok f)) }
     ensures too_long { IsErrOf result FragmentFault.TooLong → IfSome (I.remaining input.old) (λ bytes. 8388608 < length bytes) }
     ensures failed { IsErrOf result FragmentFault.ReadFault → I.failure_count input.old < I.failure_count input.new }
     ensures quiet { OnOk result (I.failure_count input.new ≡ I.failure_count input.old) }

@@ -98,7 +98,7 @@ cut_joins view stop bytes found e = stop_joins view (cut stop bytes).0 (cut stop
 -- ---- lines
 
 -- the lines by the first cut
-abbrev lines_by : List ℕ × Option (List ℕ) → List (List ℕ)
+abbrev pub lines_by : List ℕ × Option (List ℕ) → List (List ℕ)
 lines_by (line, None) = line ∷ []
 lines_by (line, Some rest) = line ∷ lines_of rest
 
@@ -107,7 +107,7 @@ lines_at true b bytes c e = refl
 lines_at false b bytes (line, None) e = ap (onto_first b) e
 lines_at false b bytes (line, Some rest) e = ap (onto_first b) e
 
-lines_cut : (bytes : List ℕ) → lines_of bytes ≡ lines_by (cut 10 bytes)
+pub lines_cut : (bytes : List ℕ) → lines_of bytes ≡ lines_by (cut 10 bytes)
 lines_cut [] = refl
 lines_cut (b ∷ bytes) = lines_at (eqb b 10) b bytes (cut 10 bytes) (lines_cut bytes)
 

@@ -1,3 +1,7 @@
 pub mod Inserting
 pub mod Declaring
 pub mod Lines
+pub mod LineLaws
+pub mod RuleLaws
+pub mod TopologyLaws
+pub mod TextLaws

@@ -1,10 +1,13 @@
 //! The text of a topology.
 
-ghost use Rattle.std.specs.Prelude.{◌≡◌, ◌≤◌, ◌<◌, length, option_map, IfSome, IfOk, drop};
+ghost use Rattle.std.specs.Prelude.{◌≡◌, ◌≤◌, ◌<◌, ◌++◌, ℕ, List, false, length, option_map, IfSome, IfOk, IfErr, take, drop};
 ghost use Rattle.tl_text.specs.Words.{lines_of, IsBehind};
 ghost use Rattle.tl_text.specs.Readings.{Gives};
 ghost use Rattle.tl_topology.specs.Faults.{is_memory};
 ghost use Rattle.tl_topology.specs.Reading.{level_at, manager_at, limits_at, link_at, declared, topology_in};
+ghost use Rattle.tl_topology.specs.Text.{Declaration, topology_text};
+ghost use Rattle.tl_topology.specs.Declarations.{IsDeclaredInOrder, topology_of};
+ghost use Rattle.tl_topology.specs.FirstFault.{IsFirstFault};
 
 use crate::fault::TopoFault;
 use crate::name::Name;
@@ -156,6 +159,12 @@ pub fn read_topo(alloc: Global, bytes: &[u8]) -> Result<(Topo, usize), TopoFault
     // It is what reading the lines gives, and the bytes behind those used are the lines that reading leaves.
     ensures exact { Gives is_memory (λ x. (x.0, lines_of (drop x.1 bytes.now))) result (topology_in (lines_of bytes.now)) }
     ensures used { IfOk result (λ x. x.1 ≤ length bytes.now) }
+    // What is read is the text of lawful declarations at the front, as the topology that they make.
+    ensures found { IfOk result (λ x. (declarations : List Declaration) × (IsDeclaredInOrder declarations × (x.0 ≡ topology_of declarations) × (take x.1 bytes.now ≡ topology_text declarations))) }
+    // Where the text of lawful declarations stands at the front, it is read, unless memory runs out.
+    ensures only { (declarations : List Declaration) (rest : List ℕ) → IsDeclaredInOrder declarations → bytes.now ≡ topology_text declarations ++ rest → Gives is_memory (λ x. x) result (Ok (topology_of declarations, length (topology_text declarations))) }
+    // A refusal is the first fault, unless memory ran out.
+    ensures first { IfErr result (λ fault. is_memory fault ≡ false → IsFirstFault (lines_of bytes.now) fault) }
 {
     let (topo, rest) = topology_of(alloc, bytes)?;
     Ok((topo, bytes.len() - rest.len()))

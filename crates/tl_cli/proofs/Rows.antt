@@ -1,43 +1,174 @@
 -- The rows of one beat more.
-use Rattle.std.proofs.Common.{◌≡◌, ℕ, zero, suc, ◌+◌, ◌<◌, List, [], ◌∷◌, ◌++◌, length, take, get_or, map, refl, sym, ap, ◌∙◌, append_assoc, append-nil, arith}
-use Rattle.std.specs.List.{All}
-use Rattle.std.proofs.lemmas.List.Elements.{All-append, All-nil}
+use Rattle.std.proofs.Common.{◌≡◌, ℕ, zero, suc, ◌+◌, ◌<◌, Bool, true, false, cond, List, [], ◌∷◌, ◌++◌, length, take, get_or, map, Option, Some, None, refl, sym, ap, subst, ◌∙◌, append_assoc, append-nil, arith}
+use Rattle.std.specs.Prelude.{filter, ◌==◌, ◌&&◌}
+use Rattle.std.specs.Option.{option_map_or}
+use Rattle.std.specs.List.{All, AllByRecursion}
+use Rattle.std.proofs.lemmas.List.Elements.{All-append, All-filter, All-nil, All-take, recursion_from_All}
+use Rattle.tl_tables.specs.declared.Chan.{Chan}
+use Rattle.tl_tables.specs.declared.Op.{Op}
 use Rattle.tl_tables.specs.declared.Rule.{Rule}
+use Rattle.tl_tables.specs.Messages.{same_chan}
 use Rattle.tl_topology.specs.declared.LinkDecl.{LinkDecl}
+use Rattle.tl_topology.specs.declared.Region.{Region}
 use Rattle.tl_beats.specs.declared.Beat.{Beat}
 use Rattle.tl_beats.specs.declared.Placed.{Placed}
 use Rattle.tl_beats.specs.declared.Row.{Row}
-use Rattle.tl_definitions.specs.Breaks.{row_of}
-use Rattle.tl_format_rules.specs.Checked.{checked_rules}
-use Rattle.tl_cli.specs.Once.{head_rows}
+use Rattle.tl_beats.specs.Beats.{IsWellFormed}
+use Rattle.tl_definitions.specs.Heads.{message_of, before_on, is_head, last_head}
+use Rattle.tl_definitions.specs.Positions.{placed_from}
+use Rattle.tl_definitions.specs.Rules.{Manager, format_rules}
+use Rattle.tl_definitions.specs.Breaks.{breaks_later, later_order, later_rules, head_rules, rules_at, row_of, rows_after}
+use Rattle.tl_definitions.proofs.Lists.{onto, kept_order, kept_of_both}
+use Rattle.tl_definitions.proofs.HeadLaws.{later_beats_have_a_head}
+use Rattle.tl_definitions.proofs.SanityLaws.{format_needs_no_past}
+use Rattle.tl_definitions.proofs.OneBeatLaws.{kept_rows}
+use Rattle.tl_messages.specs.declared.Place.{Place}
+use Rattle.tl_messages.specs.declared.Place.TheVariants as place
+use Rattle.tl_messages.specs.Bursts.{place_of}
+use Rattle.tl_format_rules.specs.Checked.{is_checked}
+use Rattle.tl_cli.specs.Once.{checked_rows}
 
-pub more_rows : (decl : LinkDecl) (link fragment line : ℕ) (beats : List Beat) (i : ℕ) (d : Beat) → i < length beats
-    → head_rows decl link fragment line (take (suc i) beats) ≡ head_rows decl link fragment line (take i beats)
-    ++ map (row_of (record { link = link; fragment = fragment; line = line + i; beat = get_or beats i d })) (checked_rules decl (get_or beats i d))
-more_rows decl link fragment line [] i d lt = absurd (omega arith)
-more_rows decl link fragment line (beat ∷ beats) zero d lt =
+abbrev pub placed : ℕ → ℕ → ℕ → Beat → Placed
+placed link fragment line beat = record { link = link; fragment = fragment; line = line; beat = beat }
+
+abbrev pub is_kept : Row → Bool
+is_kept row = is_checked row.rule
+
+-- ---- a list with one beat more
+
+onto_more : (before beats : List Placed) (p : Placed) → onto before (beats ++ p ∷ []) ≡ p ∷ onto before beats
+onto_more before [] p = refl
+onto_more before (q ∷ beats) p = onto_more (q ∷ before) beats p
+
+rows_more : (m : Manager) (before beats : List Placed) (p : Placed) → rows_after m before (beats ++ p ∷ []) ≡ rows_after m before beats ++ map (row_of p) (rules_at m (onto before beats) p)
+rows_more m before [] p = append-nil (map (row_of p) (rules_at m before p))
+rows_more m before (q ∷ beats) p =
+    let own : List Row = map (row_of q) (rules_at m before q) in
+    ap (λ (rows : List Row). own ++ rows) (rows_more m (q ∷ before) beats p) ∙ sym (append_assoc own (rows_after m (q ∷ before) beats) (map (row_of p) (rules_at m (onto (q ∷ before) beats) p)))
+
+placed_more : (link fragment line : ℕ) (beats : List Beat) (i : ℕ) (d : Beat) → i < length beats
+    → placed_from link fragment line (take (suc i) beats) ≡ placed_from link fragment line (take i beats) ++ placed link fragment (line + i) (get_or beats i d) ∷ []
+placed_more link fragment line [] i d lt = absurd (omega arith)
+placed_more link fragment line (beat ∷ beats) zero d lt =
     let here : line + 0 ≡ line = omega arith in
-    rw here (append-nil _)
-more_rows decl link fragment line (beat ∷ beats) (suc i) d lt =
-    let at : line + suc i ≡ (line + 1) + i = omega arith in
-    let first : List Row = map (row_of (record { link = link; fragment = fragment; line = line; beat = beat })) (checked_rules decl beat) in
-    rw at (ap (λ (rows : List Row). first ++ rows) (more_rows decl link fragment (line + 1) beats i d (omega (arith, lt))) ∙ sym (append_assoc first _ _))
+    rw here refl
+placed_more link fragment line (beat ∷ beats) (suc i) d lt =
+    let there : line + suc i ≡ (line + 1) + i = omega arith in
+    rw there (ap (λ (ps : List Placed). placed link fragment line beat ∷ ps) (placed_more link fragment (line + 1) beats i d (omega (arith, lt))))
 
-pub one_more : (decl : LinkDecl) (link fragment : ℕ) (beats : List Beat) (i : ℕ) (d : Beat) (rows new : List Row) (rules : List Rule) → i < length beats → rows ≡ head_rows decl link fragment 2 (take i beats)
-    → rules ≡ checked_rules decl (get_or beats i d) → new ≡ rows ++ map (row_of (record { link = link; fragment = fragment; line = i + 2; beat = get_or beats i d })) rules → new ≡ head_rows decl link fragment 2 (take (i + 1) beats)
-one_more decl link fragment beats i d rows new rules lt so_far found put =
+next_placed : (link fragment : ℕ) (beats : List Beat) (i : ℕ) (d : Beat) → i < length beats
+    → placed_from link fragment 2 (take (i + 1) beats) ≡ placed_from link fragment 2 (take i beats) ++ placed link fragment (i + 2) (get_or beats i d) ∷ []
+next_placed link fragment beats i d lt =
     let next : i + 1 ≡ suc i = omega arith in
-    let line : 2 + i ≡ i + 2 = omega arith in
-    rw (put, so_far, found, next, more_rows decl link fragment 2 beats i d lt, line) refl
+    let line : i + 2 ≡ 2 + i = omega arith in
+    rw (next, line) (placed_more link fragment 2 beats i d lt)
+
+-- The beats of the fragment before the one at an index, the newest first.
+abbrev pub so_far : ℕ → ℕ → List Beat → ℕ → List Placed
+so_far link fragment beats i = onto [] (placed_from link fragment 2 (take i beats))
+
+pub next_so_far : (link fragment : ℕ) (beats : List Beat) (i : ℕ) (d : Beat) → i < length beats
+    → so_far link fragment beats (i + 1) ≡ placed link fragment (i + 2) (get_or beats i d) ∷ so_far link fragment beats i
+next_so_far link fragment beats i d lt =
+    ap (onto []) (next_placed link fragment beats i d lt) ∙ onto_more [] (placed_from link fragment 2 (take i beats)) (placed link fragment (i + 2) (get_or beats i d))
+
+-- ---- the rules of a beat by its place
+
+-- What the code finds of a beat at this place.
+abbrev pub AreFound : LinkDecl → Beat → Place → List Rule → Type 0
+AreFound decl beat place.Head rules = (exponent : ℕ) (regions : List Region) → rules ≡ filter is_checked (format_rules exponent regions decl beat (message_of decl beat))
+AreFound decl beat (place.Later head) rules = rules ≡ later_rules decl beat head
+
+begins_here : (head : Bool) (last : Option Beat) → cond head place.Head (option_map_or place.Later last place.Head) ≡ place.Head → (head ≡ false → (beat : Beat) × (last ≡ Some beat)) → head ≡ true
+begins_here true last is known = refl
+begins_here false None is known = let some = known refl in let never : None ≡ Some some.0 = some.1 in cc
+begins_here false (Some beat) is known = cc
+
+belongs_to : (head : Bool) (last : Option Beat) (beat : Beat) → cond head place.Head (option_map_or place.Later last place.Head) ≡ place.Later beat → (head ≡ false) × (last ≡ Some beat)
+belongs_to true last beat is = cc
+belongs_to false None beat is = cc
+belongs_to false (Some found) beat is = let same : found ≡ beat = cc in (refl, ap Some same)
+
+kept_later : (decl : LinkDecl) (beat head : Beat) (found : Option Op)
+    → filter is_checked (option_map_or (λ o. filter (breaks_later decl o head beat) later_order) found []) ≡ option_map_or (λ o. filter (breaks_later decl o head beat) later_order) found []
+kept_later decl beat head None = refl
+kept_later decl beat head (Some o) = kept_order is_checked (breaks_later decl o head beat) later_order
+
+found_rules : (m : Manager) (before : List Placed) (p : Placed) (stands : Place) (rules : List Rule) → stands ≡ place_of (m.links p.link) (before_on p.link p.beat.chan before)
+    → AreFound (m.links p.link) p.beat stands rules → rules ≡ filter is_checked (rules_at m before p)
+found_rules m before p place.Head rules is found =
+    let decl : LinkDecl = m.links p.link in
+    let own : List Beat = before_on p.link p.beat.chan before in
+    let head : is_head decl own ≡ true = begins_here (is_head decl own) (last_head decl own) (sym is) (λ h. let known = later_beats_have_a_head decl own h in (known.0, known.1)) in
+    found m.exponent m.regions ∙ sym (format_needs_no_past is_checked m before p refl refl refl head)
+found_rules m before p (place.Later head) rules is found =
+    let decl : LinkDecl = m.links p.link in
+    let own : List Beat = before_on p.link p.beat.chan before in
+    let later = belongs_to (is_head decl own) (last_head decl own) head (sym is) in
+    let are : rules_at m before p ≡ later_rules decl p.beat head =
+    ap (λ b. cond b (head_rules m before p (message_of decl p.beat)) (option_map_or (later_rules decl p.beat) (last_head decl own) [])) later.0 ∙ ap (λ last. option_map_or (later_rules decl p.beat) last []) later.1 in
+    found ∙ sym (kept_later decl p.beat head (message_of decl head)) ∙ sym (ap (filter is_checked) are)
+
+pub one_more : (decl : LinkDecl) (link fragment : ℕ) (beats : List Beat) (i : ℕ) (d : Beat) (stands : Place) (rules : List Rule) (rows new : List Row) → i < length beats
+    → ((m : Manager) → m.links link ≡ decl → rows ≡ checked_rows m (placed_from link fragment 2 (take i beats)))
+    → stands ≡ place_of decl (before_on link (get_or beats i d).chan (so_far link fragment beats i)) → AreFound decl (get_or beats i d) stands rules
+    → new ≡ rows ++ map (row_of (placed link fragment (i + 2) (get_or beats i d))) rules
+    → (m : Manager) → m.links link ≡ decl → new ≡ checked_rows m (placed_from link fragment 2 (take (i + 1) beats))
+one_more decl link fragment beats i d stands rules rows new lt known is found put m same =
+    let past : List Placed = placed_from link fragment 2 (take i beats) in
+    let p : Placed = placed link fragment (i + 2) (get_or beats i d) in
+    let broken : List Rule = rules_at m (onto [] past) p in
+    let own : rules ≡ filter is_checked broken =
+    found_rules m (onto [] past) p stands rules (subst (λ x. stands ≡ place_of x (before_on link p.beat.chan (onto [] past))) (sym same) is) (subst (λ x. AreFound x p.beat stands rules) (sym same) found) in
+    let more : checked_rows m (past ++ p ∷ []) ≡ checked_rows m past ++ map (row_of p) (filter is_checked broken) =
+    ap (filter is_kept) (rows_more m [] past p) ∙ kept_of_both is_kept (rows_after m [] past) (map (row_of p) broken) ∙ ap (λ (xs : List Row). checked_rows m past ++ xs) (kept_rows is_checked p broken) in
+    put ∙ ap (λ (xs : List Row). xs ++ map (row_of p) rules) (known m same) ∙ ap (λ (xs : List Rule). checked_rows m past ++ map (row_of p) xs) own
+    ∙ sym more ∙ ap (checked_rows m) (sym (next_placed link fragment beats i d lt))
+
+-- ---- the head of a later beat is one of the beats before it
+
+on_channel : (P : Beat → Type 0) (link : ℕ) (chan : Chan) (before : List Placed) → AllByRecursion (λ p. P p.beat) before → AllByRecursion P (before_on link chan before)
+on_channel P link chan [] all = tt
+on_channel P link chan (p ∷ before) all =
+    elim ((p.link == link) && same_chan p.beat.chan chan) as (λ t. AllByRecursion P (cond t (p.beat ∷ before_on link chan before) (before_on link chan before))) [
+      | true ↦ (all.0, on_channel P link chan before all.1)
+      | false ↦ on_channel P link chan before all.1
+    ]
+
+last_of : (P : Beat → Type 0) (decl : LinkDecl) (before : List Beat) (head : Beat) → AllByRecursion P before → last_head decl before ≡ Some head → P head
+last_of P decl [] head all is = cc
+last_of P decl (beat ∷ before) head all is =
+    elim (is_head decl before) as (λ b. cond b (Some beat) (last_head decl before) ≡ Some head → P head) [
+      | true ↦ λ h. let same : beat ≡ head = cc in subst P same all.0
+      | false ↦ λ h. last_of P decl before head all.1 h
+    ] is
+
+all_onto : (P : Beat → Type 0) (link fragment line : ℕ) (before : List Placed) (beats : List Beat) → AllByRecursion (λ p. P p.beat) before → AllByRecursion P beats
+    → AllByRecursion (λ p. P p.beat) (onto before (placed_from link fragment line beats))
+all_onto P link fragment line before [] past all = past
+all_onto P link fragment line before (beat ∷ beats) past all = all_onto P link fragment (line + 1) (placed link fragment line beat ∷ before) beats (all.0, past) all.1
+
+pub head_is_formed : (decl : LinkDecl) (link fragment : ℕ) (beats : List Beat) (i : ℕ) (chan : Chan) (stands : Place) (head : Beat) → All IsWellFormed beats
+    → stands ≡ place_of decl (before_on link chan (so_far link fragment beats i)) → stands ≡ place.Later head → IsWellFormed head
+head_is_formed decl link fragment beats i chan stands head formed is later =
+    let own : List Beat = before_on link chan (so_far link fragment beats i) in
+    last_of IsWellFormed decl own head
+    (on_channel IsWellFormed link chan (so_far link fragment beats i)
+    (all_onto IsWellFormed link fragment 2 [] (take i beats) tt (recursion_from_All IsWellFormed (take i beats) (All-take IsWellFormed i beats formed))))
+    (belongs_to (is_head decl own) (last_head decl own) head (sym is ∙ later)).1
 
 -- ---- rows name their link
 
-rules_linked : (at : Placed) (rules : List Rule) (n : ℕ) → at.link < n → All (λ (row : Row). row.link < n) (map (row_of at) rules)
-rules_linked at [] n lt k d within = absurd (omega arith)
-rules_linked at (found ∷ rules) n lt zero d within = lt
-rules_linked at (found ∷ rules) n lt (suc k) d within = rules_linked at rules n lt k d (omega (arith, within))
+rules_linked : (p : Placed) (rules : List Rule) (n : ℕ) → p.link < n → All (λ (row : Row). row.link < n) (map (row_of p) rules)
+rules_linked p [] n lt k d within = absurd (omega arith)
+rules_linked p (found ∷ rules) n lt zero d within = lt
+rules_linked p (found ∷ rules) n lt (suc k) d within = rules_linked p rules n lt k d (omega (arith, within))
 
-pub heads_linked : (decl : LinkDecl) (link fragment line : ℕ) (beats : List Beat) (n : ℕ) → link < n → All (λ (row : Row). row.link < n) (head_rows decl link fragment line beats)
-heads_linked decl link fragment line [] n lt = All-nil (λ (row : Row). row.link < n)
-heads_linked decl link fragment line (beat ∷ beats) n lt =
-    All-append (λ (row : Row). row.link < n) _ _ (rules_linked (record { link = link; fragment = fragment; line = line; beat = beat }) (checked_rules decl beat) n lt) (heads_linked decl link fragment (line + 1) beats n lt)
+all_linked : (m : Manager) (link fragment line : ℕ) (before : List Placed) (beats : List Beat) (n : ℕ) → link < n → All (λ (row : Row). row.link < n) (rows_after m before (placed_from link fragment line beats))
+all_linked m link fragment line before [] n lt = All-nil (λ (row : Row). row.link < n)
+all_linked m link fragment line before (beat ∷ beats) n lt =
+    let p : Placed = placed link fragment line beat in
+    All-append (λ (row : Row). row.link < n) _ _ (rules_linked p (rules_at m before p) n lt) (all_linked m link fragment (line + 1) (p ∷ before) beats n lt)
+
+pub rows_linked : (m : Manager) (link fragment : ℕ) (beats : List Beat) (n : ℕ) → link < n → All (λ (row : Row). row.link < n) (checked_rows m (placed_from link fragment 2 beats))
+rows_linked m link fragment beats n lt = All-filter is_kept (λ (row : Row). row.link < n) _ (all_linked m link fragment 2 [] beats n lt)

@@ -1,43 +1,24 @@
 -- The report of one fragment.
-use Rattle.std.specs.Prelude.{◌≡◌, ℕ, ◌+◌, Bool, true, false, List, [], ◌∷◌, ◌++◌, map, Some, None, slice_index}
+use Rattle.std.specs.Prelude.{◌≡◌, ℕ, List, [], ◌∷◌, filter, map, Some, None, slice_index}
 use Rattle.std.specs.Option.{option_map_or}
-use Rattle.std.specs.List.{slice_get, All}
-use Rattle.tl_tables.specs.declared.Rule.{Rule}
-use Rattle.tl_tables.specs.declared.Rule.TheVariants as rule
+use Rattle.std.specs.List.{slice_get}
 use Rattle.tl_topology.specs.Topology.{Topology, number_of_name}
 use Rattle.tl_beats.specs.Fragments.{Frag}
 use Rattle.tl_cli.specs.Output.{report_bytes}
 use Rattle.tl_cli.specs.declared.once.OnceFault.{OnceFault}
 use Rattle.tl_cli.specs.declared.once.OnceFault.TheVariants as once
 use Rattle.tl_topology.specs.declared.LinkDecl.{LinkDecl}
-use Rattle.tl_beats.specs.declared.Beat.{Beat}
+use Rattle.tl_beats.specs.declared.Placed.{Placed}
 use Rattle.tl_beats.specs.declared.Row.{Row}
-use Rattle.tl_definitions.specs.Heads.{beat_count}
 use Rattle.tl_definitions.specs.Positions.{links_of, clients_of, placed_beats}
 use Rattle.tl_definitions.specs.Rules.{Manager}
-use Rattle.tl_definitions.specs.Breaks.{row_of}
+use Rattle.tl_definitions.specs.Breaks.{rows_in}
 use Rattle.tl_definitions.specs.Report.{Capture, IsReportOf}
-use Rattle.tl_format_rules.specs.Checked.{checked_rules}
+use Rattle.tl_format_rules.specs.Checked.{is_checked}
 
--- the rows of beats that are written from a line on, each read as a head
-abbrev pub head_rows : LinkDecl → ℕ → ℕ → ℕ → List Beat → List Row
-head_rows decl link fragment line [] = []
-head_rows decl link fragment line (beat ∷ beats) =
-    map (row_of (record { link = link; fragment = fragment; line = line; beat = beat })) (checked_rules decl beat) ++ head_rows decl link fragment (line + 1) beats
-
--- the rows of a fragment of a link of the topology
-abbrev pub rows_once : Topology → Frag → List Row
-rows_once topo f = option_map_or (λ link. option_map_or (λ p. head_rows p.1 link f.number 2 f.beats) (slice_get topo.links link) []) (number_of_name topo.links f.link) []
-
--- F1 to F6
-abbrev pub is_first : Rule → Bool
-is_first rule.F1 = true
-is_first rule.F2 = true
-is_first rule.F3 = true
-is_first rule.F4 = true
-is_first rule.F5 = true
-is_first rule.F6 = true
-is_first _ = false
+-- those rows of a manager's beats whose rules are checked
+abbrev pub checked_rows : Manager → List Placed → List Row
+checked_rows m beats = filter (λ row. is_checked row.rule) (rows_in m beats)
 
 -- the links of a topology, by number
 abbrev pub declared_links : Topology → List LinkDecl
@@ -59,11 +40,16 @@ capture_once topo link decl f = record {
   beats = placed_beats (record { link = link; number = f.number; first = f.first; last = f.last; beats = f.beats });
 }
 
--- Where no beat of the fragment, read as a head of its link, asks for further beats, the rows of the fragment are the report
--- of F1 to F6: a row is among them if and only if its beat breaks its rule, and they stand in order, each once.
+-- The rows of a fragment of a link of the topology: those that the definitions give for its beats, of the rules that are
+-- checked.
+abbrev pub rows_once : Topology → Frag → List Row
+rows_once topo f = option_map_or (λ link. option_map_or (λ decl. checked_rows (manager_of topo decl) (capture_once topo link decl f).beats) (slice_get (declared_links topo) link) []) (number_of_name topo.links f.link) []
+
+-- They are the report of these rules: a row is among them if and only if its beat breaks its rule, and they stand in order,
+-- each once.
 abbrev pub IsReportOnce : Topology → Frag → Type 0
 IsReportOnce topo f = (link : ℕ) (decl : LinkDecl) → number_of_name topo.links f.link ≡ Some link → slice_get (declared_links topo) link ≡ Some decl
-    → All (λ beat. beat_count decl beat ≡ 1) f.beats → IsReportOf is_first (capture_once topo link decl f ∷ []) (rows_once topo f)
+    → IsReportOf is_checked (capture_once topo link decl f ∷ []) (rows_once topo f)
 
 -- their report, version 1 after edit 1
 abbrev pub text_once : Topology → Frag → List ℕ

@@ -1,20 +1,23 @@
 //! The report of one fragment.
 
-ghost use Rattle.std.specs.Prelude.{◌≡◌, ◌<◌, ◌≤◌, ◌+◌, ◌^◌, ◌++◌, ◌↔◌, ℕ, None, IfOk, IfErr, OnOk, length, map, take};
+ghost use Rattle.std.specs.Prelude.{◌≡◌, ◌<◌, ◌≤◌, ◌+◌, ◌^◌, ◌++◌, ◌↔◌, ℕ, None, Some, IfOk, IfErr, OnOk, length, map, take};
 ghost use Rattle.std.specs.Result.{IsErrOf};
 ghost use Rattle.std.specs.Io.KnownBytes.{Appends};
 ghost use Rattle.std.specs.List.{All};
 ghost use Rattle.tl_topology.specs.Topology.{IsSound, number_of_name};
 ghost use Rattle.tl_beats.specs.Beats.{IsWellFormed};
 ghost use Rattle.tl_definitions.specs.Breaks.{row_of};
-ghost use Rattle.tl_cli.specs.Once.{head_rows, rows_once, text_once, IsReportOnce, CanFail};
+ghost use Rattle.tl_definitions.specs.Positions.{placed_from};
+ghost use Rattle.tl_definitions.specs.Rules.{Manager};
+ghost use Rattle.tl_cli.specs.Once.{checked_rows, rows_once, text_once, IsReportOnce, CanFail};
 ghost use Rattle.tl_cli.specs.declared.once.OnceFault.TheVariants.{Memory, WriteFault as Unwritten};
 
 use crate::report::{Report, report_text};
 use std::alloc::{AllocError, Global};
 use thiserror::Error;
 use tl_beats::{Beat, ByteOut, Fragment, Placed, Row};
-use tl_format_rules::check_head;
+use tl_format_rules::{check_head, check_later};
+use tl_messages::{BurstState, Place};
 use tl_tables::Rule;
 use tl_text::{WriteFault, write_all};
 use tl_topology::{LinkDecl, Topo};
@@ -69,7 +72,7 @@ fn add_rows(rows: &mut Vec<Row>, at: &Placed, rules: &[Rule]) -> Result<(), Allo
     Ok(())
 }
 
-/// The rows of beats, each read as a head.
+/// The rows of beats in their order: what each breaks of the checked rules by those before it.
 fn rows_of(
     alloc: Global,
     link: u16,
@@ -80,9 +83,11 @@ fn rows_of(
     requires decl { IsSound decl.now }
     requires beats { All IsWellFormed beats.now }
     requires few { length beats.now ≤ 65536 }
-    ensures { IfOk result (λ rows. rows.items ≡ head_rows decl.now link fragment 2 beats.now) }
+    // For each manager that has the link, these are its rows.
+    ensures { IfOk result (λ rows. (m : Manager) → m.links link ≡ decl.now → rows.items ≡ checked_rows m (placed_from link fragment 2 beats.now)) }
 {
     let mut rows = Vec::new(alloc);
+    let mut bursts = BurstState::new();
     for (index, beat) in beats.iter().enumerate() {
         let at = Placed {
             link,
@@ -90,14 +95,35 @@ fn rows_of(
             line: index as u32 + 2,
             beat: *beat,
         };
-        add_rows(&mut rows, &at, check_head(alloc, decl, beat).as_slice())?;
+        let rules = match bursts.step(decl, beat) {
+            Place::Head => check_head(alloc, decl, beat),
+            Place::Later(head) => check_later(alloc, decl, &head, beat),
+        };
+        add_rows(&mut rows, &at, rules.as_slice())?;
     }
     Ok(rows)
 }
 
+/// The rows of a fragment of the link with this number; they are its report.
+fn rows_once(
+    alloc: Global,
+    topo: &Topo,
+    link: u16,
+    fragment: &Fragment,
+) -> Result<Vec<Row>, AllocError>
+    requires within { link < length topo.now.links }
+    requires named { number_of_name topo.now.links fragment.now.link ≡ Some link }
+    ensures rows { IfOk result (λ rows. rows.items ≡ rows_once topo.now fragment.now) }
+    ensures links { IfOk result (λ rows. All (λ row. row.link < length topo.now.links) rows.items) }
+    ensures report { IsReportOnce topo.now fragment.now }
+{
+    let decl = topo.link(link).unwrap();
+    rows_of(alloc, link, decl, fragment.number(), fragment.beats())
+}
+
 /// Writes the report of a topology with this fragment alone, version 1 after edit 1, and answers the number of its rows:
-/// those of F1 to F6, each beat read as a head. Where no beat read so asks for further beats, they are the report of these
-/// rules. Refused with 21 where the topology has no such link.
+/// exactly those of F1 to F7, F9 and U1, with bursts told apart beat by beat. Refused with 21 where the topology has no such
+/// link.
 pub fn run_once<O: ByteOut>(
     alloc: Global,
     topo: &Topo,
@@ -124,8 +150,7 @@ pub fn run_once<O: ByteOut>(
             number: None,
         });
     };
-    let decl = topo.link(link).unwrap();
-    let rows = rows_of(alloc, link, decl, fragment.number(), fragment.beats())?;
+    let rows = rows_once(alloc, topo, link, &fragment)?;
     let report = Report::new(1, 1, rows);
     let text = report_text(alloc, topo, &report)?;
     write_all(out, text.as_bytes())?;

@@ -50,7 +50,7 @@ module _ {X : Type 0} (R : X → X → Ordering) (total : IsTotalOrder R) where
   ]
 
   -- A list in strict order after another, all of it above.
-  strict_both : (xs ys : List X) → IsStrictlySortedBy R xs → IsStrictlySortedBy R ys → ((x y : X) → Contains xs x → Contains ys y → R x y ≡ Less) → IsStrictlySortedBy R (xs ++ ys)
+  pub strict_both : (xs ys : List X) → IsStrictlySortedBy R xs → IsStrictlySortedBy R ys → ((x y : X) → Contains xs x → Contains ys y → R x y ≡ Less) → IsStrictlySortedBy R (xs ++ ys)
   unfolding IsStrictlySortedBy
   strict_both [] ys s t above = t
   strict_both (x ∷ xs) ys s t above = (
@@ -90,7 +90,7 @@ single_head : (m : Manager) (link : ℕ) (before : List Placed) (p : Placed) →
 single_head m link before p all same =
     one_beat_messages_are_heads (m.links p.link) (before_on p.link p.beat.chan before) (subst (λ k. AllByRecursion (λ beat. beat_count (m.links k) beat ≡ 1) (before_on k p.beat.chan before)) (sym same) (singles_on m link p.beat.chan before all))
 
-kept_rows : (kept : Rule → Bool) (p : Placed) (rules : List Rule) → filter (λ (r : Row). kept r.rule) (map (row_of p) rules) ≡ map (row_of p) (filter kept rules)
+pub kept_rows : (kept : Rule → Bool) (p : Placed) (rules : List Rule) → filter (λ (r : Row). kept r.rule) (map (row_of p) rules) ≡ map (row_of p) (filter kept rules)
 kept_rows kept p [] = refl
 kept_rows kept p (r ∷ rules) =
     elim (kept r) as (λ t. cond t (row_of p r ∷ filter (λ (x : Row). kept x.rule) (map (row_of p) rules)) (filter (λ (x : Row). kept x.rule) (map (row_of p) rules)) ≡ map (row_of p) (cond t (r ∷ filter kept rules) (filter kept rules))) [
@@ -109,7 +109,7 @@ module _ (kept : Rule → Bool) (m : Manager) (link : ℕ) (flow : list_any kept
       ∙ ap (λ rows. map (row_of p) (kept_format kept m p) ++ rows) (rows_are_apart (p ∷ before) beats (singles.0, all) singles.1)
 
 -- Rows in the order of a report.
-abbrev by_number : Rule → Rule → Ordering
+abbrev pub by_number : Rule → Rule → Ordering
 by_number = on rule_number nat_cmp
 
 then_less : (o p : Ordering) → o ≡ Less → ordering_then o p ≡ Less
@@ -141,7 +141,7 @@ rows_of_one p r s less =
     let cycle = tie_then_less (nat_cmp p.beat.cycle p.beat.cycle) (ordering_then (nat_cmp (chan_number p.beat.chan) (chan_number p.beat.chan)) last) (itself p.beat.cycle) channel in
     tie_then_less (nat_cmp p.link p.link) (ordering_then (nat_cmp p.beat.cycle p.beat.cycle) (ordering_then (nat_cmp (chan_number p.beat.chan) (chan_number p.beat.chan)) last)) (itself p.link) cycle
 
-rows_of_two : (p q : Placed) (r s : Rule) → p.link ≡ q.link → position_order p q ≡ Less → key_order (row_of p r) (row_of q s) ≡ Less
+pub rows_of_two : (p q : Placed) (r s : Rule) → p.link ≡ q.link → position_order p q ≡ Less → key_order (row_of p r) (row_of q s) ≡ Less
 rows_of_two p q r s same less =
     let link : nat_cmp p.link q.link ≡ Equal = ap (nat_cmp p.link) (sym same) ∙ itself p.link in
     let cycle : Ordering = nat_cmp p.beat.cycle q.beat.cycle in
@@ -149,7 +149,7 @@ rows_of_two p q r s same less =
     let last : Ordering = ordering_then (by_number r s) Equal in
     tie_then_less (nat_cmp p.link q.link) (ordering_then cycle (ordering_then channel last)) link (other_rest cycle channel (nat_cmp p.link q.link) last less link)
 
-rows_rise : (p : Placed) (rules : List Rule) → IsStrictlySortedBy by_number rules → IsStrictlySortedBy key_order (map (row_of p) rules)
+pub rows_rise : (p : Placed) (rules : List Rule) → IsStrictlySortedBy by_number rules → IsStrictlySortedBy key_order (map (row_of p) rules)
 unfolding IsStrictlySortedBy
 rows_rise p [] s = tt
 rows_rise p (r ∷ rules) s = (
@@ -163,7 +163,7 @@ format_order_rises : IsStrictlySortedBy by_number format_order
 unfolding IsStrictlySortedBy
 format_order_rises = ((refl, (refl, (refl, (refl, (refl, (refl, (refl, (refl, tt)))))))), ((refl, (refl, (refl, (refl, (refl, (refl, (refl, tt))))))), ((refl, (refl, (refl, (refl, (refl, (refl, tt)))))), ((refl, (refl, (refl, (refl, (refl, tt))))), ((refl, (refl, (refl, (refl, tt)))), ((refl, (refl, (refl, tt))), ((refl, (refl, tt)), ((refl, tt), (tt, tt)))))))))
 
-format_rises : (exponent : ℕ) (regions : List Region) (link : LinkDecl) (beat : Beat) (found : Option Op) → IsStrictlySortedBy by_number (format_rules exponent regions link beat found)
+pub format_rises : (exponent : ℕ) (regions : List Region) (link : LinkDecl) (beat : Beat) (found : Option Op) → IsStrictlySortedBy by_number (format_rules exponent regions link beat found)
 unfolding IsStrictlySortedBy
 format_rises exponent regions link beat None = (tt, tt)
 format_rises exponent regions link beat (Some o) = IsStrictlySortedBy-filter by_number (breaks_format exponent regions link o beat) format_order format_order_rises

@@ -5,8 +5,7 @@ use std::alloc::Global;
 use std::test::Fail;
 use tl_beats::parse_whole_fragment;
 use tl_cli::{OnceFault, Report, report_text, run_once};
-use tl_format_rules::{RuleList, check_head};
-use tl_tables::Rule;
+use tl_format_rules::RuleList;
 use tl_text::CountedWriter;
 use tl_topology::read_topo;
 
@@ -21,46 +20,79 @@ fn once(alloc: Global, link: &str, beats: &str) -> Result<(Vec<u8>, Result<u64, 
     Ok((written, answer))
 }
 
-/// Beat lines on `dma0` and the report of them.
-const REPORTS: [(&str, u64, &str); 6] = [
+/// A link, beat lines on it, and the report of them.
+const REPORTS: [(&str, &str, u64, &str); 10] = [
     // A stands before D in one cycle, so this is a Get with its reply.
     (
+        "dma0",
         "10 A 4 0 3 0 1000 ff 0\n10 D 1 0 3 0 0 0 0\n",
         0,
         "report 1 edit 1 rows 0\n",
     ),
     // All eight lanes are active at this size, so the mask is right where the address isn't.
     (
+        "dma0",
         "10 A 4 0 3 0 4 ff 0\n",
         1,
         "report 1 edit 1 rows 1\ndma0 1 2 F3\n",
     ),
     // An Acquire is no message of TL-UL, and breaks nothing else.
     (
+        "dma0",
         "10 A 6 0 6 0 1000 ff 0\n",
         1,
         "report 1 edit 1 rows 1\ndma0 1 2 F1\n",
     ),
-    ("", 0, "report 1 edit 1 rows 0\n"),
+    ("dma0", "", 0, "report 1 edit 1 rows 0\n"),
     // A partial put may leave out lanes, a full one may not.
     (
+        "dma0",
         "10 A 1 0 1 0 1006 80 0\n20 A 0 0 1 1 1006 80 0\n",
         1,
         "report 1 edit 1 rows 1\ndma0 1 3 F5\n",
     ),
     (
+        "dma0",
         "10 A 4 1 4 0 1001 0 1\n",
         5,
         "report 1 edit 1 rows 5\ndma0 1 2 F2\ndma0 1 2 F3\ndma0 1 2 F4\ndma0 1 2 F5\ndma0 1 2 F6\n",
+    ),
+    // Data of a reply is denied and not corrupt.
+    (
+        "dma0",
+        "5 A 4 0 3 0 1000 ff 0\n10 D 1 0 3 0 0 1 0\n",
+        1,
+        "report 1 edit 1 rows 1\ndma0 1 3 F7\n",
+    ),
+    // The link has the sources 0 and 1.
+    (
+        "dma0",
+        "10 A 4 0 3 2 1000 ff 0\n",
+        1,
+        "report 1 edit 1 rows 1\ndma0 1 2 F9\n",
+    ),
+    // A head above the link's largest size still has two beats, and the second is judged by it.
+    (
+        "dma0",
+        "10 A 0 0 4 0 1000 ff 0\n11 A 0 0 4 0 1000 ff 0\n",
+        1,
+        "report 1 edit 1 rows 1\ndma0 1 2 F4\n",
+    ),
+    // A later beat of another size is still a beat of its burst, and the beats after it are judged by the head.
+    (
+        "cpu0",
+        "20 A 0 0 6 0 1000 ff 0\n21 A 0 0 6 0 1000 ff 0\n22 A 0 0 5 0 1000 ff 0\n23 A 0 0 6 0 1000 ff 0\n24 A 0 0 6 0 1000 ff 0\n25 A 0 0 6 0 1000 ff 0\n26 A 0 0 6 0 1000 ff 0\n27 A 0 0 6 0 1000 ff 0\n30 D 0 0 6 0 0 0 0\n",
+        1,
+        "report 1 edit 1 rows 1\ncpu0 1 4 U1\n",
     ),
 ];
 
 #[test]
 fn captures_have_their_reports(rt: HostRuntime) -> Result<(), Fail> {
-    for (beats, rows, wanted) in REPORTS {
-        let (written, answer) = once(rt.alloc(), "dma0", beats)?;
-        assert!(rt; written.as_slice() == wanted.as_bytes(), "{beats}");
-        assert_eq!(rt; answer, Ok(rows), "{beats}");
+    for (link, beats, rows, wanted) in REPORTS {
+        let (written, answer) = once(rt.alloc(), link, beats)?;
+        assert!(rt; written.as_slice() == wanted.as_bytes(), "{link}: {beats}");
+        assert_eq!(rt; answer, Ok(rows), "{link}: {beats}");
     }
     Ok(())
 }

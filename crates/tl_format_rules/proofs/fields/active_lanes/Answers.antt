@@ -1,6 +1,6 @@
 use Rattle.std.proofs.Common.{◌≡◌, ◌*◌, ◌%◌, ◌^◌, ◌<◌, arith}
 use Rattle.tl_format_rules.proofs.Lanes.{lanes_coded, one_shifted}
-use Rattle.tl_format_rules.proofs.heads.active_lanes.Goals as goal
+use Rattle.tl_format_rules.proofs.fields.active_lanes.Goals as goal
 
 pub returns-else-bytes-from : goal.returns-else-bytes-from
 returns-else-bytes-from c =

@@ -1,0 +1,65 @@
+//! The rules of later beats of a burst.
+
+ghost use Rattle.std.specs.Prelude.{◌≡◌};
+ghost use Rattle.tl_topology.specs.Topology.{IsSound};
+ghost use Rattle.tl_beats.specs.Beats.{IsWellFormed};
+ghost use Rattle.tl_definitions.specs.Breaks.{is_alike, breaks_later, later_rules};
+
+use crate::fields::{is_denied_data, is_off_lanes};
+use crate::rule_list::RuleList;
+use std::alloc::Global;
+use tl_beats::Beat;
+use tl_tables::{Chan, Op, Rule, op_of};
+use tl_topology::LinkDecl;
+
+/// The rules of a later beat, in the order of reports.
+const LATER: [Rule; 3] = [Rule::F5, Rule::F7, Rule::U1];
+
+/// Whether a later beat has the fields that all beats of its burst share.
+fn is_alike(head: &Beat, beat: &Beat) -> bool
+    ensures { result ≡ is_alike head.now beat.now }
+{
+    let same_message = head.opcode == beat.opcode
+        && head.param == beat.param
+        && head.size == beat.size
+        && head.source == beat.source;
+    if head.chan == Chan::D {
+        same_message && head.sink == beat.sink && head.denied == beat.denied
+    } else {
+        same_message && head.address == beat.address
+    }
+}
+
+/// Whether a later beat of a head with this message breaks the rule.
+fn breaks(link: &LinkDecl, op: Op, head: &Beat, beat: &Beat, rule: Rule) -> bool
+    requires link { IsSound link.now }
+    requires head { IsWellFormed head.now }
+    ensures { result ≡ breaks_later link.now op head.now beat.now rule }
+{
+    match rule {
+        Rule::F5 => is_off_lanes(link, op, head, beat),
+        Rule::F7 => is_denied_data(op, head, beat),
+        Rule::U1 => !is_alike(head, beat),
+        _ => false,
+    }
+}
+
+/// The rules that a later beat breaks, by the head of its burst, in the order of reports, each once: F5 by the head's
+/// lanes and the beat's mask, F7 by the beat's own bits, U1 where it differs from the head in a field that all beats of a
+/// burst share. [TileLink 1.8: serialization, byte lanes, denied and corrupt]
+pub fn check_later(alloc: Global, link: &LinkDecl, head: &Beat, beat: &Beat) -> RuleList
+    requires link { IsSound link.now }
+    requires head { IsWellFormed head.now }
+    ensures { result ≡ later_rules link.now beat.now head.now }
+{
+    let mut rules = RuleList::new(alloc);
+    let Some(op) = op_of(link.level, head.chan, head.opcode) else {
+        return rules;
+    };
+    for rule in LATER {
+        if breaks(link, op, head, beat, rule) {
+            rules.push(rule);
+        }
+    }
+    rules
+}

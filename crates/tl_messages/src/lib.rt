@@ -1,0 +1,102 @@
+//! Heads and later beats: which beat of a link begins a message, and which belongs to an earlier one.
+#![tactic(auto)]
+
+ghost use Rattle.std.specs.Prelude.{◌≡◌, ◌≤◌, ℕ, List, [], ◌∷◌};
+ghost use Rattle.tl_topology.specs.Topology.{IsSound};
+ghost use Rattle.tl_beats.specs.Beats.{IsWellFormed};
+ghost use Rattle.tl_definitions.specs.Heads.{beat_count, left};
+
+use tl_beats::Beat;
+use tl_definitions::Unfinished;
+use tl_tables::{carries_data, chan_index, op_of};
+use tl_topology::LinkDecl;
+
+/// Where a beat stands in its message. [TileLink 1.8: serialization]
+#[derive(Clone, Copy, Debug, PartialEq, Eq)]
+pub enum Place {
+    /// The first beat of a message.
+    Head,
+    /// A later beat of the message that begins with this one.
+    Later(Beat),
+}
+
+/// How many beats a message has that begins with this beat, 1 to 32,768: with data as many as the link's width asks, else
+/// one. A beat whose opcode is no message of its channel and level has one. [TileLink 1.8: serialization]
+pub fn beat_count(link: &LinkDecl, beat: &Beat) -> u16
+    requires link { IsSound link.now }
+    requires beat { IsWellFormed beat.now }
+    ensures exact { result ≡ beat_count link.now beat.now }
+    ensures positive { 1 ≤ result }
+{
+    match op_of(link.level, beat.chan, beat.opcode) {
+        Some(op) if carries_data(op) => ((1u16 << beat.size) / u16::from(link.width)).max(1),
+        _ => 1,
+    }
+}
+
+/// The bursts of one link that still miss beats, one for each channel.
+#[derive(Clone, Copy, Debug, PartialEq, Eq)]
+pub struct BurstState {
+    slots: [Option<Unfinished>; 5],
+}
+
+impl BurstState {
+    ghost use Rattle.tl_topology.specs.declared.LinkDecl.{LinkDecl as AnyLink};
+    ghost use Rattle.tl_tables.specs.declared.Chan.{Chan as AnyChan};
+    ghost use Rattle.tl_beats.specs.declared.Placed.{Placed};
+    ghost use Rattle.tl_definitions.specs.Heads.{before_on};
+    ghost use Rattle.tl_messages.specs.Bursts.{place_of, place_in, slots_after, slot_at, StandsFor};
+
+    /// The state of a link without beats.
+    pub fn new() -> BurstState
+        ensures { (link : AnyLink) (number : ℕ) → StandsFor result link number [] }
+    {
+        BurstState { slots: [None; 5] }
+    }
+
+    /// What the next beat of the link is, a head or a later beat of its head, and the state with it.
+    #[tactic(auto, using(crate::proofs::BurstLaws::stands_law, crate::proofs::BurstLaws::place_stands))]
+    pub fn step(&mut self, link: &LinkDecl, beat: &Beat) -> Place
+        requires link { IsSound link.now }
+        requires beat { IsWellFormed beat.now }
+        // Where the state stands for beats, the answer is the definition's, and the state then stands for them and this one.
+        ensures place { (number : ℕ) (before : List Placed) → StandsFor self.old link.now number before
+            → result ≡ place_of link.now (before_on number beat.now.chan before) }
+        ensures stands { (number fragment line : ℕ) (before : List Placed) → StandsFor self.old link.now number before
+            → StandsFor self.new link.now number (record { link = number; fragment = fragment; line = line; beat = beat.now } ∷ before) }
+    {
+        self.advance(link, beat)
+    }
+
+    /// The same on what the state shows.
+    #[tactic(auto, using(crate::proofs::BurstLaws::slot_set))]
+    fn advance(&mut self, link: &LinkDecl, beat: &Beat) -> Place
+        requires link { IsSound link.now }
+        requires beat { IsWellFormed beat.now }
+        ensures place { result ≡ place_in (slot_at self.old beat.now.chan) }
+        ensures next { (chan : AnyChan) → slot_at self.new chan ≡ slots_after link.now beat.now (slot_at self.old) chan }
+    {
+        let slot = &mut self.slots[chan_index(beat.chan)];
+        match *slot {
+            Some(burst) => {
+                *slot = unfinished(burst.head, burst.missing.saturating_sub(1));
+                Place::Later(burst.head)
+            }
+            None => {
+                *slot = unfinished(*beat, beat_count(link, beat) - 1);
+                Place::Head
+            }
+        }
+    }
+}
+
+/// The burst of a head that misses so many beats, where it misses any.
+fn unfinished(head: Beat, missing: u16) -> Option<Unfinished>
+    ensures { result ≡ left head missing }
+{
+    if missing > 0 {
+        Some(Unfinished { head, missing })
+    } else {
+        None
+    }
+}

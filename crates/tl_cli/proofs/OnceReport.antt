@@ -18,6 +18,7 @@ use Rattle.tl_tables.specs.declared.Rule.{Rule}
 use Rattle.tl_tables.specs.Messages.{chan_number}
 use Rattle.tl_topology.specs.declared.LinkDecl.{LinkDecl}
 use Rattle.tl_topology.specs.Topology.{Topology, number_of_name}
+use Rattle.tl_topology.specs.Regions.{Area}
 use Rattle.tl_beats.specs.declared.Beat.{Beat}
 use Rattle.tl_beats.specs.declared.Placed.{Placed}
 use Rattle.tl_beats.specs.declared.Row.{Row}
@@ -32,8 +33,7 @@ use Rattle.tl_definitions.proofs.Lists.{contains_none, contains_here, contains_t
 use Rattle.tl_definitions.proofs.SanityLaws.{format_needs_no_past}
 use Rattle.tl_definitions.proofs.ReportLaws.{key_total, rows_are_breaks}
 use Rattle.tl_definitions.proofs.OneBeatLaws.{strict_both, kept_rows, by_number, rows_of_two, rows_rise, format_rises}
-use Rattle.tl_format_rules.specs.Checked.{is_checked}
-use Rattle.tl_cli.specs.Once.{checked_rows, rows_once, declared_links, manager_of, capture_once, IsReportOnce}
+use Rattle.tl_cli.specs.Once.{is_checked, Serves, checked_rows, rows_once, declared_links, manager_of, capture_once, IsReportOnce}
 use Rattle.tl_cli.proofs.Rows.{placed, is_kept, rows_linked}
 
 -- ---- the beats rise
@@ -164,11 +164,12 @@ module _ (topo : Topology) (f : Frag) (link : ℕ) (decl : LinkDecl) (named : nu
   link_is = get_or_from_slice_get (declared_links topo) link decl no_link is
 
   -- The rows that are found for every manager of the link.
-  pub found_once : {X E : Type 0} (made : Result X E) (items : X → List Row) (number : ℕ) (beats : List Beat) → number ≡ f.number → beats ≡ f.beats
-      → IfOk made (λ x. (m : Manager) → m.links link ≡ decl → items x ≡ checked_rows m (placed_from link number 2 beats)) → IfOk made (λ x. items x ≡ rows_once topo f)
-  found_once (Ok x) items number beats e g known =
-      known (manager_of topo decl) link_is ∙ ap (λ n. checked_rows (manager_of topo decl) (placed_from link n 2 beats)) e ∙ ap (λ bs. checked_rows (manager_of topo decl) (placed_from link f.number 2 bs)) g ∙ sym rows_of_link
-  found_once (Err fault) items number beats e g known = tt
+  pub found_once : {X E : Type 0} (made : Result X E) (items : X → List Row) (number exponent : ℕ) (regions : List Area) (beats : List Beat) → number ≡ f.number → beats ≡ f.beats
+      → (manager_of topo decl).exponent ≡ exponent → [] ≡ regions
+      → IfOk made (λ x. (m : Manager) → Serves m link decl exponent regions → items x ≡ checked_rows m (placed_from link number 2 beats)) → IfOk made (λ x. items x ≡ rows_once topo f)
+  found_once (Ok x) items number exponent regions beats e g block none known =
+      known (manager_of topo decl) (link_is, block, none) ∙ ap (λ n. checked_rows (manager_of topo decl) (placed_from link n 2 beats)) e ∙ ap (λ bs. checked_rows (manager_of topo decl) (placed_from link f.number 2 bs)) g ∙ sym rows_of_link
+  found_once (Err fault) items number exponent regions beats e g block none known = tt
 
   pub linked_once : {X E : Type 0} (made : Result X E) (items : X → List Row) (n : ℕ) → link < n → IfOk made (λ x. items x ≡ rows_once topo f) → IfOk made (λ x. All (λ (row : Row). row.link < n) (items x))
   linked_once (Ok x) items n lt known = subst (All (λ (row : Row). row.link < n)) (sym (known ∙ rows_of_link)) (rows_linked (manager_of topo decl) link f.number f.beats n lt)

@@ -9,14 +9,14 @@ use Rattle.tl_tables.specs.declared.Op.{Op}
 use Rattle.tl_tables.specs.declared.Rule.{Rule}
 use Rattle.tl_tables.specs.Messages.{same_chan}
 use Rattle.tl_topology.specs.declared.LinkDecl.{LinkDecl}
-use Rattle.tl_topology.specs.declared.Region.{Region}
+use Rattle.tl_topology.specs.Regions.{Area}
 use Rattle.tl_beats.specs.declared.Beat.{Beat}
 use Rattle.tl_beats.specs.declared.Placed.{Placed}
 use Rattle.tl_beats.specs.declared.Row.{Row}
 use Rattle.tl_beats.specs.Beats.{IsWellFormed}
 use Rattle.tl_definitions.specs.Heads.{message_of, before_on, is_head, last_head}
 use Rattle.tl_definitions.specs.Positions.{placed_from}
-use Rattle.tl_definitions.specs.Rules.{Manager, format_rules}
+use Rattle.tl_definitions.specs.Rules.{Manager, breaks_format, format_order, format_rules}
 use Rattle.tl_definitions.specs.Breaks.{breaks_later, later_order, later_rules, head_rules, rules_at, row_of, rows_after}
 use Rattle.tl_definitions.proofs.Lists.{onto, kept_order, kept_of_both}
 use Rattle.tl_definitions.proofs.HeadLaws.{later_beats_have_a_head}
@@ -25,8 +25,7 @@ use Rattle.tl_definitions.proofs.OneBeatLaws.{kept_rows}
 use Rattle.tl_messages.specs.declared.Place.{Place}
 use Rattle.tl_messages.specs.declared.Place.TheVariants as place
 use Rattle.tl_messages.specs.Bursts.{place_of}
-use Rattle.tl_format_rules.specs.Checked.{is_checked}
-use Rattle.tl_cli.specs.Once.{checked_rows}
+use Rattle.tl_cli.specs.Once.{is_checked, checked_rows, Serves}
 
 abbrev pub placed : ℕ → ℕ → ℕ → Beat → Placed
 placed link fragment line beat = record { link = link; fragment = fragment; line = line; beat = beat }
@@ -75,9 +74,9 @@ next_so_far link fragment beats i d lt =
 -- ---- the rules of a beat by its place
 
 -- What the code finds of a beat at this place.
-abbrev pub AreFound : LinkDecl → Beat → Place → List Rule → Type 0
-AreFound decl beat place.Head rules = (exponent : ℕ) (regions : List Region) → rules ≡ filter is_checked (format_rules exponent regions decl beat (message_of decl beat))
-AreFound decl beat (place.Later head) rules = rules ≡ later_rules decl beat head
+abbrev pub AreFound : LinkDecl → ℕ → List Area → Beat → Place → List Rule → Type 0
+AreFound decl exponent regions beat place.Head rules = rules ≡ format_rules exponent regions decl beat (message_of decl beat)
+AreFound decl exponent regions beat (place.Later head) rules = rules ≡ later_rules decl beat head
 
 begins_here : (head : Bool) (last : Option Beat) → cond head place.Head (option_map_or place.Later last place.Head) ≡ place.Head → (head ≡ false → (beat : Beat) × (last ≡ Some beat)) → head ≡ true
 begins_here true last is known = refl
@@ -94,13 +93,17 @@ kept_later : (decl : LinkDecl) (beat head : Beat) (found : Option Op)
 kept_later decl beat head None = refl
 kept_later decl beat head (Some o) = kept_order is_checked (breaks_later decl o head beat) later_order
 
+kept_format : (exponent : ℕ) (regions : List Area) (decl : LinkDecl) (beat : Beat) (found : Option Op) → filter is_checked (format_rules exponent regions decl beat found) ≡ format_rules exponent regions decl beat found
+kept_format exponent regions decl beat None = refl
+kept_format exponent regions decl beat (Some o) = kept_order is_checked (breaks_format exponent regions decl o beat) format_order
+
 found_rules : (m : Manager) (before : List Placed) (p : Placed) (stands : Place) (rules : List Rule) → stands ≡ place_of (m.links p.link) (before_on p.link p.beat.chan before)
-    → AreFound (m.links p.link) p.beat stands rules → rules ≡ filter is_checked (rules_at m before p)
+    → AreFound (m.links p.link) m.exponent m.regions p.beat stands rules → rules ≡ filter is_checked (rules_at m before p)
 found_rules m before p place.Head rules is found =
     let decl : LinkDecl = m.links p.link in
     let own : List Beat = before_on p.link p.beat.chan before in
     let head : is_head decl own ≡ true = begins_here (is_head decl own) (last_head decl own) (sym is) (λ h. let known = later_beats_have_a_head decl own h in (known.0, known.1)) in
-    found m.exponent m.regions ∙ sym (format_needs_no_past is_checked m before p refl refl refl head)
+    found ∙ sym (kept_format m.exponent m.regions decl p.beat (message_of decl p.beat)) ∙ sym (format_needs_no_past is_checked m before p refl refl refl head)
 found_rules m before p (place.Later head) rules is found =
     let decl : LinkDecl = m.links p.link in
     let own : List Beat = before_on p.link p.beat.chan before in
@@ -109,17 +112,18 @@ found_rules m before p (place.Later head) rules is found =
     ap (λ b. cond b (head_rules m before p (message_of decl p.beat)) (option_map_or (later_rules decl p.beat) (last_head decl own) [])) later.0 ∙ ap (λ last. option_map_or (later_rules decl p.beat) last []) later.1 in
     found ∙ sym (kept_later decl p.beat head (message_of decl head)) ∙ sym (ap (filter is_checked) are)
 
-pub one_more : (decl : LinkDecl) (link fragment : ℕ) (beats : List Beat) (i : ℕ) (d : Beat) (stands : Place) (rules : List Rule) (rows new : List Row) → i < length beats
-    → ((m : Manager) → m.links link ≡ decl → rows ≡ checked_rows m (placed_from link fragment 2 (take i beats)))
-    → stands ≡ place_of decl (before_on link (get_or beats i d).chan (so_far link fragment beats i)) → AreFound decl (get_or beats i d) stands rules
+pub one_more : (decl : LinkDecl) (exponent : ℕ) (regions : List Area) (link fragment : ℕ) (beats : List Beat) (i : ℕ) (d : Beat) (stands : Place) (rules : List Rule) (rows new : List Row) → i < length beats
+    → ((m : Manager) → Serves m link decl exponent regions → rows ≡ checked_rows m (placed_from link fragment 2 (take i beats)))
+    → stands ≡ place_of decl (before_on link (get_or beats i d).chan (so_far link fragment beats i)) → AreFound decl exponent regions (get_or beats i d) stands rules
     → new ≡ rows ++ map (row_of (placed link fragment (i + 2) (get_or beats i d))) rules
-    → (m : Manager) → m.links link ≡ decl → new ≡ checked_rows m (placed_from link fragment 2 (take (i + 1) beats))
-one_more decl link fragment beats i d stands rules rows new lt known is found put m same =
+    → (m : Manager) → Serves m link decl exponent regions → new ≡ checked_rows m (placed_from link fragment 2 (take (i + 1) beats))
+one_more decl exponent regions link fragment beats i d stands rules rows new lt known is found put m same =
     let past : List Placed = placed_from link fragment 2 (take i beats) in
     let p : Placed = placed link fragment (i + 2) (get_or beats i d) in
     let broken : List Rule = rules_at m (onto [] past) p in
     let own : rules ≡ filter is_checked broken =
-    found_rules m (onto [] past) p stands rules (subst (λ x. stands ≡ place_of x (before_on link p.beat.chan (onto [] past))) (sym same) is) (subst (λ x. AreFound x p.beat stands rules) (sym same) found) in
+    found_rules m (onto [] past) p stands rules (subst (λ x. stands ≡ place_of x (before_on link p.beat.chan (onto [] past))) (sym same.0) is)
+    (subst (λ x. AreFound x m.exponent m.regions p.beat stands rules) (sym same.0) (subst (λ x. AreFound decl x m.regions p.beat stands rules) (sym same.1) (subst (λ x. AreFound decl exponent x p.beat stands rules) (sym same.2) found))) in
     let more : checked_rows m (past ++ p ∷ []) ≡ checked_rows m past ++ map (row_of p) (filter is_checked broken) =
     ap (filter is_kept) (rows_more m [] past p) ∙ kept_of_both is_kept (rows_after m [] past) (map (row_of p) broken) ∙ ap (λ (xs : List Row). checked_rows m past ++ xs) (kept_rows is_checked p broken) in
     put ∙ ap (λ (xs : List Row). xs ++ map (row_of p) rules) (known m same) ∙ ap (λ (xs : List Rule). checked_rows m past ++ map (row_of p) xs) own

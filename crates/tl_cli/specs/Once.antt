@@ -1,7 +1,10 @@
 -- The report of one fragment.
-use Rattle.std.specs.Prelude.{◌≡◌, ℕ, List, [], ◌∷◌, filter, map, Some, None, slice_index}
+use Rattle.std.specs.Prelude.{◌≡◌, ℕ, Bool, true, false, List, [], ◌∷◌, filter, map, Some, None, slice_index}
 use Rattle.std.specs.Option.{option_map_or}
 use Rattle.std.specs.List.{slice_get}
+use Rattle.tl_tables.specs.declared.Rule.{Rule}
+use Rattle.tl_tables.specs.declared.Rule.TheVariants as rule
+use Rattle.tl_topology.specs.Regions.{Area}
 use Rattle.tl_topology.specs.Topology.{Topology, number_of_name}
 use Rattle.tl_beats.specs.Fragments.{Frag}
 use Rattle.tl_cli.specs.Output.{report_bytes}
@@ -14,7 +17,25 @@ use Rattle.tl_definitions.specs.Positions.{links_of, clients_of, placed_beats}
 use Rattle.tl_definitions.specs.Rules.{Manager}
 use Rattle.tl_definitions.specs.Breaks.{rows_in}
 use Rattle.tl_definitions.specs.Report.{Capture, IsReportOf}
-use Rattle.tl_format_rules.specs.Checked.{is_checked}
+
+-- The rules that are checked so far: the format rules and the burst rule.
+abbrev pub is_checked : Rule → Bool
+is_checked rule.F1 = true
+is_checked rule.F2 = true
+is_checked rule.F3 = true
+is_checked rule.F4 = true
+is_checked rule.F5 = true
+is_checked rule.F6 = true
+is_checked rule.F7 = true
+is_checked rule.F8 = true
+is_checked rule.F9 = true
+is_checked rule.F10 = true
+is_checked rule.U1 = true
+is_checked _ = false
+
+-- The manager has this link under this number, blocks of 2 ^ exponent bytes, and these regions.
+abbrev pub Serves : Manager → ℕ → LinkDecl → ℕ → List Area → Type 0
+Serves m link decl exponent regions = (m.links link ≡ decl) × (m.exponent ≡ exponent) × (m.regions ≡ regions)
 
 -- those rows of a manager's beats whose rules are checked
 abbrev pub checked_rows : Manager → List Placed → List Row

@@ -4,12 +4,13 @@ ghost use Rattle.std.specs.Prelude.{◌≡◌, ◌<◌, ◌≤◌, ◌+◌, ◌^
 ghost use Rattle.std.specs.Result.{IsErrOf};
 ghost use Rattle.std.specs.Io.KnownBytes.{Appends};
 ghost use Rattle.std.specs.List.{All};
+ghost use Rattle.tl_topology.specs.Regions.{areas_of};
 ghost use Rattle.tl_topology.specs.Topology.{IsSound, number_of_name};
 ghost use Rattle.tl_beats.specs.Beats.{IsWellFormed};
 ghost use Rattle.tl_definitions.specs.Breaks.{row_of};
 ghost use Rattle.tl_definitions.specs.Positions.{placed_from};
 ghost use Rattle.tl_definitions.specs.Rules.{Manager};
-ghost use Rattle.tl_cli.specs.Once.{checked_rows, rows_once, text_once, IsReportOnce, CanFail};
+ghost use Rattle.tl_cli.specs.Once.{checked_rows, rows_once, text_once, IsReportOnce, Serves, CanFail};
 ghost use Rattle.tl_cli.specs.declared.once.OnceFault.TheVariants.{Memory, WriteFault as Unwritten};
 
 use crate::report::{Report, report_text};
@@ -20,7 +21,7 @@ use tl_format_rules::{check_head, check_later};
 use tl_messages::{BurstState, Place};
 use tl_tables::Rule;
 use tl_text::{WriteFault, write_all};
-use tl_topology::{LinkDecl, Topo};
+use tl_topology::{LinkDecl, RegionMap, Topo};
 
 const UNKNOWN_LINK: u8 = 21;
 
@@ -77,14 +78,16 @@ fn rows_of(
     alloc: Global,
     link: u16,
     decl: &LinkDecl,
+    exponent: u8,
+    regions: &RegionMap,
     fragment: u32,
     beats: &[Beat],
 ) -> Result<Vec<Row>, AllocError>
     requires decl { IsSound decl.now }
     requires beats { All IsWellFormed beats.now }
     requires few { length beats.now ≤ 65536 }
-    // For each manager that has the link, these are its rows.
-    ensures { IfOk result (λ rows. (m : Manager) → m.links link ≡ decl.now → rows.items ≡ checked_rows m (placed_from link fragment 2 beats.now)) }
+    // For each manager that has the link, the block and the regions, these are its rows.
+    ensures { IfOk result (λ rows. (m : Manager) → Serves m link decl.now exponent (areas_of regions.now) → rows.items ≡ checked_rows m (placed_from link fragment 2 beats.now)) }
 {
     let mut rows = Vec::new(alloc);
     let mut bursts = BurstState::new();
@@ -96,7 +99,7 @@ fn rows_of(
             beat: *beat,
         };
         let rules = match bursts.step(decl, beat) {
-            Place::Head => check_head(alloc, decl, beat),
+            Place::Head => check_head(alloc, decl, exponent, regions, beat),
             Place::Later(head) => check_later(alloc, decl, &head, beat),
         };
         add_rows(&mut rows, &at, rules.as_slice())?;
@@ -118,11 +121,21 @@ fn rows_once(
     ensures report { IsReportOnce topo.now fragment.now }
 {
     let decl = topo.link(link).unwrap();
-    rows_of(alloc, link, decl, fragment.number(), fragment.beats())
+    let exponent = topo.block(decl.manager).unwrap();
+    let regions = RegionMap::new(alloc);
+    rows_of(
+        alloc,
+        link,
+        decl,
+        exponent,
+        &regions,
+        fragment.number(),
+        fragment.beats(),
+    )
 }
 
 /// Writes the report of a topology with this fragment alone, version 1 after edit 1, and answers the number of its rows:
-/// exactly those of F1 to F7, F9 and U1, with bursts told apart beat by beat. Refused with 21 where the topology has no such
+/// exactly those of F1 to F10 and U1, with bursts told apart beat by beat, and without regions. Refused with 21 where the topology has no such
 /// link.
 pub fn run_once<O: ByteOut>(
     alloc: Global,

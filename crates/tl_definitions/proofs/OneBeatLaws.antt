@@ -16,7 +16,7 @@ use Rattle.tl_tables.specs.declared.Op.{Op}
 use Rattle.tl_tables.specs.declared.Rule.{Rule}
 use Rattle.tl_tables.specs.Messages.{chan_number, same_chan}
 use Rattle.tl_topology.specs.declared.LinkDecl.{LinkDecl}
-use Rattle.tl_topology.specs.declared.Region.{Region}
+use Rattle.tl_topology.specs.Regions.{Area}
 use Rattle.tl_beats.specs.declared.Beat.{Beat}
 use Rattle.tl_beats.specs.declared.Placed.{Placed}
 use Rattle.tl_beats.specs.declared.Row.{Row}
@@ -25,7 +25,8 @@ use Rattle.tl_definitions.specs.Heads.{message_of, before_on, beat_count}
 use Rattle.tl_definitions.specs.Messages.{at_head}
 use Rattle.tl_definitions.specs.Rules.{Manager, breaks_format, format_order, format_rules, flow_order, permission_order, manager_order}
 use Rattle.tl_definitions.specs.Breaks.{Breaks, rules_at, row_of, rows_after, rows_in}
-use Rattle.tl_definitions.specs.Report.{rule_number, key_order, Capture, rows_apart, kept_format, RisingBeatsHaveOnePlace, OneBeatReports}
+use Rattle.tl_tables.specs.Rules.{rule_number}
+use Rattle.tl_definitions.specs.Report.{key_order, Capture, rows_apart, kept_format, RisingBeatsHaveOnePlace, OneBeatReports}
 use Rattle.tl_definitions.proofs.Lists.{contains_none, contains_here, contains_there, contains_cases, contains_kept, kept_from, mapped_from, all_of, all_by, kept_of_both}
 use Rattle.tl_definitions.proofs.HeadLaws.{one_beat_messages_are_heads}
 use Rattle.tl_definitions.proofs.SanityLaws.{format_needs_no_past}
@@ -163,7 +164,7 @@ format_order_rises : IsStrictlySortedBy by_number format_order
 unfolding IsStrictlySortedBy
 format_order_rises = ((refl, (refl, (refl, (refl, (refl, (refl, (refl, (refl, tt)))))))), ((refl, (refl, (refl, (refl, (refl, (refl, (refl, tt))))))), ((refl, (refl, (refl, (refl, (refl, (refl, tt)))))), ((refl, (refl, (refl, (refl, (refl, tt))))), ((refl, (refl, (refl, (refl, tt)))), ((refl, (refl, (refl, tt))), ((refl, (refl, tt)), ((refl, tt), (tt, tt)))))))))
 
-pub format_rises : (exponent : ℕ) (regions : List Region) (link : LinkDecl) (beat : Beat) (found : Option Op) → IsStrictlySortedBy by_number (format_rules exponent regions link beat found)
+pub format_rises : (exponent : ℕ) (regions : List Area) (link : LinkDecl) (beat : Beat) (found : Option Op) → IsStrictlySortedBy by_number (format_rules exponent regions link beat found)
 unfolding IsStrictlySortedBy
 format_rises exponent regions link beat None = (tt, tt)
 format_rises exponent regions link beat (Some o) = IsStrictlySortedBy-filter by_number (breaks_format exponent regions link o beat) format_order format_order_rises

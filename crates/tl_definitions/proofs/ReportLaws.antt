@@ -23,7 +23,8 @@ use Rattle.tl_beats.specs.declared.Row.{Row}
 use Rattle.tl_definitions.specs.Positions.{position_order}
 use Rattle.tl_definitions.specs.Rules.{Manager}
 use Rattle.tl_definitions.specs.Breaks.{rules_at, row_of, Breaks, rows_after, rows_in}
-use Rattle.tl_definitions.specs.Report.{rule_number, key_order, row_order, Capture, BreaksIn, all_rows, insert_row, sorted_rows, report_of, HasOnePlace, RowsAreBreaks, OneReport, SortedRowsAreTheReport, SortedRowsAreTheirReport, OneReportOf, PartsOfReports, ReportsAreComputed}
+use Rattle.tl_tables.specs.Rules.{rule_number}
+use Rattle.tl_definitions.specs.Report.{key_order, row_order, Capture, BreaksIn, all_rows, insert_row, sorted_rows, report_of, HasOnePlace, RowsAreBreaks, OneReport, SortedRowsAreTheReport, SortedRowsAreTheirReport, OneReportOf, PartsOfReports, ReportsAreComputed}
 use Rattle.tl_definitions.proofs.Lists.{contains_none, contains_here, contains_there, contains_cases, contains_mapped, mapped_from, contains_kept, kept_from, all_of, all_by, onto, onto_reverse}
 
 -- Rows and the rules that are broken.

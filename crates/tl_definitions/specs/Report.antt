@@ -7,49 +7,14 @@ use Rattle.std.specs.Option.{option_cmp}
 use Rattle.std.specs.List.{Contains, AllByRecursion, list_any}
 use Rattle.std.specs.List.Sorted.{IsStrictlySortedBy}
 use Rattle.tl_tables.specs.declared.Rule.{Rule}
-use Rattle.tl_tables.specs.declared.Rule.TheVariants as rule
 use Rattle.tl_tables.specs.Messages.{chan_number}
+use Rattle.tl_tables.specs.Rules.{rule_number}
 use Rattle.tl_beats.specs.declared.Placed.{Placed}
 use Rattle.tl_beats.specs.declared.Row.{Row}
 use Rattle.tl_definitions.specs.Positions.{position_order}
 use Rattle.tl_definitions.specs.Heads.{message_of, beat_count}
 use Rattle.tl_definitions.specs.Rules.{Manager, format_rules, flow_order, permission_order, manager_order}
 use Rattle.tl_definitions.specs.Breaks.{Breaks, row_of, rows_in}
-
--- The place of a rule among the rules, from 1.
-abbrev pub rule_number : Rule → ℕ
-rule_number rule.F1 = 1
-rule_number rule.F2 = 2
-rule_number rule.F3 = 3
-rule_number rule.F4 = 4
-rule_number rule.F5 = 5
-rule_number rule.F6 = 6
-rule_number rule.F7 = 7
-rule_number rule.F8 = 8
-rule_number rule.F9 = 9
-rule_number rule.F10 = 10
-rule_number rule.U1 = 11
-rule_number rule.S1 = 12
-rule_number rule.S2 = 13
-rule_number rule.S3 = 14
-rule_number rule.S4 = 15
-rule_number rule.S5 = 16
-rule_number rule.S6 = 17
-rule_number rule.S7 = 18
-rule_number rule.S8 = 19
-rule_number rule.S9 = 20
-rule_number rule.P1 = 21
-rule_number rule.P2 = 22
-rule_number rule.P3 = 23
-rule_number rule.P4 = 24
-rule_number rule.P5 = 25
-rule_number rule.P6 = 26
-rule_number rule.P7 = 27
-rule_number rule.P8 = 28
-rule_number rule.M1 = 29
-rule_number rule.M2 = 30
-rule_number rule.M3 = 31
-rule_number rule.X1 = 32
 
 -- By link number, cycle, channel, rule and monitor, a row of a manager's rule before those of monitors.
 abbrev pub key_order : Row → Row → Ordering

@@ -6,15 +6,13 @@ use Rattle.std.specs.List.{list_any}
 use Rattle.tl_tables.specs.declared.Chan.{Chan}
 use Rattle.tl_tables.specs.declared.Chan.TheVariants as chan
 use Rattle.tl_tables.specs.declared.Op.{Op}
-use Rattle.tl_tables.specs.declared.Op.TheVariants as op
 use Rattle.tl_tables.specs.declared.Perm.{Perm}
 use Rattle.tl_tables.specs.declared.Rule.{Rule}
 use Rattle.tl_tables.specs.declared.Rule.TheVariants as rule
 use Rattle.tl_tables.specs.Messages.{carries_data_of, replies_to, same_chan}
 use Rattle.tl_tables.specs.Params.{is_lawful, from_of, to_of, is_above}
 use Rattle.tl_topology.specs.declared.LinkDecl.{LinkDecl}
-use Rattle.tl_topology.specs.declared.Permits.{Permits}
-use Rattle.tl_topology.specs.declared.Region.{Region}
+use Rattle.tl_topology.specs.Regions.{Area, is_permitted}
 use Rattle.tl_beats.specs.declared.Beat.{Beat}
 use Rattle.tl_beats.specs.declared.Request.{Request}
 use Rattle.tl_definitions.specs.Kinds.{is_acquire, is_probe, is_probe_ack, is_release, is_grant, is_release_ack, is_grant_ack, is_put_partial, is_of_block, conflicts}
@@ -26,7 +24,7 @@ pub record Manager : Type 0 where
   pub links : Links
   pub clients : List ℕ
   pub exponent : ℕ
-  pub regions : List Region
+  pub regions : List Area
 
 -- Which channels have an address, a size (with a source and a corrupt bit), and a mask.
 abbrev pub has_address : Chan → Bool
@@ -53,26 +51,9 @@ active_lanes width size address =
 abbrev pub is_mask_ok : Op → ℕ → ℕ → Bool
 is_mask_ok o mask lanes = if is_put_partial o then bit_and mask lanes == mask else mask == lanes
 
--- The kind of access of a request on A is among those permitted. [own profile]
-abbrev pub permits_kind : Permits → Op → Bool
-permits_kind permits op.Get = permits.get
-permits_kind permits op.PutFullData = permits.put
-permits_kind permits op.PutPartialData = permits.put
-permits_kind permits op.ArithmeticData = permits.atomic
-permits_kind permits op.LogicalData = permits.atomic
-permits_kind permits op.Intent = permits.hint
-permits_kind permits op.AcquireBlock = permits.cache
-permits_kind permits op.AcquirePerm = permits.cache
-permits_kind permits _ = false
-
--- The region has all `count` bytes from the first on.
-abbrev pub holds : Region → ℕ → ℕ → Bool
-holds region first count = nat_le region.first first && nat_le (first + count) (region.last + 1)
-
--- Without regions all is permitted; else one region permits the kind and has all bytes.
-abbrev pub is_permitted : List Region → Op → Beat → Bool
-is_permitted [] o beat = true
-is_permitted regions o beat = list_any (λ region. permits_kind region.permits o && holds region (round_down beat.size beat.address) (2 ^ beat.size)) regions
+-- The bytes of a request, 2 ^ size from the address rounded down on, are permitted by one region. [own profile]
+abbrev pub is_in_region : List Area → Op → Beat → Bool
+is_in_region regions o beat = is_permitted regions o (round_down beat.size beat.address) (round_down beat.size beat.address + 2 ^ beat.size - 1)
 
 -- The lanes and the bits denied and corrupt of a beat, judged by what its head is.
 abbrev pub breaks_mask : LinkDecl → Op → Beat → Beat → Bool
@@ -91,7 +72,7 @@ breaks_denied o head beat = same_chan head.chan chan.D && carries_data_of o && b
 -- F8: a message of a block has another size than the manager's block. [transfer operations; own profile: one block size]
 -- F9: on A to D the source isn't below the link's number of sources. [source field]
 -- F10: on A the manager has regions, and none permits the kind of access to all its bytes. [own profile]
-abbrev pub breaks_format : ℕ → List Region → LinkDecl → Op → Beat → Rule → Bool
+abbrev pub breaks_format : ℕ → List Area → LinkDecl → Op → Beat → Rule → Bool
 breaks_format exponent regions link o beat rule.F2 = not (is_lawful o beat.param)
 breaks_format exponent regions link o beat rule.F3 = has_address beat.chan && not (beat.address % 2 ^ beat.size == 0)
 breaks_format exponent regions link o beat rule.F4 = has_size beat.chan && nat_lt link.max_size beat.size
@@ -100,7 +81,7 @@ breaks_format exponent regions link o beat rule.F6 = has_size beat.chan && beat.
 breaks_format exponent regions link o beat rule.F7 = breaks_denied o beat beat
 breaks_format exponent regions link o beat rule.F8 = is_of_block o && not (beat.size == exponent)
 breaks_format exponent regions link o beat rule.F9 = has_size beat.chan && not (nat_lt beat.source link.sources)
-breaks_format exponent regions link o beat rule.F10 = same_chan beat.chan chan.A && not (is_permitted regions o beat)
+breaks_format exponent regions link o beat rule.F10 = same_chan beat.chan chan.A && not (is_in_region regions o beat)
 breaks_format exponent regions link o beat _ = false
 
 abbrev pub format_order : List Rule
@@ -108,7 +89,7 @@ format_order = rule.F2 ∷ rule.F3 ∷ rule.F4 ∷ rule.F5 ∷ rule.F6 ∷ rule.
 
 -- The format rules that a head breaks: all of them need nothing but the beat.
 -- F1: the opcode is no message of its channel at the link's level. [message opcodes; own profile: which codes a level has]
-abbrev pub format_rules : ℕ → List Region → LinkDecl → Beat → Option Op → List Rule
+abbrev pub format_rules : ℕ → List Area → LinkDecl → Beat → Option Op → List Rule
 format_rules exponent regions link beat None = rule.F1 ∷ []
 format_rules exponent regions link beat (Some o) = filter (breaks_format exponent regions link o beat) format_order
 

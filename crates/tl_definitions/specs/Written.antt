@@ -5,7 +5,7 @@ use Rattle.tl_tables.specs.declared.Chan.TheVariants as chan
 use Rattle.tl_tables.specs.declared.Level.TheVariants as level
 use Rattle.tl_tables.specs.declared.Rule.{Rule}
 use Rattle.tl_topology.specs.declared.LinkDecl.{LinkDecl}
-use Rattle.tl_topology.specs.declared.Region.{Region}
+use Rattle.tl_topology.specs.Regions.{Area}
 use Rattle.tl_beats.specs.declared.Beat.{Beat}
 use Rattle.tl_beats.specs.declared.Placed.{Placed}
 use Rattle.tl_beats.specs.declared.Row.{Row}
@@ -70,18 +70,18 @@ uncached = record { name = []; manager = 0; level = level.Ul; width = 8; max_siz
 abbrev pub decls : List LinkDecl
 decls = cached ∷ cached ∷ uncached ∷ []
 
-abbrev pub with_regions : List Region → Manager
+abbrev pub with_regions : List Area → Manager
 with_regions regions = record { links = links_of decls; clients = clients_of 0 decls; exponent = 6; regions = regions }
 
 -- From 0 to 1fff for get, from 8000 to 8fff for put.
-abbrev pub gets : Region
+abbrev pub gets : Area
 gets = record { first = 0; last = 0x1fff; permits = record { get = true; put = false; atomic = false; hint = false; cache = false } }
 
-abbrev pub puts : Region
+abbrev pub puts : Area
 puts = record { first = 0x8000; last = 0x8fff; permits = record { get = false; put = true; atomic = false; hint = false; cache = false } }
 
 -- From 0 to 1fff for one kind of access alone, or for several: get, put, atomic, hint, cache.
-abbrev pub only : Bool → Bool → Bool → Bool → Bool → Region
+abbrev pub only : Bool → Bool → Bool → Bool → Bool → Area
 only get put atomic hint cache = record { first = 0; last = 0x1fff; permits = record { get = get; put = put; atomic = atomic; hint = hint; cache = cache } }
 
 -- Each message of channel A, four on each of two links: Get, both Puts, Arithmetic; Logical, Intent, both Acquires.
@@ -104,7 +104,7 @@ abbrev pub line_of : Row → Line
 line_of r = row r.link r.fragment r.line r.rule
 
 -- What the report of these beats says, with these regions.
-abbrev pub found_with : List Region → List Placed → List Line
+abbrev pub found_with : List Area → List Placed → List Line
 found_with regions beats = map line_of (report_of (record { manager = with_regions regions; beats = in_order beats } ∷ []))
 
 abbrev pub found : List Placed → List Line

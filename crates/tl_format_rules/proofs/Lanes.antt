@@ -39,3 +39,30 @@ lanes_coded width size address some lanes small lt =
     let one : 1 * 2 ^ size % 18446744073709551616 ≡ 2 ^ size = one_shifted size (omega arith) in
     let two : 1 * 2 ^ (2 ^ size) % 18446744073709551616 ≡ 2 ^ (2 ^ size) = one_shifted (2 ^ size) (omega (arith, lt, lanes)) in
     rw (one, two) (lanes_shifted width size address some lanes small lt)
+
+-- the last byte of a message lies below the end of all addresses
+last_fits : (size address : ℕ) → size ≤ 15 → address < 18446744073709551616 → address / 2 ^ size * 2 ^ size + (2 ^ size - 1) < 18446744073709551616
+last_fits zero address few lt = omega (arith, few, lt)
+last_fits (suc zero) address few lt = omega (arith, few, lt)
+last_fits (suc (suc zero)) address few lt = omega (arith, few, lt)
+last_fits (suc (suc (suc zero))) address few lt = omega (arith, few, lt)
+last_fits (suc (suc (suc (suc zero)))) address few lt = omega (arith, few, lt)
+last_fits (suc (suc (suc (suc (suc zero))))) address few lt = omega (arith, few, lt)
+last_fits (suc (suc (suc (suc (suc (suc zero)))))) address few lt = omega (arith, few, lt)
+last_fits (suc (suc (suc (suc (suc (suc (suc zero))))))) address few lt = omega (arith, few, lt)
+last_fits (suc (suc (suc (suc (suc (suc (suc (suc zero)))))))) address few lt = omega (arith, few, lt)
+last_fits (suc (suc (suc (suc (suc (suc (suc (suc (suc zero))))))))) address few lt = omega (arith, few, lt)
+last_fits (suc (suc (suc (suc (suc (suc (suc (suc (suc (suc zero)))))))))) address few lt = omega (arith, few, lt)
+last_fits (suc (suc (suc (suc (suc (suc (suc (suc (suc (suc (suc zero))))))))))) address few lt = omega (arith, few, lt)
+last_fits (suc (suc (suc (suc (suc (suc (suc (suc (suc (suc (suc (suc zero)))))))))))) address few lt = omega (arith, few, lt)
+last_fits (suc (suc (suc (suc (suc (suc (suc (suc (suc (suc (suc (suc (suc zero))))))))))))) address few lt = omega (arith, few, lt)
+last_fits (suc (suc (suc (suc (suc (suc (suc (suc (suc (suc (suc (suc (suc (suc zero)))))))))))))) address few lt = omega (arith, few, lt)
+last_fits (suc (suc (suc (suc (suc (suc (suc (suc (suc (suc (suc (suc (suc (suc (suc zero))))))))))))))) address few lt = omega (arith, few, lt)
+last_fits (suc (suc (suc (suc (suc (suc (suc (suc (suc (suc (suc (suc (suc (suc (suc (suc size)))))))))))))))) address few lt = absurd (omega (arith, few))
+
+-- as the code writes it
+pub last_coded : (size address : ℕ) → size ≤ 15 → address < 18446744073709551616
+    → address / (1 * 2 ^ size % 18446744073709551616) * (1 * 2 ^ size % 18446744073709551616) + (1 * 2 ^ size % 18446744073709551616 - 1) < 18446744073709551616
+last_coded size address few lt =
+    let one : 1 * 2 ^ size % 18446744073709551616 ≡ 2 ^ size = one_shifted size (omega (arith, few)) in
+    rw one (last_fits size address few lt)

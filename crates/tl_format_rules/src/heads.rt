@@ -1,36 +1,76 @@
 //! The format rules of heads.
 
-ghost use Rattle.std.specs.Prelude.{◌≡◌, ◌≤◌, ℕ, List, filter};
-ghost use Rattle.tl_topology.specs.declared.Region.{Region};
-ghost use Rattle.tl_definitions.specs.Heads.{message_of};
-ghost use Rattle.tl_definitions.specs.Rules.{format_rules};
+ghost use Rattle.std.specs.Prelude.{◌≡◌, ◌≤◌};
+ghost use Rattle.tl_topology.specs.Regions.{areas_of};
 ghost use Rattle.tl_topology.specs.Topology.{IsSound};
 ghost use Rattle.tl_beats.specs.Beats.{IsWellFormed};
-ghost use Rattle.tl_format_rules.specs.Checked.{breaks_checked, checked_rules, is_checked};
+ghost use Rattle.tl_definitions.specs.Kinds.{is_of_block};
+ghost use Rattle.tl_definitions.specs.Heads.{message_of};
+ghost use Rattle.tl_definitions.specs.Rules.{breaks_format, format_rules, is_in_region};
 
 use crate::fields::{is_denied_data, is_off_lanes};
 use crate::rule_list::RuleList;
 use std::alloc::Global;
 use tl_beats::Beat;
 use tl_tables::{Chan, Op, Rule, carries_data, op_of, param_ok};
-use tl_topology::LinkDecl;
+use tl_topology::{LinkDecl, RegionMap};
 
 /// The rules of a head with a message, in the order of reports.
-const CHECKED: [Rule; 7] = [
+const FORMAT_ORDER: [Rule; 9] = [
     Rule::F2,
     Rule::F3,
     Rule::F4,
     Rule::F5,
     Rule::F6,
     Rule::F7,
+    Rule::F8,
     Rule::F9,
+    Rule::F10,
 ];
 
-/// Whether a head with this message breaks one of the checked rules.
-fn breaks(link: &LinkDecl, op: Op, beat: &Beat, rule: Rule) -> bool
+/// Whether the message is always of one whole block.
+fn is_of_block(op: Op) -> bool
+    ensures { result ≡ is_of_block op }
+{
+    matches!(
+        op,
+        Op::AcquireBlock
+            | Op::AcquirePerm
+            | Op::ProbeBlock
+            | Op::ProbePerm
+            | Op::ProbeAck
+            | Op::ProbeAckData
+            | Op::Release
+            | Op::ReleaseData
+            | Op::Grant
+            | Op::GrantData
+            | Op::ReleaseAck
+    )
+}
+
+/// Whether one region permits the request to all its bytes, or there are no regions.
+#[tactic(auto, using(crate::proofs::Lanes::last_coded))]
+fn is_in_region(regions: &RegionMap, op: Op, beat: &Beat) -> bool
+    requires { IsWellFormed beat.now }
+    ensures { result ≡ is_in_region (areas_of regions.now) op beat.now }
+{
+    let bytes: u64 = 1 << beat.size;
+    let first = beat.address / bytes * bytes;
+    regions.permits(op, first, first + (bytes - 1))
+}
+
+/// Whether a head with this message breaks a format rule of its manager, whose blocks have `2^exponent` bytes.
+fn breaks(
+    link: &LinkDecl,
+    exponent: u8,
+    regions: &RegionMap,
+    op: Op,
+    beat: &Beat,
+    rule: Rule,
+) -> bool
     requires link { IsSound link.now }
     requires beat { IsWellFormed beat.now }
-    ensures { result ≡ breaks_checked link.now op beat.now rule }
+    ensures { result ≡ breaks_format exponent (areas_of regions.now) link.now op beat.now rule }
 {
     let has_address = matches!(beat.chan, Chan::A | Chan::B | Chan::C);
     let has_size = beat.chan != Chan::E;
@@ -41,28 +81,34 @@ fn breaks(link: &LinkDecl, op: Op, beat: &Beat, rule: Rule) -> bool
         Rule::F5 => is_off_lanes(link, op, beat, beat),
         Rule::F6 => has_size && beat.corrupt && !carries_data(op),
         Rule::F7 => is_denied_data(op, beat, beat),
+        Rule::F8 => is_of_block(op) && beat.size != exponent,
         Rule::F9 => has_size && u32::from(beat.source) >= link.sources,
+        Rule::F10 => beat.chan == Chan::A && !is_in_region(regions, op, beat),
         _ => false,
     }
 }
 
-/// Those of F1 to F7 and F9 that a head breaks, in the order of reports, each once. A head whose opcode is no message breaks F1
-/// and no other rule. [TileLink 1.8: message fields, alignment, byte lanes, corrupt]
-#[tactic(auto, unfolding(crate::specs::Checked::checked_rules))]
-pub fn check_head(alloc: Global, link: &LinkDecl, beat: &Beat) -> RuleList
+/// The format rules F1 to F10 that a head breaks, in the order of reports, each once. `exponent` is that of the manager's
+/// block, and `regions` are the manager's. A head whose opcode is no message breaks F1 and no other rule.
+/// [TileLink 1.8: message fields, alignment, byte lanes, corrupt and denied, transfer operations]
+pub fn check_head(
+    alloc: Global,
+    link: &LinkDecl,
+    exponent: u8,
+    regions: &RegionMap,
+    beat: &Beat,
+) -> RuleList
     requires link { IsSound link.now }
     requires beat { IsWellFormed beat.now }
-    ensures exact { result ≡ checked_rules link.now beat.now }
-    // In the words of the definitions: its format rules, but for F8 and F10.
-    ensures defined { (exponent : ℕ) (regions : List Region) → result ≡ filter is_checked (format_rules exponent regions link.now beat.now (message_of link.now beat.now)) }
+    ensures { result ≡ format_rules exponent (areas_of regions.now) link.now beat.now (message_of link.now beat.now) }
 {
     let mut rules = RuleList::new(alloc);
     let Some(op) = op_of(link.level, beat.chan, beat.opcode) else {
         rules.push(Rule::F1);
         return rules;
     };
-    for rule in CHECKED {
-        if breaks(link, op, beat, rule) {
+    for rule in FORMAT_ORDER {
+        if breaks(link, exponent, regions, op, beat, rule) {
             rules.push(rule);
         }
     }

@@ -21,7 +21,7 @@ fn once(alloc: Global, link: &str, beats: &str) -> Result<(Vec<u8>, Result<u64, 
 }
 
 /// A link, beat lines on it, and the report of them.
-const REPORTS: [(&str, &str, u64, &str); 10] = [
+const REPORTS: [(&str, &str, u64, &str); 11] = [
     // A stands before D in one cycle, so this is a Get with its reply.
     (
         "dma0",
@@ -77,6 +77,13 @@ const REPORTS: [(&str, &str, u64, &str); 10] = [
         "10 A 0 0 4 0 1000 ff 0\n11 A 0 0 4 0 1000 ff 0\n",
         1,
         "report 1 edit 1 rows 1\ndma0 1 2 F4\n",
+    ),
+    // Each message of a block that has half of its size.
+    (
+        "cpu0",
+        "10 A 7 0 5 0 1000 ff 0\n15 B 6 2 5 0 1000 ff 0\n16 C 4 5 5 0 1000 0\n17 C 6 5 5 1 2000 0\n20 D 4 1 5 0 1 0 0\n21 E 1\n22 D 6 0 5 1 0 0 0\n",
+        6,
+        "report 1 edit 1 rows 6\ncpu0 1 2 F8\ncpu0 1 3 F8\ncpu0 1 4 F8\ncpu0 1 5 F8\ncpu0 1 6 F8\ncpu0 1 8 F8\n",
     ),
     // A later beat of another size is still a beat of its burst, and the beats after it are judged by the head.
     (

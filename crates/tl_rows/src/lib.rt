@@ -8,6 +8,8 @@ mod fragments;
 #[cfg(test)]
 mod program;
 #[cfg(test)]
+mod regions;
+#[cfg(test)]
 mod streams;
 #[cfg(test)]
 mod tables;

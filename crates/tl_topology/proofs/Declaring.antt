@@ -49,13 +49,17 @@ link_declared topo managers es new link n manager decl was unused is fits room p
     subst (λ (t : Topology). with_link t link n ≡ Ok (record { managers = managers; links = new })) was
     (declares_link managers es new link n manager decl (subst (λ (t : Topology). is_named t link.name ≡ false) (sym was) unused) (subst (λ (t : Topology). manager_named t link.manager ≡ Some manager) (sym was) is) fits room put)
 
+one_managed : (count : ℕ) (name : List ℕ) (decl : LinkDecl) → decl.manager < count → All (λ (p : List ℕ × LinkDecl). p.1.manager < count) ((name, decl) ∷ [])
+one_managed count name decl managed zero d lt = managed
+one_managed count name decl managed (suc k) d lt = absurd (omega arith)
+
 one_sound : (name : List ℕ) (decl : LinkDecl) → IsSound decl → All (λ (p : List ℕ × LinkDecl). IsSound p.1) ((name, decl) ∷ [])
 one_sound name decl sound zero d lt = sound
 one_sound name decl sound (suc k) d lt = absurd (omega arith)
 
 pub topology_with_link : (managers : List (List ℕ × ℕ)) (es new : List (List ℕ × LinkDecl)) (topo : Topology) (name : List ℕ) (decl : LinkDecl) → record { managers = managers; links = es } ≡ topo → is_named topo name ≡ false
-    → IsTopology (record { managers = managers; links = es }) → IsSound decl → length es < 64 → new ≡ insert_entry bytes_eq es name decl → IsTopology (record { managers = managers; links = new })
-topology_with_link managers es new topo name decl was unused kept sound room put =
+    → IsTopology (record { managers = managers; links = es }) → IsSound decl → decl.manager < length managers → length es < 64 → new ≡ insert_entry bytes_eq es name decl → IsTopology (record { managers = managers; links = new })
+topology_with_link managers es new topo name decl was unused kept sound managed room put =
     let here : is_named (record { managers = managers; links = es }) name ≡ false = subst (λ (t : Topology). is_named t name ≡ false) (sym was) unused in
     let one_more : length (es ++ (name, decl) ∷ []) ≤ 64 = omega (arith, length-append es ((name, decl) ∷ [])) in
     let last : new ≡ es ++ (name, decl) ∷ [] = put ∙ insert_new bytes_eq name decl es (unnamed _ _ here).1 in
@@ -63,4 +67,5 @@ topology_with_link managers es new topo name decl was unused kept sound room put
       managers = kept.managers;
       links = one_more;
       sound = All-append (λ (p : List ℕ × LinkDecl). IsSound p.1) es ((name, decl) ∷ []) kept.sound (one_sound name decl sound);
+      managed = All-append (λ (p : List ℕ × LinkDecl). p.1.manager < length managers) es ((name, decl) ∷ []) kept.managed (one_managed (length managers) name decl managed);
     })

@@ -5,3 +5,4 @@ pub mod LineLaws
 pub mod RuleLaws
 pub mod TopologyLaws
 pub mod TextLaws
+pub mod RegionLaws

@@ -1,7 +1,9 @@
--- The refusals of a topology text, by number.
+-- The refusals of a topology text and of a map of regions, by number.
 use Rattle.std.specs.Prelude.{ℕ, Bool, true, false, Option, Some, None}
 use Rattle.tl_topology.specs.declared.fault.TopoFault.{TopoFault}
 use Rattle.tl_topology.specs.declared.fault.TopoFault.TheVariants as fault
+use Rattle.tl_topology.specs.declared.region.RegionFault.{RegionFault}
+use Rattle.tl_topology.specs.declared.region.RegionFault.TheVariants as region
 
 abbrev pub code_of : TopoFault → ℕ
 code_of (fault.BadLine line) = 1
@@ -29,3 +31,14 @@ number_of fault.Memory = None
 abbrev pub is_memory : TopoFault → Bool
 is_memory fault.Memory = true
 is_memory _ = false
+
+abbrev pub region_code_of : RegionFault → ℕ
+region_code_of (region.RegionOverlap number) = 7
+region_code_of region.NoRegion = 8
+region_code_of region.Memory = 20
+
+-- the region that is printed with it
+abbrev pub region_number_of : RegionFault → Option ℕ
+region_number_of (region.RegionOverlap number) = Some number
+region_number_of region.NoRegion = None
+region_number_of region.Memory = None

@@ -1,4 +1,5 @@
 pub mod Naming
+pub mod Regions
 pub mod Faults
 pub mod Topology
 pub mod Reading

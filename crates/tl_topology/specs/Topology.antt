@@ -1,5 +1,5 @@
 -- A topology as plain data, and what may be declared behind it.
-use Rattle.std.specs.Prelude.{ℕ, ◌≤◌, ◌^◌, ◌==◌, ◌&&◌, ◌||◌, Bool, List, [], ◌∷◌, length, map, Option, is_some, nat_le, position}
+use Rattle.std.specs.Prelude.{ℕ, ◌<◌, ◌≤◌, ◌^◌, ◌==◌, ◌&&◌, ◌||◌, Bool, List, [], ◌∷◌, length, map, Option, is_some, nat_le, position}
 use Rattle.std.specs.List.{All}
 use Rattle.std.specs.Str.{bytes_eq}
 use Rattle.tl_tables.specs.declared.Level.{Level}
@@ -49,3 +49,4 @@ pub record IsTopology (topo : Topology) : Type 0 where
   pub managers : length topo.managers ≤ 64
   pub links : length topo.links ≤ 64
   pub sound : All (λ p. IsSound p.1) topo.links
+  pub managed : All (λ p. p.1.manager < length topo.managers) topo.links

@@ -1,15 +1,17 @@
-//! Names, links, managers and the text of a topology.
+//! Names, links, managers and the text of a topology; the regions of a manager.
 #![tactic(auto)]
 
 mod fault;
 pub mod laws;
 mod name;
 mod reading;
+mod region;
 mod topo;
 
 pub use fault::TopoFault;
 pub use name::Name;
 pub use reading::read_topo;
+pub use region::{Permits, Region, RegionFault, RegionMap};
 use tl_tables::Level;
 pub use topo::Topo;
 
@@ -26,28 +28,4 @@ pub struct LinkDecl {
     pub max_size: u8,
     /// How many sources it has, 1 to 65,536; they are numbered from 0.
     pub sources: u32,
-}
-
-/// The kinds of access that a region permits.
-#[derive(Clone, Copy, Debug, PartialEq, Eq)]
-pub struct Permits {
-    /// Get.
-    pub get: bool,
-    /// PutFullData and PutPartialData.
-    pub put: bool,
-    /// ArithmeticData and LogicalData.
-    pub atomic: bool,
-    /// Intent.
-    pub hint: bool,
-    /// AcquireBlock and AcquirePerm.
-    pub cache: bool,
-}
-
-/// The bytes of a manager from a first to a last address, with the kinds of access that they permit.
-#[derive(Clone, Copy, Debug, PartialEq, Eq)]
-pub struct Region {
-    pub first: u64,
-    /// The last address of the region, not below the first.
-    pub last: u64,
-    pub permits: Permits,
 }

@@ -88,6 +88,7 @@ fn fitted(link: &LinkLine, manager: u16, exponent: u8, line: u64) -> Result<Link
     requires sources { link.now.sources ≤ 65536 }
     ensures exact { result ≡ fitted link.now manager exponent line }
     ensures sound { IfOk result IsSound }
+    ensures managed { IfOk result (λ decl. decl.manager ≡ manager) }
 {
     if exponent_of(link.width).is_none() || link.width > MOST_LANES {
         return Err(TopoFault::BadWidth(line));
@@ -137,6 +138,7 @@ impl Topo {
         ensures exact { option_copied result ≡ option_map (λ p. p.1) (slice_get self.now.links number) }
         ensures found { IsSome result ↔ (number < length self.now.links) }
         ensures sound { IfSome result (λ link. IsSound link.now) }
+        ensures managed { IfSome result (λ link. link.now.manager < length self.now.managers) }
     {
         self.links.get_index(number as usize).map(|(_, link)| link)
     }
@@ -167,7 +169,8 @@ impl Topo {
     /// The number of a manager and the exponent of its block.
     #[tactic(auto, unfolding(crate::specs::Reading::manager_named))]
     fn manager_named(&self, name: &Name) -> Option<(u16, u8)>
-        ensures { result ≡ manager_named self.now name.now }
+        ensures exact { result ≡ manager_named self.now name.now }
+        ensures within { IfSome result (λ x. x.0 < length self.now.managers) }
     {
         let number = self.manager_of(name)?;
         let exponent = self.block(number)?;

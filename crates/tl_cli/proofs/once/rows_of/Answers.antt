@@ -1,4 +1,5 @@
 use Rattle.std.proofs.Common.{◌+◌, List, sym, subst, ◌∙◌}
+use Rattle.tl_topology.specs.Regions.{areas_of}
 use Rattle.tl_beats.specs.declared.Placed.{Placed}
 use Rattle.tl_messages.specs.declared.Place.TheVariants as place
 use Rattle.tl_messages.specs.Bursts.{StandsFor}
@@ -20,9 +21,9 @@ loop-index-preserved c =
       stands = subst (StandsFor c.step.new.self c.args.decl.now c.args.link) (sym (next_so_far c.args.link c.args.fragment c.args.beats.now c.loop-index.index _ c.loop-index-test.true))
           (c.step.ensures.stands c.args.link c.args.fragment (c.loop-index.index + 2) past c.loop-index.invariant.stands);
       found = elim c.match-step.branch [
-        | in-Head w ↦ one_more c.args.decl.now c.args.link c.args.fragment c.args.beats.now c.loop-index.index _ place.Head c.as_slice.result.now c.loop-index.rows.items c.add_rows.new.rows.items c.loop-index-test.true
-            c.loop-index.invariant.found (sym w.in-Head.is ∙ known) (λ exponent regions. c.as_slice.ensures ∙ w.rules-is ∙ w.check_head-rules.ensures.defined exponent regions) c.in_ok-add_rows.ensures
-        | in-Later w ↦ one_more c.args.decl.now c.args.link c.args.fragment c.args.beats.now c.loop-index.index _ (place.Later w.in-Later.head) c.as_slice.result.now c.loop-index.rows.items c.add_rows.new.rows.items c.loop-index-test.true
+        | in-Head w ↦ one_more c.args.decl.now c.args.exponent (areas_of c.args.regions.now) c.args.link c.args.fragment c.args.beats.now c.loop-index.index _ place.Head c.as_slice.result.now c.loop-index.rows.items c.add_rows.new.rows.items c.loop-index-test.true
+            c.loop-index.invariant.found (sym w.in-Head.is ∙ known) (c.as_slice.ensures ∙ w.rules-is ∙ w.check_head-rules.ensures) c.in_ok-add_rows.ensures
+        | in-Later w ↦ one_more c.args.decl.now c.args.exponent (areas_of c.args.regions.now) c.args.link c.args.fragment c.args.beats.now c.loop-index.index _ (place.Later w.in-Later.head) c.as_slice.result.now c.loop-index.rows.items c.add_rows.new.rows.items c.loop-index-test.true
             c.loop-index.invariant.found (sym w.in-Later.is ∙ known) (c.as_slice.ensures ∙ w.rules-is ∙ w.check_later-rules.ensures) c.in_ok-add_rows.ensures
       ];
     }

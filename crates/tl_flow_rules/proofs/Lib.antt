@@ -1,0 +1,5 @@
+pub mod Tables
+pub mod FlowLaws
+pub mod SameLaws
+pub mod OpenLaws
+pub mod LinkLaws

@@ -3,3 +3,4 @@ pub mod FlowLaws
 pub mod SameLaws
 pub mod OpenLaws
 pub mod LinkLaws
+pub mod StandLaws

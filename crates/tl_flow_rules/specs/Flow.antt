@@ -7,9 +7,11 @@ use Rattle.tl_tables.specs.declared.Chan.TheVariants as chan
 use Rattle.tl_tables.specs.declared.Op.{Op}
 use Rattle.tl_tables.specs.declared.Rule.{Rule}
 use Rattle.tl_beats.specs.declared.Beat.{Beat}
+use Rattle.tl_beats.specs.declared.Placed.{Placed}
 use Rattle.tl_beats.specs.declared.Request.{Request}
+use Rattle.tl_topology.specs.declared.LinkDecl.{LinkDecl}
 use Rattle.tl_definitions.specs.Kinds.{is_release, is_grant, is_release_ack, is_grant_ack}
-use Rattle.tl_definitions.specs.Messages.{Message, request_of, message_at}
+use Rattle.tl_definitions.specs.Messages.{Links, Message, request_of, message_at, messages_on}
 use Rattle.tl_definitions.specs.Past.{FlowPast, flow_past}
 use Rattle.tl_definitions.specs.Rules.{breaks_flow, flow_order}
 use Rattle.tl_definitions.specs.Judging.{request_in, message_in, flow_after}
@@ -62,3 +64,7 @@ can_carry chan.C o = not (is_release_ack o || is_grant o || is_grant_ack o)
 can_carry chan.D o = not (is_release o || is_grant_ack o)
 can_carry chan.E o = is_grant_ack o && not (is_release o || is_release_ack o || is_grant o)
 can_carry _ o = not (is_release o || is_release_ack o || is_grant o || is_grant_ack o)
+
+-- The state shows what the messages of the link with this number leave that these beats of its manager have.
+abbrev pub StandsOn : FlowState → LinkDecl → ℕ → List Placed → Type 0
+StandsOn state decl number before = (links : Links) → links number ≡ decl → StandsFor state (messages_on links number before)

@@ -8,12 +8,14 @@ use Rattle.tl_beats.specs.declared.Placed.{Placed}
 use Rattle.tl_beats.specs.declared.Request.{Request}
 use Rattle.tl_definitions.specs.Kinds.{is_release_ack}
 use Rattle.tl_definitions.specs.OpenTables.{Table, IsOpen}
-use Rattle.tl_definitions.specs.Heads.{message_of}
+use Rattle.tl_definitions.specs.Heads.{message_of, before_on, is_head}
 use Rattle.tl_definitions.specs.Messages.{Links, Message, is_reply, request_of, message_at, with_message, at_head, messages_on}
 use Rattle.tl_definitions.specs.Past.{flow_past}
 use Rattle.tl_definitions.specs.Rules.{Manager, flow_order, permission_order, manager_order, format_rules}
 use Rattle.tl_definitions.specs.Breaks.{rules_at}
-use Rattle.tl_flow_rules.specs.Flow.{flow_rules}
+use Rattle.tl_topology.specs.declared.LinkDecl.{LinkDecl}
+use Rattle.tl_flow_rules.specs.declared.flow.FlowState.{FlowState}
+use Rattle.tl_flow_rules.specs.Flow.{StandsFor, StandsOn, flow_rules}
 
 -- The message closes the entry of this key.
 abbrev pub closes_key : Table Message → ℕ → Message → Bool
@@ -57,3 +59,22 @@ FlowNeedsItsLinkAlone = (kept : Rule → Bool) (m : Manager) (before : List Plac
     → list_any kept permission_order ≡ false → list_any kept manager_order ≡ false → filter kept flow_order ≡ flow_order → at_head m.links before p ≡ true
     → filter kept (rules_at m before p) ≡ filter kept (format_rules m.exponent m.regions (m.links p.link) p.beat (message_of (m.links p.link) p.beat))
     ++ flow_rules (messages_on m.links p.link before) p.beat (message_of (m.links p.link) p.beat)
+
+-- A state that stands for the messages of a link, and then for that of one more head, stands for the beats with the head.
+abbrev pub HeadsAreStoodFor : Type 0
+HeadsAreStoodFor = (old new : FlowState) (decl : LinkDecl) (before : List Placed) (p : Placed) → is_head decl (before_on p.link p.beat.chan before) ≡ true
+    → StandsOn old decl p.link before → ((messages : List Message) → StandsFor old messages → StandsFor new (with_message p.beat (message_of decl p.beat) messages))
+    → StandsOn new decl p.link (p ∷ before)
+
+-- One that is not stepped by a later beat stands for the beats with that.
+abbrev pub LaterBeatsAreStoodFor : Type 0
+LaterBeatsAreStoodFor = (state : FlowState) (decl : LinkDecl) (before : List Placed) (p : Placed) → is_head decl (before_on p.link p.beat.chan before) ≡ false
+    → StandsOn state decl p.link before → StandsOn state decl p.link (p ∷ before)
+
+-- What is found of a head by a state that stands for its link is, with its format rules, what it breaks of the rules kept.
+abbrev pub FoundRulesAreBroken : Type 0
+FoundRulesAreBroken = (kept : Rule → Bool) (m : Manager) (before : List Placed) (p : Placed) (state : FlowState) (found : List Rule)
+    → list_any kept permission_order ≡ false → list_any kept manager_order ≡ false → filter kept flow_order ≡ flow_order → at_head m.links before p ≡ true
+    → StandsOn state (m.links p.link) p.link before
+    → ((messages : List Message) → StandsFor state messages → found ≡ flow_rules messages p.beat (message_of (m.links p.link) p.beat))
+    → filter kept (rules_at m before p) ≡ filter kept (format_rules m.exponent m.regions (m.links p.link) p.beat (message_of (m.links p.link) p.beat)) ++ found

@@ -1,6 +1,6 @@
 //! What the definitions of open requests mean, and how the messages of a link follow from its beats.
 
-ghost use Rattle.tl_flow_rules.specs.Laws.{OpenedStaysOpen, RepliesCloseTheirSource, RepliesLeaveNoRequest, HeadsAreMessages, LaterBeatsAreNoMessages, LinksAreApart, FlowNeedsItsLinkAlone};
+ghost use Rattle.tl_flow_rules.specs.Laws.{OpenedStaysOpen, RepliesCloseTheirSource, RepliesLeaveNoRequest, HeadsAreMessages, LaterBeatsAreNoMessages, LinksAreApart, FlowNeedsItsLinkAlone, HeadsAreStoodFor, LaterBeatsAreStoodFor, FoundRulesAreBroken};
 
 /// What is opened and not closed stays open: a request, a Release, a Grant.
 #[tactic(auto, using(crate::proofs::OpenLaws::opened_stays_open))]
@@ -42,4 +42,19 @@ pub fn links_are_apart()
 #[tactic(auto, using(crate::proofs::LinkLaws::flow_needs_its_link_alone))]
 pub fn flow_needs_its_link_alone()
     ensures { FlowNeedsItsLinkAlone }
+{}
+
+/// A state that stands for the beats of a link before a head, and is stepped by it, stands for the beats with it.
+pub fn heads_are_stood_for()
+    ensures { HeadsAreStoodFor }
+{}
+
+/// A state that is not stepped by a later beat stands for the beats with it.
+pub fn later_beats_are_stood_for()
+    ensures { LaterBeatsAreStoodFor }
+{}
+
+/// The flow rules that such a state finds are those that the head breaks among all beats of its manager.
+pub fn found_rules_are_broken()
+    ensures { FoundRulesAreBroken }
 {}

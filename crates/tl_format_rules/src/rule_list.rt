@@ -34,8 +34,8 @@ impl RuleList {
         }
     }
 
-    /// Puts a rule at the end.
-    pub(crate) fn push(&mut self, rule: Rule)
+    /// Puts a rule at the end, where there is room for it.
+    pub fn push(&mut self, rule: Rule)
         requires { length self.old < 10 }
         ensures { self.new ≡ self.old ++ rule ∷ [] }
     {

@@ -1,5 +1,5 @@
 -- The rows of one fragment are the report of the checked rules.
-use Rattle.std.proofs.Common.{◌≡◌, ℕ, ◌+◌, ◌<◌, ◌==◌, ◌&&◌, ◌||◌, inl, inr, Bool, true, false, cond, List, [], ◌∷◌, ◌++◌, length, Option, Some, None, Result, Ok, Err, map, refl, sym, ap, subst, ◌∙◌}
+use Rattle.std.proofs.Common.{◌≡◌, ℕ, ◌+◌, ◌<◌, ◌==◌, ◌&&◌, ◌||◌, inl, inr, Bool, true, false, cond, List, [], ◌∷◌, ◌++◌, length, Some, Result, Ok, Err, map, refl, sym, ap, subst, ◌∙◌}
 use Rattle.std.specs.Prelude.{IfOk, filter, nat_lt, slice_get, slice_index_or}
 use Rattle.std.specs.declared.cmp.Ordering.{Ordering}
 use Rattle.std.specs.declared.cmp.Ordering.TheVariants.{Less, Equal, Greater}
@@ -13,7 +13,6 @@ use Rattle.std.proofs.lemmas.Option.{get_or_from_slice_get}
 use Rattle.std.proofs.lemmas.List.Elements.{Contains-append_cases}
 use Rattle.std.proofs.lemmas.List.Kept.{IsStrictlySortedBy-filter}
 use Rattle.std.proofs.lemmas.Map.Keys.{sorted_from_all_adjacent}
-use Rattle.tl_tables.specs.declared.Op.{Op}
 use Rattle.tl_tables.specs.declared.Rule.{Rule}
 use Rattle.tl_tables.specs.Messages.{chan_number}
 use Rattle.tl_topology.specs.declared.LinkDecl.{LinkDecl}
@@ -24,15 +23,14 @@ use Rattle.tl_beats.specs.declared.Placed.{Placed}
 use Rattle.tl_beats.specs.declared.Row.{Row}
 use Rattle.tl_beats.specs.Beats.{rises}
 use Rattle.tl_beats.specs.Fragments.{Frag, AreBeats}
-use Rattle.tl_definitions.specs.Heads.{message_of, before_on, is_head, last_head}
 use Rattle.tl_definitions.specs.Positions.{position_order, placed_from, no_link}
-use Rattle.tl_definitions.specs.Rules.{Manager, format_rules}
-use Rattle.tl_definitions.specs.Breaks.{Breaks, breaks_later, later_order, later_rules, head_rules, rules_at, row_of, rows_after, rows_in}
-use Rattle.tl_definitions.specs.Report.{key_order, Capture, IsReportOf}
+use Rattle.tl_definitions.specs.Rules.{Manager}
+use Rattle.tl_definitions.specs.Breaks.{Breaks, rules_at, row_of, rows_after, rows_in}
+use Rattle.tl_definitions.specs.Report.{by_number, key_order, Capture, IsReportOf}
 use Rattle.tl_definitions.proofs.Lists.{contains_none, contains_here, contains_there, contains_cases, contains_kept, kept_from, mapped_from, all_of, kept_of_both}
-use Rattle.tl_definitions.proofs.SanityLaws.{format_needs_no_past}
+use Rattle.tl_definitions.proofs.RuleLaws.{rules_rise}
 use Rattle.tl_definitions.proofs.ReportLaws.{key_total, rows_are_breaks}
-use Rattle.tl_definitions.proofs.OneBeatLaws.{strict_both, kept_rows, by_number, rows_of_two, rows_rise, format_rises}
+use Rattle.tl_definitions.proofs.OneBeatLaws.{strict_both, kept_rows, rows_of_two, rows_rise}
 use Rattle.tl_cli.specs.Once.{is_checked, Serves, checked_rows, rows_once, declared_links, manager_of, capture_once, IsReportOnce}
 use Rattle.tl_cli.proofs.Rows.{placed, is_kept, rows_linked}
 
@@ -81,27 +79,8 @@ module _ (link fragment : ℕ) where
 
 -- ---- the rules of a beat rise
 
-later_rises : (decl : LinkDecl) (beat head : Beat) (found : Option Op) → IsStrictlySortedBy by_number (option_map_or (λ o. filter (breaks_later decl o head beat) later_order) found [])
-unfolding IsStrictlySortedBy
-later_rises decl beat head None = tt
-later_rises decl beat head (Some o) = IsStrictlySortedBy-filter by_number (breaks_later decl o head beat) later_order ((refl, (refl, tt)), ((refl, tt), (tt, tt)))
-
-last_rises : (decl : LinkDecl) (beat : Beat) (last : Option Beat) → IsStrictlySortedBy by_number (option_map_or (later_rules decl beat) last [])
-unfolding IsStrictlySortedBy
-last_rises decl beat None = tt
-last_rises decl beat (Some head) = later_rises decl beat head (message_of decl head)
-
 checked_rise : (m : Manager) (before : List Placed) (p : Placed) → IsStrictlySortedBy by_number (filter is_checked (rules_at m before p))
-checked_rise m before p =
-    let decl : LinkDecl = m.links p.link in
-    let own : List Beat = before_on p.link p.beat.chan before in
-    let format : List Rule = format_rules m.exponent m.regions decl p.beat (message_of decl p.beat) in
-    let last : List Rule = option_map_or (later_rules decl p.beat) (last_head decl own) [] in
-    elim (is_head decl own) as (λ b. is_head decl own ≡ b → IsStrictlySortedBy by_number (filter is_checked (cond b (head_rules m before p (message_of decl p.beat)) last))) [
-      | true ↦ λ h. subst (IsStrictlySortedBy by_number) (sym (format_needs_no_past is_checked m before p refl refl refl h) ∙ ap (λ b. filter is_checked (cond b (head_rules m before p (message_of decl p.beat)) last)) h)
-          (IsStrictlySortedBy-filter by_number is_checked format (format_rises m.exponent m.regions decl p.beat (message_of decl p.beat)))
-      | false ↦ λ h. IsStrictlySortedBy-filter by_number is_checked last (last_rises decl p.beat (last_head decl own))
-    ] refl
+checked_rise m before p = IsStrictlySortedBy-filter by_number is_checked (rules_at m before p) (rules_rise m before p)
 
 -- ---- the rows rise
 

@@ -5,6 +5,7 @@ use Rattle.std.specs.Option.{option_map_or}
 use Rattle.std.specs.List.{All, AllByRecursion}
 use Rattle.std.proofs.lemmas.List.Elements.{All-append, All-filter, All-nil, All-take, recursion_from_All}
 use Rattle.tl_tables.specs.declared.Chan.{Chan}
+use Rattle.tl_tables.specs.declared.Chan.TheVariants as chan
 use Rattle.tl_tables.specs.declared.Op.{Op}
 use Rattle.tl_tables.specs.declared.Rule.{Rule}
 use Rattle.tl_tables.specs.Messages.{same_chan}
@@ -15,16 +16,19 @@ use Rattle.tl_beats.specs.declared.Placed.{Placed}
 use Rattle.tl_beats.specs.declared.Row.{Row}
 use Rattle.tl_beats.specs.Beats.{IsWellFormed}
 use Rattle.tl_definitions.specs.Heads.{message_of, before_on, is_head, last_head}
+use Rattle.tl_definitions.specs.Messages.{Message, at_head}
 use Rattle.tl_definitions.specs.Positions.{placed_from}
 use Rattle.tl_definitions.specs.Rules.{Manager, breaks_format, format_order, format_rules}
 use Rattle.tl_definitions.specs.Breaks.{breaks_later, later_order, later_rules, head_rules, rules_at, row_of, rows_after}
 use Rattle.tl_definitions.proofs.Lists.{onto, kept_order, kept_of_both}
 use Rattle.tl_definitions.proofs.HeadLaws.{later_beats_have_a_head}
-use Rattle.tl_definitions.proofs.SanityLaws.{format_needs_no_past}
 use Rattle.tl_definitions.proofs.OneBeatLaws.{kept_rows}
 use Rattle.tl_messages.specs.declared.Place.{Place}
 use Rattle.tl_messages.specs.declared.Place.TheVariants as place
 use Rattle.tl_messages.specs.Bursts.{place_of}
+use Rattle.tl_flow_rules.specs.declared.flow.FlowState.{FlowState}
+use Rattle.tl_flow_rules.specs.Flow.{StandsFor, StandsOn, flow_rules}
+use Rattle.tl_flow_rules.proofs.StandLaws.{found_rules_are_broken}
 use Rattle.tl_cli.specs.Once.{is_checked, checked_rows, Serves}
 
 abbrev pub placed : ℕ → ℕ → ℕ → Beat → Placed
@@ -32,6 +36,10 @@ placed link fragment line beat = record { link = link; fragment = fragment; line
 
 abbrev pub is_kept : Row → Bool
 is_kept row = is_checked row.rule
+
+-- What an index past the last beat leads to.
+abbrev pub no_beat : Beat
+no_beat = record { cycle = 0; chan = chan.A; opcode = 0; param = 0; size = 0; source = 0; sink = 0; address = 0; mask = 0; denied = false; corrupt = false }
 
 -- ---- a list with one beat more
 
@@ -73,11 +81,6 @@ next_so_far link fragment beats i d lt =
 
 -- ---- the rules of a beat by its place
 
--- What the code finds of a beat at this place.
-abbrev pub AreFound : LinkDecl → ℕ → List Area → Beat → Place → List Rule → Type 0
-AreFound decl exponent regions beat place.Head rules = rules ≡ format_rules exponent regions decl beat (message_of decl beat)
-AreFound decl exponent regions beat (place.Later head) rules = rules ≡ later_rules decl beat head
-
 begins_here : (head : Bool) (last : Option Beat) → cond head place.Head (option_map_or place.Later last place.Head) ≡ place.Head → (head ≡ false → (beat : Beat) × (last ≡ Some beat)) → head ≡ true
 begins_here true last is known = refl
 begins_here false None is known = let some = known refl in let never : None ≡ Some some.0 = some.1 in cc
@@ -97,33 +100,61 @@ kept_format : (exponent : ℕ) (regions : List Area) (decl : LinkDecl) (beat : B
 kept_format exponent regions decl beat None = refl
 kept_format exponent regions decl beat (Some o) = kept_order is_checked (breaks_format exponent regions decl o beat) format_order
 
-found_rules : (m : Manager) (before : List Placed) (p : Placed) (stands : Place) (rules : List Rule) → stands ≡ place_of (m.links p.link) (before_on p.link p.beat.chan before)
-    → AreFound (m.links p.link) m.exponent m.regions p.beat stands rules → rules ≡ filter is_checked (rules_at m before p)
-found_rules m before p place.Head rules is found =
-    let decl : LinkDecl = m.links p.link in
-    let own : List Beat = before_on p.link p.beat.chan before in
-    let head : is_head decl own ≡ true = begins_here (is_head decl own) (last_head decl own) (sym is) (λ h. let known = later_beats_have_a_head decl own h in (known.0, known.1)) in
-    found ∙ sym (kept_format m.exponent m.regions decl p.beat (message_of decl p.beat)) ∙ sym (format_needs_no_past is_checked m before p refl refl refl head)
-found_rules m before p (place.Later head) rules is found =
-    let decl : LinkDecl = m.links p.link in
-    let own : List Beat = before_on p.link p.beat.chan before in
-    let later = belongs_to (is_head decl own) (last_head decl own) head (sym is) in
-    let are : rules_at m before p ≡ later_rules decl p.beat head =
-    ap (λ b. cond b (head_rules m before p (message_of decl p.beat)) (option_map_or (later_rules decl p.beat) (last_head decl own) [])) later.0 ∙ ap (λ last. option_map_or (later_rules decl p.beat) last []) later.1 in
-    found ∙ sym (kept_later decl p.beat head (message_of decl head)) ∙ sym (ap (filter is_checked) are)
+pub is_at_head : (decl : LinkDecl) (own : List Beat) (stands : Place) → stands ≡ place_of decl own → stands ≡ place.Head → is_head decl own ≡ true
+is_at_head decl own stands is head = begins_here (is_head decl own) (last_head decl own) (sym is ∙ head) (λ h. let known = later_beats_have_a_head decl own h in (known.0, known.1))
 
-pub one_more : (decl : LinkDecl) (exponent : ℕ) (regions : List Area) (link fragment : ℕ) (beats : List Beat) (i : ℕ) (d : Beat) (stands : Place) (rules : List Rule) (rows new : List Row) → i < length beats
+pub is_later : (decl : LinkDecl) (own : List Beat) (stands : Place) (head : Beat) → stands ≡ place_of decl own → stands ≡ place.Later head → is_head decl own ≡ false
+is_later decl own stands head is later = (belongs_to (is_head decl own) (last_head decl own) head (sym is ∙ later)).0
+
+-- A beat's rules, found for each manager that has its link, block and regions, after the beats before it.
+abbrev pub AreFound : LinkDecl → ℕ → List Area → List Placed → Placed → List Rule → Type 0
+AreFound decl exponent regions before p rules = (m : Manager) → Serves m p.link decl exponent regions → rules ≡ filter is_checked (rules_at m before p)
+
+pub head_found : (decl : LinkDecl) (exponent : ℕ) (regions : List Area) (before : List Placed) (p : Placed) (state : FlowState) (format flow : List Rule)
+    → is_head decl (before_on p.link p.beat.chan before) ≡ true → format ≡ format_rules exponent regions decl p.beat (message_of decl p.beat) → StandsOn state decl p.link before
+    → ((messages : List Message) → StandsFor state messages → flow ≡ flow_rules messages p.beat (message_of decl p.beat)) → AreFound decl exponent regions before p (format ++ flow)
+head_found decl exponent regions before p state format flow head formats held flows m (same, block, areas) =
+    let here : at_head m.links before p ≡ true = ap (λ d. is_head d (before_on p.link p.beat.chan before)) same ∙ head in
+    let own : format ≡ format_rules m.exponent m.regions (m.links p.link) p.beat (message_of (m.links p.link) p.beat) =
+    subst (λ d. format ≡ format_rules m.exponent m.regions d p.beat (message_of d p.beat)) (sym same)
+    (subst (λ e. format ≡ format_rules e m.regions decl p.beat (message_of decl p.beat)) (sym block) (subst (λ r. format ≡ format_rules exponent r decl p.beat (message_of decl p.beat)) (sym areas) formats)) in
+    let stands : StandsOn state (m.links p.link) p.link before = subst (λ d. StandsOn state d p.link before) (sym same) held in
+    let answers : (messages : List Message) → StandsFor state messages → flow ≡ flow_rules messages p.beat (message_of (m.links p.link) p.beat) =
+    subst (λ d. (messages : List Message) → StandsFor state messages → flow ≡ flow_rules messages p.beat (message_of d p.beat)) (sym same) flows in
+    ap (λ rules. rules ++ flow) (own ∙ sym (kept_format m.exponent m.regions (m.links p.link) p.beat (message_of (m.links p.link) p.beat)))
+    ∙ sym (found_rules_are_broken is_checked m before p state flow refl refl refl here stands answers)
+
+pub later_found : (decl : LinkDecl) (exponent : ℕ) (regions : List Area) (before : List Placed) (p : Placed) (stands : Place) (head : Beat) (rules : List Rule)
+    → stands ≡ place_of decl (before_on p.link p.beat.chan before) → stands ≡ place.Later head → rules ≡ later_rules decl p.beat head → AreFound decl exponent regions before p rules
+later_found decl exponent regions before p stands head rules is at found m serves =
+    let own : List Beat = before_on p.link p.beat.chan before in
+    let known = belongs_to (is_head decl own) (last_head decl own) head (sym is ∙ at) in
+    let here : (is_head (m.links p.link) own ≡ false) × (last_head (m.links p.link) own ≡ Some head) =
+    subst (λ d. (is_head d own ≡ false) × (last_head d own ≡ Some head)) (sym serves.0) known in
+    let are : rules_at m before p ≡ later_rules (m.links p.link) p.beat head =
+    ap (λ b. cond b (head_rules m before p (message_of (m.links p.link) p.beat)) (option_map_or (later_rules (m.links p.link) p.beat) (last_head (m.links p.link) own) [])) here.0
+    ∙ ap (λ last. option_map_or (later_rules (m.links p.link) p.beat) last []) here.1 in
+    subst (λ d. rules ≡ later_rules d p.beat head) (sym serves.0) found ∙ sym (kept_later (m.links p.link) p.beat head (message_of (m.links p.link) head)) ∙ sym (ap (filter is_checked) are)
+
+map_both : (p : Placed) (xs ys : List Rule) → map (row_of p) (xs ++ ys) ≡ map (row_of p) xs ++ map (row_of p) ys
+map_both p [] ys = refl
+map_both p (x ∷ xs) ys = ap (λ rows. row_of p x ∷ rows) (map_both p xs ys)
+
+-- The rows of two lists of rules, put behind others in turn.
+pub put_both : (p : Placed) (xs ys : List Rule) (rows one two : List Row) → one ≡ rows ++ map (row_of p) xs → two ≡ one ++ map (row_of p) ys → two ≡ rows ++ map (row_of p) (xs ++ ys)
+put_both p xs ys rows one two e g =
+    g ∙ ap (λ (rs : List Row). rs ++ map (row_of p) ys) e ∙ append_assoc rows (map (row_of p) xs) (map (row_of p) ys) ∙ ap (λ (rs : List Row). rows ++ rs) (sym (map_both p xs ys))
+
+pub one_more : (decl : LinkDecl) (exponent : ℕ) (regions : List Area) (link fragment : ℕ) (beats : List Beat) (i : ℕ) (d : Beat) (rules : List Rule) (rows new : List Row) → i < length beats
     → ((m : Manager) → Serves m link decl exponent regions → rows ≡ checked_rows m (placed_from link fragment 2 (take i beats)))
-    → stands ≡ place_of decl (before_on link (get_or beats i d).chan (so_far link fragment beats i)) → AreFound decl exponent regions (get_or beats i d) stands rules
+    → AreFound decl exponent regions (so_far link fragment beats i) (placed link fragment (i + 2) (get_or beats i d)) rules
     → new ≡ rows ++ map (row_of (placed link fragment (i + 2) (get_or beats i d))) rules
     → (m : Manager) → Serves m link decl exponent regions → new ≡ checked_rows m (placed_from link fragment 2 (take (i + 1) beats))
-one_more decl exponent regions link fragment beats i d stands rules rows new lt known is found put m same =
+one_more decl exponent regions link fragment beats i d rules rows new lt known found put m same =
     let past : List Placed = placed_from link fragment 2 (take i beats) in
     let p : Placed = placed link fragment (i + 2) (get_or beats i d) in
     let broken : List Rule = rules_at m (onto [] past) p in
-    let own : rules ≡ filter is_checked broken =
-    found_rules m (onto [] past) p stands rules (subst (λ x. stands ≡ place_of x (before_on link p.beat.chan (onto [] past))) (sym same.0) is)
-    (subst (λ x. AreFound x m.exponent m.regions p.beat stands rules) (sym same.0) (subst (λ x. AreFound decl x m.regions p.beat stands rules) (sym same.1) (subst (λ x. AreFound decl exponent x p.beat stands rules) (sym same.2) found))) in
+    let own : rules ≡ filter is_checked broken = found m same in
     let more : checked_rows m (past ++ p ∷ []) ≡ checked_rows m past ++ map (row_of p) (filter is_checked broken) =
     ap (filter is_kept) (rows_more m [] past p) ∙ kept_of_both is_kept (rows_after m [] past) (map (row_of p) broken) ∙ ap (λ (xs : List Row). checked_rows m past ++ xs) (kept_rows is_checked p broken) in
     put ∙ ap (λ (xs : List Row). xs ++ map (row_of p) rules) (known m same) ∙ ap (λ (xs : List Rule). checked_rows m past ++ map (row_of p) xs) own

@@ -18,7 +18,7 @@ use Rattle.tl_definitions.specs.Rules.{Manager}
 use Rattle.tl_definitions.specs.Breaks.{rows_in}
 use Rattle.tl_definitions.specs.Report.{Capture, IsReportOf}
 
--- The rules that are checked so far: the format rules and the burst rule.
+-- The rules that are checked so far: the format rules, the burst rule and the flow rules.
 abbrev pub is_checked : Rule → Bool
 is_checked rule.F1 = true
 is_checked rule.F2 = true
@@ -31,6 +31,15 @@ is_checked rule.F8 = true
 is_checked rule.F9 = true
 is_checked rule.F10 = true
 is_checked rule.U1 = true
+is_checked rule.S1 = true
+is_checked rule.S2 = true
+is_checked rule.S3 = true
+is_checked rule.S4 = true
+is_checked rule.S5 = true
+is_checked rule.S6 = true
+is_checked rule.S7 = true
+is_checked rule.S8 = true
+is_checked rule.S9 = true
 is_checked _ = false
 
 -- The manager has this link under this number, blocks of 2 ^ exponent bytes, and these regions.

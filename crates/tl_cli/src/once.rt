@@ -17,9 +17,9 @@ use crate::report::{Report, report_text};
 use std::alloc::{AllocError, Global};
 use thiserror::Error;
 use tl_beats::{Beat, ByteOut, Fragment, Placed, Row};
-use tl_format_rules::{check_head, check_later};
+use tl_flow_rules::FlowState;
+use tl_format_rules::{RuleList, check_head, check_later};
 use tl_messages::{BurstState, Place};
-use tl_tables::Rule;
 use tl_text::{WriteFault, write_all};
 use tl_topology::{LinkDecl, RegionMap, Topo};
 
@@ -56,10 +56,10 @@ impl From<WriteFault> for OnceFault {
 }
 
 /// Puts the rows of one beat at the end.
-fn add_rows(rows: &mut Vec<Row>, at: &Placed, rules: &[Rule]) -> Result<(), AllocError>
-    ensures { OnOk result (rows.new.items ≡ rows.old.items ++ map (row_of at.now) rules.now) }
+fn add_rows(rows: &mut Vec<Row>, at: &Placed, rules: RuleList) -> Result<(), AllocError>
+    ensures { OnOk result (rows.new.items ≡ rows.old.items ++ map (row_of at.now) rules) }
 {
-    for rule in rules {
+    for rule in rules.as_slice() {
         rows.push(Row {
             link: at.link,
             cycle: at.beat.cycle,
@@ -91,6 +91,7 @@ fn rows_of(
 {
     let mut rows = Vec::new(alloc);
     let mut bursts = BurstState::new();
+    let mut flow = FlowState::new(alloc);
     for (index, beat) in beats.iter().enumerate() {
         let at = Placed {
             link,
@@ -98,11 +99,18 @@ fn rows_of(
             line: index as u32 + 2,
             beat: *beat,
         };
-        let rules = match bursts.step(decl, beat) {
-            Place::Head => check_head(alloc, decl, exponent, regions, beat),
-            Place::Later(head) => check_later(alloc, decl, &head, beat),
-        };
-        add_rows(&mut rows, &at, rules.as_slice())?;
+        match bursts.step(decl, beat) {
+            Place::Head => {
+                let format = check_head(alloc, decl, exponent, regions, beat);
+                let answer = flow.step(alloc, decl, beat)?;
+                add_rows(&mut rows, &at, format)?;
+                add_rows(&mut rows, &at, answer.rules)?;
+            }
+            Place::Later(head) => {
+                let later = check_later(alloc, decl, &head, beat);
+                add_rows(&mut rows, &at, later)?;
+            }
+        }
     }
     Ok(rows)
 }
@@ -135,7 +143,7 @@ fn rows_once(
 }
 
 /// Writes the report of a topology with this fragment alone, version 1 after edit 1, and answers the number of its rows:
-/// exactly those of F1 to F10 and U1, with bursts told apart beat by beat, and without regions. Refused with 21 where the topology has no such
+/// exactly those of F1 to F10, U1 and S1 to S9, with bursts told apart beat by beat, and without regions. Refused with 21 where the topology has no such
 /// link.
 pub fn run_once<O: ByteOut>(
     alloc: Global,

@@ -9,3 +9,4 @@ pub mod JudgingLaws
 pub mod ReportLaws
 pub mod PositionLaws
 pub mod OneBeatLaws
+pub mod RuleLaws

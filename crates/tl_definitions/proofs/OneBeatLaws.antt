@@ -3,7 +3,7 @@ use Rattle.std.proofs.Common.{◌≡◌, ℕ, ◌==◌, ◌&&◌, inl, inr, Bool
 use Rattle.std.specs.Prelude.{map, filter}
 use Rattle.std.specs.declared.cmp.Ordering.{Ordering}
 use Rattle.std.specs.declared.cmp.Ordering.TheVariants.{Less, Equal, Greater}
-use Rattle.std.specs.Ordering.{nat_cmp, on, ordering_then, ordering_reverse}
+use Rattle.std.specs.Ordering.{nat_cmp, ordering_then, ordering_reverse}
 use Rattle.std.specs.Cmp.{IsTotalOrder}
 use Rattle.std.specs.FinMap.{nat_cmp-IsAntisymmetric}
 use Rattle.std.specs.List.{Contains, AllByRecursion, list_any}
@@ -25,8 +25,7 @@ use Rattle.tl_definitions.specs.Heads.{message_of, before_on, beat_count}
 use Rattle.tl_definitions.specs.Messages.{at_head}
 use Rattle.tl_definitions.specs.Rules.{Manager, breaks_format, format_order, format_rules, flow_order, permission_order, manager_order}
 use Rattle.tl_definitions.specs.Breaks.{Breaks, rules_at, row_of, rows_after, rows_in}
-use Rattle.tl_tables.specs.Rules.{rule_number}
-use Rattle.tl_definitions.specs.Report.{key_order, Capture, rows_apart, kept_format, RisingBeatsHaveOnePlace, OneBeatReports}
+use Rattle.tl_definitions.specs.Report.{by_number, key_order, Capture, rows_apart, kept_format, RisingBeatsHaveOnePlace, OneBeatReports}
 use Rattle.tl_definitions.proofs.Lists.{contains_none, contains_here, contains_there, contains_cases, contains_kept, kept_from, mapped_from, all_of, all_by, kept_of_both}
 use Rattle.tl_definitions.proofs.HeadLaws.{one_beat_messages_are_heads}
 use Rattle.tl_definitions.proofs.SanityLaws.{format_needs_no_past}
@@ -110,8 +109,6 @@ module _ (kept : Rule → Bool) (m : Manager) (link : ℕ) (flow : list_any kept
       ∙ ap (λ rows. map (row_of p) (kept_format kept m p) ++ rows) (rows_are_apart (p ∷ before) beats (singles.0, all) singles.1)
 
 -- Rows in the order of a report.
-abbrev pub by_number : Rule → Rule → Ordering
-by_number = on rule_number nat_cmp
 
 then_less : (o p : Ordering) → o ≡ Less → ordering_then o p ≡ Less
 then_less Less p h = refl
@@ -160,7 +157,7 @@ rows_rise p (r ∷ rules) s = (
   rows_rise p rules s.1,
 )
 
-format_order_rises : IsStrictlySortedBy by_number format_order
+pub format_order_rises : IsStrictlySortedBy by_number format_order
 unfolding IsStrictlySortedBy
 format_order_rises = ((refl, (refl, (refl, (refl, (refl, (refl, (refl, (refl, tt)))))))), ((refl, (refl, (refl, (refl, (refl, (refl, (refl, tt))))))), ((refl, (refl, (refl, (refl, (refl, (refl, tt)))))), ((refl, (refl, (refl, (refl, (refl, tt))))), ((refl, (refl, (refl, (refl, tt)))), ((refl, (refl, (refl, tt))), ((refl, (refl, tt)), ((refl, tt), (tt, tt)))))))))
 

@@ -14,7 +14,14 @@ use Rattle.tl_beats.specs.declared.Row.{Row}
 use Rattle.tl_definitions.specs.Positions.{position_order}
 use Rattle.tl_definitions.specs.Heads.{message_of, beat_count}
 use Rattle.tl_definitions.specs.Rules.{Manager, format_rules, flow_order, permission_order, manager_order}
-use Rattle.tl_definitions.specs.Breaks.{Breaks, row_of, rows_in}
+use Rattle.tl_definitions.specs.Breaks.{Breaks, rules_at, row_of, rows_in}
+
+abbrev pub by_number : Rule → Rule → Ordering
+by_number = on rule_number nat_cmp
+
+-- The rules of one beat stand in the order of reports, each once.
+abbrev pub RulesRise : Type 0
+RulesRise = (m : Manager) (before : List Placed) (p : Placed) → IsStrictlySortedBy by_number (rules_at m before p)
 
 -- By link number, cycle, channel, rule and monitor, a row of a manager's rule before those of monitors.
 abbrev pub key_order : Row → Row → Ordering

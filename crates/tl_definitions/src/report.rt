@@ -1,6 +1,12 @@
 //! The report has one answer.
 
-ghost use Rattle.tl_definitions.specs.Report.{RowsAreBreaks, OneReport, SortedRowsAreTheReport, ReportsAreComputed, SortedRowsAreTheirReport, OneReportOf, PartsOfReports, RisingBeatsHaveOnePlace, OneBeatReports};
+ghost use Rattle.tl_definitions.specs.Report.{RulesRise, RowsAreBreaks, OneReport, SortedRowsAreTheReport, ReportsAreComputed, SortedRowsAreTheirReport, OneReportOf, PartsOfReports, RisingBeatsHaveOnePlace, OneBeatReports};
+
+/// The rules of one beat stand in the order of reports, each once.
+#[tactic(auto, using(crate::proofs::RuleLaws::rules_rise))]
+pub fn rules_rise()
+    ensures { RulesRise }
+{}
 
 /// A row is among those of a capture if and only if its beat breaks its rule.
 pub fn rows_are_breaks()

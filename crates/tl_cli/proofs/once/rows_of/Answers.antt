@@ -1,14 +1,16 @@
-use Rattle.std.proofs.Common.{◌+◌, List, sym, subst, ◌∙◌}
+use Rattle.std.proofs.Common.{◌+◌, ◌++◌, List, ◌∷◌, get_or, ap, sym, subst, ◌∙◌}
 use Rattle.tl_topology.specs.Regions.{areas_of}
 use Rattle.tl_beats.specs.declared.Placed.{Placed}
-use Rattle.tl_messages.specs.declared.Place.TheVariants as place
+use Rattle.tl_definitions.specs.Heads.{before_on}
 use Rattle.tl_messages.specs.Bursts.{StandsFor}
-use Rattle.tl_cli.proofs.Rows.{so_far, next_so_far, head_is_formed, one_more}
+use Rattle.tl_flow_rules.specs.Flow.{StandsOn}
+use Rattle.tl_flow_rules.proofs.StandLaws.{heads_are_stood_for, later_beats_are_stood_for}
+use Rattle.tl_cli.proofs.Rows.{no_beat, placed, so_far, next_so_far, head_is_formed, is_at_head, is_later, head_found, later_found, put_both, one_more}
 use Rattle.tl_cli.proofs.once.rows_of.Goals as goal
-use Rattle.tl_cli.proofs.once.rows_of.Goals.{in-Head, in-Later}
+use Rattle.tl_cli.proofs.once.rows_of.Goals.{in-Head+in_ok-answer-in-Head+in_ok-add_rows-in-Head+in_ok-add_rows-in-Head-2, in-Later+in_ok-add_rows-in-Later}
 
-pub check_later-rules-requires-clause-head : goal.check_later-rules-requires-clause-head
-check_later-rules-requires-clause-head c =
+pub check_later-later-requires-clause-head : goal.check_later-later-requires-clause-head
+check_later-later-requires-clause-head c =
     let past : List Placed = so_far c.args.link c.args.fragment c.args.beats.now c.loop-index.index in
     head_is_formed c.args.decl.now c.args.link c.args.fragment c.args.beats.now c.loop-index.index _ c.step.result c.in-Later.head c.requires.beats
     (c.step.ensures.place c.args.link past c.loop-index.invariant.stands) c.in-Later.is
@@ -17,13 +19,34 @@ pub loop-index-preserved : goal.loop-index-preserved
 loop-index-preserved c =
     let past : List Placed = so_far c.args.link c.args.fragment c.args.beats.now c.loop-index.index in
     let known = c.step.ensures.place c.args.link past c.loop-index.invariant.stands in
+    let next = next_so_far c.args.link c.args.fragment c.args.beats.now c.loop-index.index no_beat c.loop-index-test.true in
+    let p : Placed = placed c.args.link c.args.fragment (c.loop-index.index + 2) (get_or c.args.beats.now c.loop-index.index no_beat) in
     record {
-      stands = subst (StandsFor c.step.new.self c.args.decl.now c.args.link) (sym (next_so_far c.args.link c.args.fragment c.args.beats.now c.loop-index.index _ c.loop-index-test.true))
+      stands = subst (StandsFor c.step.new.self c.args.decl.now c.args.link) (sym next)
           (c.step.ensures.stands c.args.link c.args.fragment (c.loop-index.index + 2) past c.loop-index.invariant.stands);
+      in_flight = subst (StandsOn c.match-step.flow c.args.decl.now c.args.link) (sym next) (elim c.match-step.branch [
+        | in-Head+in_ok-answer-in-Head+in_ok-add_rows-in-Head+in_ok-add_rows-in-Head-2 w ↦
+            let head = is_at_head c.args.decl.now (before_on c.args.link p.beat.chan past) c.step.result known w.in-Head.is in
+            subst (λ state. StandsOn state c.args.decl.now c.args.link (p ∷ past)) (sym w.flow-is)
+            (heads_are_stood_for c.loop-index.flow _ c.args.decl.now past p head c.loop-index.invariant.in_flight (λ messages s. w.in_ok-answer-in-Head.ensures.stands messages s))
+        | in-Later+in_ok-add_rows-in-Later w ↦
+            let later = is_later c.args.decl.now (before_on c.args.link p.beat.chan past) c.step.result w.in-Later.head known w.in-Later.is in
+            subst (λ state. StandsOn state c.args.decl.now c.args.link (p ∷ past)) (sym w.flow-is)
+            (later_beats_are_stood_for c.loop-index.flow c.args.decl.now past p later c.loop-index.invariant.in_flight)
+      ]);
       found = elim c.match-step.branch [
-        | in-Head w ↦ one_more c.args.decl.now c.args.exponent (areas_of c.args.regions.now) c.args.link c.args.fragment c.args.beats.now c.loop-index.index _ place.Head c.as_slice.result.now c.loop-index.rows.items c.add_rows.new.rows.items c.loop-index-test.true
-            c.loop-index.invariant.found (sym w.in-Head.is ∙ known) (c.as_slice.ensures ∙ w.rules-is ∙ w.check_head-rules.ensures) c.in_ok-add_rows.ensures
-        | in-Later w ↦ one_more c.args.decl.now c.args.exponent (areas_of c.args.regions.now) c.args.link c.args.fragment c.args.beats.now c.loop-index.index _ (place.Later w.in-Later.head) c.as_slice.result.now c.loop-index.rows.items c.add_rows.new.rows.items c.loop-index-test.true
-            c.loop-index.invariant.found (sym w.in-Later.is ∙ known) (c.as_slice.ensures ∙ w.rules-is ∙ w.check_later-rules.ensures) c.in_ok-add_rows.ensures
+        | in-Head+in_ok-answer-in-Head+in_ok-add_rows-in-Head+in_ok-add_rows-in-Head-2 w ↦
+            let head = is_at_head c.args.decl.now (before_on c.args.link p.beat.chan past) c.step.result known w.in-Head.is in
+            one_more c.args.decl.now c.args.exponent (areas_of c.args.regions.now) c.args.link c.args.fragment c.args.beats.now c.loop-index.index no_beat
+            (w.check_head-format.result ++ w.in_ok-answer-in-Head.answer.rules) c.loop-index.rows.items c.match-step.rows.items c.loop-index-test.true c.loop-index.invariant.found
+            (head_found c.args.decl.now c.args.exponent (areas_of c.args.regions.now) past p c.loop-index.flow
+            w.check_head-format.result w.in_ok-answer-in-Head.answer.rules head w.check_head-format.ensures c.loop-index.invariant.in_flight (λ messages s. w.in_ok-answer-in-Head.ensures.rules messages s))
+            (put_both p w.check_head-format.result w.in_ok-answer-in-Head.answer.rules c.loop-index.rows.items w.add_rows.new.rows.items
+            c.match-step.rows.items w.in_ok-add_rows-in-Head.ensures (ap (λ rows. rows.items) w.rows-is ∙ w.in_ok-add_rows-in-Head-2.ensures))
+        | in-Later+in_ok-add_rows-in-Later w ↦
+            one_more c.args.decl.now c.args.exponent (areas_of c.args.regions.now) c.args.link c.args.fragment c.args.beats.now c.loop-index.index no_beat w.check_later-later.result c.loop-index.rows.items
+            c.match-step.rows.items c.loop-index-test.true c.loop-index.invariant.found
+            (later_found c.args.decl.now c.args.exponent (areas_of c.args.regions.now) past p c.step.result w.in-Later.head
+            w.check_later-later.result known w.in-Later.is w.check_later-later.ensures) (ap (λ rows. rows.items) w.rows-is ∙ w.in_ok-add_rows-in-Later.ensures)
       ];
     }

@@ -1,0 +1,125 @@
+-- The rules of one beat stand in the order of reports, each once.
+use Rattle.std.proofs.Common.{◌≡◌, ℕ, ◌<◌, ◌≤◌, Bool, true, false, cond, List, [], ◌∷◌, ◌++◌, Option, Some, None, refl, sym, arith}
+use Rattle.std.specs.Prelude.{filter}
+use Rattle.std.specs.declared.cmp.Ordering.TheVariants.{Less}
+use Rattle.std.specs.Cmp.{IsTotalOrder, nat_cmp_is}
+use Rattle.std.specs.Option.{option_map_or}
+use Rattle.std.specs.List.{AllByRecursion}
+use Rattle.std.specs.List.Sorted.{IsStrictlySortedBy}
+use Rattle.std.proofs.lemmas.Cmp.{nat_cmp_total, on_total}
+use Rattle.std.proofs.lemmas.List.Kept.{IsStrictlySortedBy-filter}
+use Rattle.tl_tables.specs.declared.Op.{Op}
+use Rattle.tl_tables.specs.declared.Rule.{Rule}
+use Rattle.tl_tables.specs.Rules.{rule_number}
+use Rattle.tl_topology.specs.declared.LinkDecl.{LinkDecl}
+use Rattle.tl_beats.specs.declared.Beat.{Beat}
+use Rattle.tl_beats.specs.declared.Placed.{Placed}
+use Rattle.tl_definitions.specs.Heads.{message_of, before_on, last_head}
+use Rattle.tl_definitions.specs.Messages.{Message, messages_on, message_at, at_head}
+use Rattle.tl_definitions.specs.Past.{pasts_of}
+use Rattle.tl_definitions.specs.Rules.{Manager, breaks_format, breaks_flow, breaks_permission, breaks_manager, format_order, flow_order, permission_order, manager_order}
+use Rattle.tl_definitions.specs.Breaks.{breaks_later, later_order, later_rules, head_rules}
+use Rattle.tl_definitions.specs.Report.{by_number, RulesRise}
+use Rattle.tl_definitions.proofs.Lists.{kept_from, all_of, all_by}
+use Rattle.tl_definitions.proofs.OneBeatLaws.{strict_both, format_order_rises}
+
+number_total : IsTotalOrder by_number
+number_total = on_total rule_number nat_cmp_total
+
+abbrev AreBelow : ℕ → List Rule → Type 0
+AreBelow n rules = AllByRecursion (λ r. rule_number r < n) rules
+
+abbrev AreFrom : ℕ → List Rule → Type 0
+AreFrom n rules = AllByRecursion (λ r. n ≤ rule_number r) rules
+
+kept_all : (P : Rule → Type 0) (kept : Rule → Bool) (rules : List Rule) → AllByRecursion P rules → AllByRecursion P (filter kept rules)
+kept_all P kept rules all = all_by P (filter kept rules) (λ r h. all_of P rules all r (kept_from kept rules r h).0)
+
+all_both : (P : Rule → Type 0) (xs ys : List Rule) → AllByRecursion P xs → AllByRecursion P ys → AllByRecursion P (xs ++ ys)
+all_both P [] ys a b = b
+all_both P (x ∷ xs) ys a b = (a.0, all_both P xs ys a.1 b)
+
+wider : (m n : ℕ) (rules : List Rule) → m ≤ n → AreBelow m rules → AreBelow n rules
+wider m n [] le all = tt
+wider m n (r ∷ rules) le all = (omega (arith, le, all.0), wider m n rules le all.1)
+
+less : (x y : Rule) (n : ℕ) → rule_number x < n → n ≤ rule_number y → by_number x y ≡ Less
+less x y n a b = sym (nat_cmp_is (rule_number x) (rule_number y) Less (omega (arith, a, b)))
+
+joined : (n : ℕ) (xs ys : List Rule) → IsStrictlySortedBy by_number xs → IsStrictlySortedBy by_number ys → AreBelow n xs → AreFrom n ys → IsStrictlySortedBy by_number (xs ++ ys)
+joined n xs ys up_x up_y below from = strict_both by_number number_total xs ys up_x up_y (λ x y h g. less x y n (all_of (λ r. rule_number r < n) xs below x h) (all_of (λ r. n ≤ rule_number r) ys from y g))
+
+flow_order_rises : IsStrictlySortedBy by_number flow_order
+unfolding IsStrictlySortedBy
+flow_order_rises = ((refl, (refl, (refl, (refl, (refl, (refl, (refl, (refl, tt)))))))), ((refl, (refl, (refl, (refl, (refl, (refl, (refl, tt))))))), ((refl, (refl, (refl, (refl, (refl, (refl, tt)))))), ((refl, (refl, (refl, (refl, (refl, tt))))), ((refl, (refl, (refl, (refl, tt)))), ((refl, (refl, (refl, tt))), ((refl, (refl, tt)), ((refl, tt), (tt, tt)))))))))
+
+permission_order_rises : IsStrictlySortedBy by_number permission_order
+unfolding IsStrictlySortedBy
+permission_order_rises = ((refl, (refl, (refl, (refl, (refl, (refl, (refl, tt))))))), ((refl, (refl, (refl, (refl, (refl, (refl, tt)))))), ((refl, (refl, (refl, (refl, (refl, tt))))), ((refl, (refl, (refl, (refl, tt)))), ((refl, (refl, (refl, tt))), ((refl, (refl, tt)), ((refl, tt), (tt, tt))))))))
+
+manager_order_rises : IsStrictlySortedBy by_number manager_order
+unfolding IsStrictlySortedBy
+manager_order_rises = ((refl, (refl, tt)), ((refl, tt), (tt, tt)))
+
+format_below : AreBelow 12 format_order
+format_below = (omega arith, (omega arith, (omega arith, (omega arith, (omega arith, (omega arith, (omega arith, (omega arith, (omega arith, tt)))))))))
+
+flow_below : AreBelow 21 flow_order
+flow_below = (omega arith, (omega arith, (omega arith, (omega arith, (omega arith, (omega arith, (omega arith, (omega arith, (omega arith, tt)))))))))
+
+flow_from : AreFrom 12 flow_order
+flow_from = (omega arith, (omega arith, (omega arith, (omega arith, (omega arith, (omega arith, (omega arith, (omega arith, (omega arith, tt)))))))))
+
+permission_below : AreBelow 29 permission_order
+permission_below = (omega arith, (omega arith, (omega arith, (omega arith, (omega arith, (omega arith, (omega arith, (omega arith, tt))))))))
+
+permission_from : AreFrom 21 permission_order
+permission_from = (omega arith, (omega arith, (omega arith, (omega arith, (omega arith, (omega arith, (omega arith, (omega arith, tt))))))))
+
+manager_from : AreFrom 29 manager_order
+manager_from = (omega arith, (omega arith, (omega arith, tt)))
+
+four_rise : (f s p m : Rule → Bool) → IsStrictlySortedBy by_number (filter f format_order ++ filter s flow_order ++ filter p permission_order ++ filter m manager_order)
+four_rise f s p m =
+    let formats = filter f format_order in
+    let flows = filter s flow_order in
+    let permissions = filter p permission_order in
+    let formats_below : AreBelow 12 formats = kept_all (λ r. rule_number r < 12) f format_order format_below in
+    let flows_below : AreBelow 21 flows = kept_all (λ r. rule_number r < 21) s flow_order flow_below in
+    let two = joined 12 formats flows (IsStrictlySortedBy-filter by_number f format_order format_order_rises) (IsStrictlySortedBy-filter by_number s flow_order flow_order_rises)
+    formats_below (kept_all (λ r. 12 ≤ rule_number r) s flow_order flow_from) in
+    let two_below : AreBelow 21 (formats ++ flows) = all_both (λ r. rule_number r < 21) formats flows (wider 12 21 formats (omega arith) formats_below) flows_below in
+    let three = joined 21 (formats ++ flows) permissions two (IsStrictlySortedBy-filter by_number p permission_order permission_order_rises)
+    two_below (kept_all (λ r. 21 ≤ rule_number r) p permission_order permission_from) in
+    let three_below : AreBelow 29 (formats ++ flows ++ permissions) =
+    all_both (λ r. rule_number r < 29) (formats ++ flows) permissions (wider 21 29 (formats ++ flows) (omega arith) two_below) (kept_all (λ r. rule_number r < 29) p permission_order permission_below) in
+    joined 29 (formats ++ flows ++ permissions) (filter m manager_order) three (IsStrictlySortedBy-filter by_number m manager_order manager_order_rises)
+    three_below (kept_all (λ r. 29 ≤ rule_number r) m manager_order manager_from)
+
+head_rises : (m : Manager) (before : List Placed) (p : Placed) (found : Option Op) → IsStrictlySortedBy by_number (head_rules m before p found)
+unfolding IsStrictlySortedBy
+head_rises m before p None = (tt, tt)
+head_rises m before p (Some o) =
+    let pasts = pasts_of m.links m.exponent before in
+    let message : Message = message_at (messages_on m.links p.link before) p.beat o in
+    four_rise (breaks_format m.exponent m.regions (m.links p.link) o p.beat) (breaks_flow (pasts p.link).flow message) (breaks_permission m.exponent (pasts p.link).client message)
+    (breaks_manager m.clients m.exponent (λ client. (pasts client).client) p.link message)
+
+later_rises : (decl : LinkDecl) (beat head : Beat) (found : Option Op) → IsStrictlySortedBy by_number (option_map_or (λ o. filter (breaks_later decl o head beat) later_order) found [])
+unfolding IsStrictlySortedBy
+later_rises decl beat head None = tt
+later_rises decl beat head (Some o) = IsStrictlySortedBy-filter by_number (breaks_later decl o head beat) later_order ((refl, (refl, tt)), ((refl, tt), (tt, tt)))
+
+last_rises : (decl : LinkDecl) (beat : Beat) (last : Option Beat) → IsStrictlySortedBy by_number (option_map_or (later_rules decl beat) last [])
+unfolding IsStrictlySortedBy
+last_rises decl beat None = tt
+last_rises decl beat (Some head) = later_rises decl beat head (message_of decl head)
+
+pub rules_rise : RulesRise
+rules_rise m before p =
+    let decl : LinkDecl = m.links p.link in
+    let last : List Rule = option_map_or (later_rules decl p.beat) (last_head decl (before_on p.link p.beat.chan before)) [] in
+    elim (at_head m.links before p) as (λ b. IsStrictlySortedBy by_number (cond b (head_rules m before p (message_of decl p.beat)) last)) [
+      | true ↦ head_rises m before p (message_of decl p.beat)
+      | false ↦ last_rises decl p.beat (last_head decl (before_on p.link p.beat.chan before))
+    ]

@@ -36,7 +36,7 @@ RepliesCloseTheirSource = (before : List Message) (o : Op) (beat : Beat) (reques
     → (if is_release_ack o then (flow_past (message_at before beat o ∷ before)).release beat.source
     else (flow_past (message_at before beat o ∷ before)).source beat.source) ≡ None
 
--- So does a reply on D that answers none.
+-- After a reply of channel D, whether it answers a request or not, no request is in flight on its source.
 abbrev pub RepliesLeaveNoRequest : Type 0
 RepliesLeaveNoRequest = (before : List Message) (reply : Message) → is_reply reply ≡ true → (flow_past (reply ∷ before)).source reply.beat.source ≡ None
 

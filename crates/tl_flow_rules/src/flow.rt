@@ -136,7 +136,7 @@ impl FlowState {
         ensures stands { (before : List Message) → StandsFor self.old before
             → OnOk result (StandsFor self.new (with_message head.now (message_of link.now head.now) before)) }
         // Whatever the state shows, the head is judged by that.
-        ensures shown { IfOk result (λ answer. (answer.rules ≡ rules_in (shown self.old) head.now (message_of link.now head.now))
+        ensures judged { IfOk result (λ answer. (answer.rules ≡ rules_in (shown self.old) head.now (message_of link.now head.now))
             × (answer.request ≡ answered_in (shown self.old) head.now (message_of link.now head.now))) }
         ensures next { OnOk result (shown self.new ≡ flow_with (shown self.old) head.now (message_of link.now head.now)) }
         ensures err { OnErr result (shown self.new ≡ shown self.old) }

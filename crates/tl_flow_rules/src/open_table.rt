@@ -54,6 +54,7 @@ impl<K: Ord + Drop, V: Drop> OpenTable<K, V> {
     }
 
     /// A table with the same entries.
+    #[tactic(auto, using(crate::proofs::Tables::copied))]
     pub fn copy(&self) -> Result<Self, AllocError>
     where
         K: Faithful,

@@ -4,6 +4,8 @@
 #[cfg(test)]
 mod captures;
 #[cfg(test)]
+mod flows;
+#[cfg(test)]
 mod fragments;
 #[cfg(test)]
 mod program;

@@ -4,4 +4,3 @@ pub mod SameLaws
 pub mod OpenLaws
 pub mod LinkLaws
 pub mod StandLaws
-pub mod RisingLaws

@@ -1,8 +1,6 @@
 -- What follows from the definitions of open requests, and how the messages of a link follow from its beats.
 use Rattle.std.specs.Prelude.{◌≡◌, ℕ, ◌==◌, ◌&&◌, Bool, true, false, List, ◌∷◌, ◌++◌, Some, None, filter, if◌then◌else◌}
 use Rattle.std.specs.List.{AllByRecursion, list_any}
-use Rattle.std.specs.List.Sorted.{IsStrictlySortedBy}
-use Rattle.std.specs.Ordering.{nat_cmp, on}
 use Rattle.tl_tables.specs.declared.Op.{Op}
 use Rattle.tl_tables.specs.declared.Rule.{Rule}
 use Rattle.tl_beats.specs.declared.Beat.{Beat}
@@ -15,7 +13,6 @@ use Rattle.tl_definitions.specs.Messages.{Links, Message, is_reply, request_of, 
 use Rattle.tl_definitions.specs.Past.{flow_past}
 use Rattle.tl_definitions.specs.Rules.{Manager, flow_order, permission_order, manager_order, format_rules}
 use Rattle.tl_definitions.specs.Breaks.{rules_at}
-use Rattle.tl_definitions.specs.Report.{rule_number}
 use Rattle.tl_topology.specs.declared.LinkDecl.{LinkDecl}
 use Rattle.tl_flow_rules.specs.declared.flow.FlowState.{FlowState}
 use Rattle.tl_flow_rules.specs.Flow.{StandsFor, StandsOn, flow_rules}
@@ -81,7 +78,3 @@ FoundRulesAreBroken = (kept : Rule → Bool) (m : Manager) (before : List Placed
     → StandsOn state (m.links p.link) p.link before
     → ((messages : List Message) → StandsFor state messages → found ≡ flow_rules messages p.beat (message_of (m.links p.link) p.beat))
     → filter kept (rules_at m before p) ≡ filter kept (format_rules m.exponent m.regions (m.links p.link) p.beat (message_of (m.links p.link) p.beat)) ++ found
-
--- The rules that a beat breaks stand in the order of reports, each once.
-abbrev pub RulesRise : Type 0
-RulesRise = (m : Manager) (before : List Placed) (p : Placed) → IsStrictlySortedBy (on rule_number nat_cmp) (rules_at m before p)

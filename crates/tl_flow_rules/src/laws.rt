@@ -1,6 +1,6 @@
 //! What the definitions of open requests mean, and how the messages of a link follow from its beats.
 
-ghost use Rattle.tl_flow_rules.specs.Laws.{OpenedStaysOpen, RepliesCloseTheirSource, RepliesLeaveNoRequest, HeadsAreMessages, LaterBeatsAreNoMessages, LinksAreApart, FlowNeedsItsLinkAlone, HeadsAreStoodFor, LaterBeatsAreStoodFor, FoundRulesAreBroken, RulesRise};
+ghost use Rattle.tl_flow_rules.specs.Laws.{OpenedStaysOpen, RepliesCloseTheirSource, RepliesLeaveNoRequest, HeadsAreMessages, LaterBeatsAreNoMessages, LinksAreApart, FlowNeedsItsLinkAlone, HeadsAreStoodFor, LaterBeatsAreStoodFor, FoundRulesAreBroken};
 
 /// What is opened and not closed stays open: a request, a Release, a Grant.
 #[tactic(auto, using(crate::proofs::OpenLaws::opened_stays_open))]
@@ -57,10 +57,4 @@ pub fn later_beats_are_stood_for()
 /// The flow rules that such a state finds are those that the head breaks among all beats of its manager.
 pub fn found_rules_are_broken()
     ensures { FoundRulesAreBroken }
-{}
-
-/// The rules that a beat breaks stand in the order of reports, each once, whichever of them are kept.
-#[tactic(auto, using(crate::proofs::RisingLaws::rules_rise))]
-pub fn rules_rise()
-    ensures { RulesRise }
 {}

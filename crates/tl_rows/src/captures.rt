@@ -21,7 +21,7 @@ fn once(alloc: Global, link: &str, beats: &str) -> Result<(Vec<u8>, Result<u64, 
 }
 
 /// A link, beat lines on it, and the report of them.
-const REPORTS: [(&str, &str, u64, &str); 11] = [
+const REPORTS: [(&str, &str, u64, &str); 15] = [
     // A stands before D in one cycle, so this is a Get with its reply.
     (
         "dma0",
@@ -84,6 +84,34 @@ const REPORTS: [(&str, &str, u64, &str); 11] = [
         "10 A 7 0 5 0 1000 ff 0\n15 B 6 2 5 0 1000 ff 0\n16 C 4 5 5 0 1000 0\n17 C 6 5 5 1 2000 0\n20 D 4 1 5 0 1 0 0\n21 E 1\n22 D 6 0 5 1 0 0 0\n",
         6,
         "report 1 edit 1 rows 6\ncpu0 1 2 F8\ncpu0 1 3 F8\ncpu0 1 4 F8\ncpu0 1 5 F8\ncpu0 1 6 F8\ncpu0 1 8 F8\n",
+    ),
+    // A request on a source in flight.
+    (
+        "dma0",
+        "10 A 4 0 3 0 1000 ff 0\n20 A 4 0 3 0 2000 ff 0\n20 D 1 0 3 0 0 0 0\n",
+        1,
+        "report 1 edit 1 rows 1\ndma0 1 3 S1\n",
+    ),
+    // A reply of another kind and size than its request.
+    (
+        "dma0",
+        "10 A 4 0 3 0 1000 ff 0\n20 D 0 0 2 0 0 0 0\n",
+        2,
+        "report 1 edit 1 rows 2\ndma0 1 3 S3\ndma0 1 3 S4\n",
+    ),
+    // Two Releases on one source; the second ReleaseAck finds none.
+    (
+        "cpu0",
+        "10 C 6 5 6 0 1000 0\n20 C 6 5 6 0 1040 0\n30 D 6 0 5 0 0 0 0\n40 D 6 0 6 0 0 0 0\n",
+        4,
+        "report 1 edit 1 rows 4\ncpu0 1 3 S6\ncpu0 1 4 F8\ncpu0 1 4 S7\ncpu0 1 5 S5\n",
+    ),
+    // A denied Grant with an unlawful cap and without its request.
+    (
+        "cpu0",
+        "10 D 5 3 6 0 1 1 0\n",
+        3,
+        "report 1 edit 1 rows 3\ncpu0 1 2 F2\ncpu0 1 2 F7\ncpu0 1 2 S2\n",
     ),
     // A later beat of another size is still a beat of its burst, and the beats after it are judged by the head.
     (

@@ -3,4 +3,5 @@ pub mod FragmentTexts
 pub mod Growing
 pub mod Lacking
 pub mod Lines
+pub mod PartsTexts
 pub mod Whole

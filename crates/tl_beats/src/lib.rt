@@ -5,6 +5,7 @@ mod beat_line;
 mod fault;
 mod fragment;
 mod laws;
+mod places;
 mod reading;
 
 pub use fault::FragmentFault;

@@ -4,4 +4,5 @@ pub mod Growing
 pub mod Lacking
 pub mod Lines
 pub mod PartsTexts
+pub mod TextParts
 pub mod Whole

@@ -1,7 +1,9 @@
-//! What texts tell of fragments. These calls do nothing: each is there for what it promises.
+//! What texts and parts tell of fragments. These calls do nothing: each is there for what it promises.
 
-ghost use Rattle.std.specs.Prelude.{◌≡◌, ◌++◌, ℕ, List, [], Ok};
+ghost use Rattle.std.specs.Prelude.{◌≡◌, ◌++◌, ℕ, List, [], Result, Ok};
+ghost use Rattle.tl_beats.specs.declared.fault.FragmentFault.{FragmentFault};
 ghost use Rattle.tl_beats.specs.Fragments.{Frag, IsFragment};
+ghost use Rattle.tl_beats.specs.Parts.{IsAnswerTo};
 ghost use Rattle.tl_text.specs.Words.{lines_of};
 ghost use Rattle.tl_beats.specs.Reading.{fragment_in, whole_fragment_in};
 ghost use Rattle.tl_beats.specs.Text.{fragment_text};
@@ -20,4 +22,9 @@ pub fn texts_end_by_themselves()
 pub fn written_texts_are_read_back()
     ensures front { (f : Frag) (rest : List ℕ) → IsFragment f → fragment_in (lines_of (fragment_text f ++ rest)) ≡ Ok (f, lines_of rest) }
     ensures whole { (f : Frag) → IsFragment f → whole_fragment_in (lines_of (fragment_text f)) ≡ Ok f }
+{}
+
+/// Parts have one answer: the fragment that they are, or its first fault.
+pub fn parts_have_one_answer()
+    ensures { (parts : Frag) (r s : Result Frag FragmentFault) → IsAnswerTo parts r → IsAnswerTo parts s → r ≡ s }
 {}

@@ -11,7 +11,10 @@ mod writing;
 
 pub use fault::FragmentFault;
 pub use fragment::Fragment;
-pub use laws::{texts_end_by_themselves, texts_tell_fragments_apart, written_texts_are_read_back};
+pub use laws::{
+    parts_have_one_answer, texts_end_by_themselves, texts_tell_fragments_apart,
+    written_texts_are_read_back,
+};
 pub use reading::{parse_fragment, parse_whole_fragment, read_fragment};
 use tl_tables::{Chan, Op, Rule};
 pub use tl_text::{ByteIn, ByteOut};

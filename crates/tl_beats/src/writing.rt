@@ -1,11 +1,12 @@
 //! The text of a fragment, written.
 
-ghost use Rattle.std.specs.Prelude.{◌≡◌, ◌+◌, ◌<◌, ◌≤◌, ◌^◌, ℕ, IfErr, OnOk, length, map, take};
+ghost use Rattle.std.specs.Prelude.{◌≡◌, ◌+◌, ◌<◌, ◌≤◌, ◌^◌, ◌∷◌, [], ℕ, codes, IfErr, OnOk, length, map, take};
 ghost use Rattle.std.specs.List.{flat_map};
 ghost use Rattle.std.specs.Result.{IsErrOf};
 ghost use Rattle.std.specs.Io.KnownBytes.{Appends};
 ghost use Rattle.tl_text.specs.Written.{Writes};
-ghost use Rattle.tl_beats.specs.Text.{ended, beat_text, header_text, fragment_text};
+ghost use Rattle.tl_text.specs.Numbers.{numeral};
+ghost use Rattle.tl_beats.specs.Text.{◌␣◌, ended, fields_text, beat_text, header_text, fragment_text};
 
 use crate::Beat;
 use crate::fault::FragmentFault;
@@ -31,78 +32,94 @@ fn write_header<O: ByteOut>(fragment: &Fragment, out: &mut O) -> Result<(), Writ
     )
 }
 
+/// The line of a beat of channel A or B, whose letter is given.
+fn write_access<O: ByteOut>(letter: u8, beat: &Beat, out: &mut O) -> Result<(), WriteFault>
+    requires { O.failure_count out.old < 2 ^ 63 }
+    ensures { Writes (ended (numeral 10 beat.now.cycle ␣ letter ∷ [] ␣ fields_text Chan.A beat.now)) (O.contents out.old) (O.contents out.new) (O.failure_count out.old) (O.failure_count out.new) result }
+{
+    write_words(
+        out,
+        &[
+            Word::Decimal(beat.cycle),
+            Word::Letter(letter),
+            Word::Decimal(u64::from(beat.opcode)),
+            Word::Decimal(u64::from(beat.param)),
+            Word::Decimal(u64::from(beat.size)),
+            Word::Decimal(u64::from(beat.source)),
+            Word::Hexadecimal(beat.address),
+            Word::Hexadecimal(beat.mask),
+            Word::Bit(beat.corrupt),
+        ],
+    )
+}
+
+/// The line of a beat of channel C.
+fn write_release<O: ByteOut>(beat: &Beat, out: &mut O) -> Result<(), WriteFault>
+    requires { O.failure_count out.old < 2 ^ 63 }
+    ensures { Writes (ended (numeral 10 beat.now.cycle ␣ codes "C" ␣ fields_text Chan.C beat.now)) (O.contents out.old) (O.contents out.new) (O.failure_count out.old) (O.failure_count out.new) result }
+{
+    write_words(
+        out,
+        &[
+            Word::Decimal(beat.cycle),
+            Word::Letter(b'C'),
+            Word::Decimal(u64::from(beat.opcode)),
+            Word::Decimal(u64::from(beat.param)),
+            Word::Decimal(u64::from(beat.size)),
+            Word::Decimal(u64::from(beat.source)),
+            Word::Hexadecimal(beat.address),
+            Word::Bit(beat.corrupt),
+        ],
+    )
+}
+
+/// The line of a beat of channel D.
+fn write_reply<O: ByteOut>(beat: &Beat, out: &mut O) -> Result<(), WriteFault>
+    requires { O.failure_count out.old < 2 ^ 63 }
+    ensures { Writes (ended (numeral 10 beat.now.cycle ␣ codes "D" ␣ fields_text Chan.D beat.now)) (O.contents out.old) (O.contents out.new) (O.failure_count out.old) (O.failure_count out.new) result }
+{
+    write_words(
+        out,
+        &[
+            Word::Decimal(beat.cycle),
+            Word::Letter(b'D'),
+            Word::Decimal(u64::from(beat.opcode)),
+            Word::Decimal(u64::from(beat.param)),
+            Word::Decimal(u64::from(beat.size)),
+            Word::Decimal(u64::from(beat.source)),
+            Word::Decimal(u64::from(beat.sink)),
+            Word::Bit(beat.denied),
+            Word::Bit(beat.corrupt),
+        ],
+    )
+}
+
+/// The line of a beat of channel E.
+fn write_grant_ack<O: ByteOut>(beat: &Beat, out: &mut O) -> Result<(), WriteFault>
+    requires { O.failure_count out.old < 2 ^ 63 }
+    ensures { Writes (ended (numeral 10 beat.now.cycle ␣ codes "E" ␣ fields_text Chan.E beat.now)) (O.contents out.old) (O.contents out.new) (O.failure_count out.old) (O.failure_count out.new) result }
+{
+    write_words(
+        out,
+        &[
+            Word::Decimal(beat.cycle),
+            Word::Letter(b'E'),
+            Word::Decimal(u64::from(beat.sink)),
+        ],
+    )
+}
+
 #[tactic(auto, unfolding(crate::specs::Text::beat_text))]
 fn write_beat<O: ByteOut>(beat: &Beat, out: &mut O) -> Result<(), WriteFault>
     requires { O.failure_count out.old < 2 ^ 63 }
     ensures { Writes (ended (beat_text beat.now)) (O.contents out.old) (O.contents out.new) (O.failure_count out.old) (O.failure_count out.new) result }
 {
-    let cycle = Word::Decimal(beat.cycle);
-    let opcode = Word::Decimal(u64::from(beat.opcode));
-    let param = Word::Decimal(u64::from(beat.param));
-    let size = Word::Decimal(u64::from(beat.size));
-    let source = Word::Decimal(u64::from(beat.source));
-    let sink = Word::Decimal(u64::from(beat.sink));
-    let address = Word::Hexadecimal(beat.address);
-    let mask = Word::Hexadecimal(beat.mask);
-    let denied = Word::Bit(beat.denied);
-    let corrupt = Word::Bit(beat.corrupt);
     match beat.chan {
-        Chan::A => write_words(
-            out,
-            &[
-                cycle,
-                Word::Letter(b'A'),
-                opcode,
-                param,
-                size,
-                source,
-                address,
-                mask,
-                corrupt,
-            ],
-        ),
-        Chan::B => write_words(
-            out,
-            &[
-                cycle,
-                Word::Letter(b'B'),
-                opcode,
-                param,
-                size,
-                source,
-                address,
-                mask,
-                corrupt,
-            ],
-        ),
-        Chan::C => write_words(
-            out,
-            &[
-                cycle,
-                Word::Letter(b'C'),
-                opcode,
-                param,
-                size,
-                source,
-                address,
-                corrupt,
-            ],
-        ),
-        Chan::D => write_words(
-            out,
-            &[
-                cycle,
-                Word::Letter(b'D'),
-                opcode,
-                param,
-                size,
-                source,
-                sink,
-                denied,
-                corrupt,
-            ],
-        ),
-        Chan::E => write_words(out, &[cycle, Word::Letter(b'E'), sink]),
+        Chan::A => write_access(b'A', beat, out),
+        Chan::B => write_access(b'B', beat, out),
+        Chan::C => write_release(beat, out),
+        Chan::D => write_reply(beat, out),
+        Chan::E => write_grant_ack(beat, out),
     }
 }
 

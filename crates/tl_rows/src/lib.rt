@@ -13,3 +13,5 @@ mod streams;
 mod tables;
 #[cfg(test)]
 mod topologies;
+#[cfg(test)]
+mod written;

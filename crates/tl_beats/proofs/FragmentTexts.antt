@@ -4,7 +4,7 @@ use Rattle.std.specs.Prelude.{codes, slice_get, IfOk, IfErr, IfSome}
 use Rattle.std.specs.Str.{bytes_eq}
 use Rattle.std.specs.List.{flat_map, AllAdjacentBelow}
 use Rattle.std.proofs.lemmas.Option.{none-some, same_Some, slice_get-get_or}
-use Rattle.std.proofs.lemmas.Bool.{le-ltb, ltb-false, lt-leb, and_from}
+use Rattle.std.proofs.lemmas.Bool.{le-ltb, lt-ltb, ltb-false, lt-leb, and_from}
 use Rattle.std.proofs.lemmas.List.{append-nil, take_at}
 use Rattle.std.proofs.lemmas.Slice.Eq.{bytes_eq-Decides}
 use Rattle.std.proofs.Math.ListN.{get_or-append}
@@ -24,7 +24,7 @@ use Rattle.tl_beats.specs.declared.fault.FragmentFault.TheVariants as fault
 use Rattle.tl_beats.specs.Beats.{IsWellFormed, rises}
 use Rattle.tl_beats.specs.Faults.{is_memory, is_outside}
 use Rattle.tl_beats.specs.Fragments.{Frag, AreBeats, IsFragment}
-use Rattle.tl_beats.specs.Reading.{beat_at, range_at, header_at, rises_behind, next_at, beats_from, fragment_behind, fragment_in, whole_fragment_in, is_end}
+use Rattle.tl_beats.specs.Reading.{beat_at, range_at, header_at, rises_behind, placed_at, next_at, beats_from, fragment_behind, fragment_in, whole_fragment_in, is_end}
 use Rattle.tl_beats.specs.Text.{◌␣◌, ended, beat_text, header_text, fragment_lines, fragment_text}
 use Rattle.tl_beats.proofs.Growing.{IsNext, passed}
 use Rattle.tl_beats.proofs.BeatTexts.{beat_takes, beat_again, beat_line}
@@ -55,7 +55,7 @@ same_text a b e = (bytes_eq-Decides a b).0 e
 -- ---- one beat
 
 read_is : (first last n : ℕ) (before : List Beat) (found : Option Beat) (beat : Beat)
-    → (or_fault found (fault.BadField n) >>> λ b. cond (leb 65536 (length before)) (Err fault.TooManyBeats) (cond (ltb b.cycle first || ltb last b.cycle) (Err (fault.OutOfRange n)) (cond (rises_behind (slice_get before (length before - 1)) b) (Ok b) (Err (fault.NotRising n))))) ≡ Ok beat
+    → (or_fault found (fault.BadField n) >>> λ b. placed_at first last n before b) ≡ Ok beat
     → found ≡ Some beat
 read_is first last n before None beat e = absurd (ok-err beat (fault.BadField n) (sym e))
 read_is first last n before (Some b) beat e = ap Some (passed (leb 65536 (length before)) (ltb b.cycle first || ltb last b.cycle) (rises_behind (slice_get before (length before - 1)) b) b beat fault.TooManyBeats (fault.OutOfRange n) (fault.NotRising n) e).3
@@ -64,10 +64,13 @@ next_takes : (first last n : ℕ) (before : List Beat) (line : List ℕ) (b : Be
 unfolding next_at
 next_takes first last n before line b e = beat_takes line b (read_is first last n before (beat_at line) b e)
 
+pub placed_again : (first last n : ℕ) (before : List Beat) (b : Beat) → IsNext first last before b → placed_at first last n before b ≡ Ok b
+placed_again first last n before b next =
+    rw (lt-leb 65536 (length before) next.room, le-ltb b.cycle first next.low, le-ltb last b.cycle next.high, next.rises_here) refl
+
 next_again : (first last n : ℕ) (before : List Beat) (b : Beat) → IsNext first last before b → IsWellFormed b → next_at first last n before (beat_text b) ≡ Ok b
 unfolding next_at
-next_again first last n before b next formed =
-    rw (beat_again b formed, lt-leb 65536 (length before) next.room, le-ltb b.cycle first next.low, le-ltb last b.cycle next.high, next.rises_here) refl
+next_again first last n before b next formed = rw (beat_again b formed) (placed_again first last n before b next)
 
 -- ---- a beat among those of a fragment
 
@@ -83,7 +86,7 @@ last_behind (x ∷ before) more b rising =
     let some : slice_get (x ∷ before) (length before) ≡ Some (get_or (x ∷ before) (length before) b) = slice_get-get_or (x ∷ before) (length before) b (omega arith) in
     rw (k, some) here
 
-at_seam : (first last : ℕ) (before more : List Beat) (b : Beat) → AreBeats first last (before ++ b ∷ more) → IsNext first last before b × IsWellFormed b
+pub at_seam : (first last : ℕ) (before more : List Beat) (b : Beat) → AreBeats first last (before ++ b ∷ more) → IsNext first last before b × IsWellFormed b
 at_seam first last before more b kept =
     let len : length (before ++ b ∷ more) ≡ length before + length (b ∷ more) = length-append before (b ∷ more) in
     let here : get_or (before ++ b ∷ more) (length before) b ≡ b = get_or-append_seam before b more b in
@@ -101,7 +104,7 @@ at_end : (t : Bool) (b : Beat) → IsWellFormed b → (t ≡ true → beat_text 
 at_end false b formed same = refl
 at_end true b formed same = absurd (none-some b (sym end_is_none ∙ ap beat_at (sym (same refl)) ∙ beat_again b formed))
 
-end_is_no_beat : (b : Beat) → IsWellFormed b → bytes_eq (beat_text b) (codes "end") ≡ false
+pub end_is_no_beat : (b : Beat) → IsWellFormed b → bytes_eq (beat_text b) (codes "end") ≡ false
 end_is_no_beat b formed = at_end (bytes_eq (beat_text b) (codes "end")) b formed (λ h. same_text (beat_text b) (codes "end") h)
 
 -- lines are the beats behind those before, up to the end
@@ -146,7 +149,7 @@ beats_take first last n before (line ∷ []) x e = absurd (ok-err x (fault.Trunc
 beats_take first last n before (line ∷ next ∷ lines) x e =
     beats_step (bytes_eq line (codes "end")) first last n before line (next ∷ lines) x (λ h. same_text line (codes "end") h) (λ b h. beats_take first last (n + 1) (before ++ b ∷ []) (next ∷ lines) x h) e
 
-shifted : (first last : ℕ) (before more : List Beat) (b : Beat) → AreBeats first last (before ++ b ∷ more) → AreBeats first last ((before ++ b ∷ []) ++ more)
+pub shifted : (first last : ℕ) (before more : List Beat) (b : Beat) → AreBeats first last (before ++ b ∷ more) → AreBeats first last ((before ++ b ∷ []) ++ more)
 shifted first last before more b kept = subst (AreBeats first last) (sym (append_assoc before (b ∷ []) more)) kept
 
 beats_again : (first last n : ℕ) (before more : List Beat) (next : List ℕ) (rest : List (List ℕ)) → AreBeats first last (before ++ more)
@@ -165,7 +168,7 @@ beats_again first last n before (b ∷ c ∷ more) next rest kept =
 abbrev Range : Type 0
 Range = ℕ × ℕ × ℕ
 
-abbrev range_text : ℕ → ℕ → ℕ → List ℕ
+abbrev pub range_text : ℕ → ℕ → ℕ → List ℕ
 range_text n f l = numeral 10 n ␣ numeral 10 f ␣ numeral 10 l
 
 record IsRange (words : List ℕ) (n f l : ℕ) : Type 0 where
@@ -253,7 +256,7 @@ header_takes line h e =
 pub header_named : (line : List ℕ) (h : Header) → header_at line ≡ Some h → (is_name h.link ≡ true) × (h.number < 2 ^ 32) × (h.last < 2 ^ 64)
 header_named line h e = let is = header_takes line h e in (is.named, is.number, is.last)
 
-header_again : (link : List ℕ) (n f l : ℕ) → is_name link ≡ true → n < 2 ^ 32 → f ≤ l → l < 2 ^ 64
+pub header_again : (link : List ℕ) (n f l : ℕ) → is_name link ≡ true → n < 2 ^ 32 → f ≤ l → l < 2 ^ 64
     → header_at (codes "fragment" ␣ link ␣ range_text n f l) ≡ Some (record { link = link; number = n; first = f; last = l })
 unfolding header_at name_at
 header_again link n f l named n_fits order l_fits =
@@ -261,15 +264,33 @@ header_again link n f l named n_fits order l_fits =
     let w2 = word_again link (range_text n f l) (name_free 32 link (omega arith) named) in
     rw (w1, w2, named, range_again n f l n_fits order l_fits) refl
 
-range_line : (n f l : ℕ) → n < 2 ^ 32 → f ≤ l → l < 2 ^ 64 → is_free 10 (range_text n f l) ≡ true
-range_line n f l n_fits order l_fits =
+-- a range that is out of order is none
+range_none : (n f l : ℕ) → n < 2 ^ 32 → f < 2 ^ 64 → l < 2 ^ 64 → l < f → range_at (range_text n f l) ≡ None
+unfolding range_at
+range_none n f l n_fits f_fits l_fits lt =
+    let w1 = field_again 10 n (numeral 10 f ␣ numeral 10 l) (omega arith) (omega arith) (omega arith) in
+    let n1 = number_again 10 (2 ^ 32 - 1) n (omega arith) (omega arith) (omega arith) (omega arith) in
+    let w2 = field_again 10 f (numeral 10 l) (omega arith) (omega arith) (omega arith) in
+    let n2 = number_again 10 (2 ^ 64 - 1) f (omega arith) (omega arith) (omega arith) (omega arith) in
+    let n3 = number_again 10 (2 ^ 64 - 1) l (omega arith) (omega arith) (omega arith) (omega arith) in
+    rw (w1, n1, w2, n2, n3, lt-ltb l f lt) refl
+
+pub header_none : (link : List ℕ) (n f l : ℕ) → is_name link ≡ true → n < 2 ^ 32 → f < 2 ^ 64 → l < 2 ^ 64 → l < f → header_at (codes "fragment" ␣ link ␣ range_text n f l) ≡ None
+unfolding header_at name_at
+header_none link n f l named n_fits f_fits l_fits lt =
+    let w1 = word_again (codes "fragment") (link ␣ range_text n f l) refl in
+    let w2 = word_again link (range_text n f l) (name_free 32 link (omega arith) named) in
+    rw (w1, w2, named, range_none n f l n_fits f_fits l_fits lt) refl
+
+range_line : (n f l : ℕ) → n < 2 ^ 32 → f < 2 ^ 64 → l < 2 ^ 64 → is_free 10 (range_text n f l) ≡ true
+range_line n f l n_fits f_fits l_fits =
     let last = number_line 10 l (omega arith) (omega arith) l_fits in
     let two = spaced_free (numeral 10 f) (numeral 10 l) (number_line 10 f (omega arith) (omega arith) (omega arith)) last in
     spaced_free (numeral 10 n) (numeral 10 f ␣ numeral 10 l) (number_line 10 n (omega arith) (omega arith) (omega arith)) two
 
-header_line : (link : List ℕ) (n f l : ℕ) → is_name link ≡ true → n < 2 ^ 32 → f ≤ l → l < 2 ^ 64 → is_free 10 (codes "fragment" ␣ link ␣ range_text n f l) ≡ true
-header_line link n f l named n_fits order l_fits =
-    spaced_free (codes "fragment") (link ␣ range_text n f l) refl (spaced_free link (range_text n f l) (name_free 10 link (omega arith) named) (range_line n f l n_fits order l_fits))
+pub header_line : (link : List ℕ) (n f l : ℕ) → is_name link ≡ true → n < 2 ^ 32 → f < 2 ^ 64 → l < 2 ^ 64 → is_free 10 (codes "fragment" ␣ link ␣ range_text n f l) ≡ true
+header_line link n f l named n_fits f_fits l_fits =
+    spaced_free (codes "fragment") (link ␣ range_text n f l) refl (spaced_free link (range_text n f l) (name_free 10 link (omega arith) named) (range_line n f l n_fits f_fits l_fits))
 
 -- ---- the lines of a fragment
 
@@ -287,7 +308,7 @@ lines_from line lines h beats behind header are =
     let same : beats ≡ are.more = are.all in
     let all : lines ≡ (map beat_text beats ++ codes "end" ∷ []) ++ behind = are.spelled ∙ ap (λ (l : List Beat). map beat_text l ++ codes "end" ∷ behind) (sym same) ∙ sym (append_assoc (map beat_text beats) (codes "end" ∷ []) behind) in
     let free : all_free (map beat_text beats ++ codes "end" ∷ []) ≡ true = rw same are.free in
-    let front = header_line h.link h.number h.first h.last header.named header.number header.order header.last in
+    let front = header_line h.link h.number h.first h.last header.named header.number (omega (arith, header.order, header.last)) header.last in
     record {
       spelled = ap (λ (l : List ℕ). l ∷ lines) header.spelled ∙ ap (λ (ls : List (List ℕ)). (codes "fragment" ␣ h.link ␣ range_text h.number h.first h.last) ∷ ls) all;
       free = and_from _ _ front free;
@@ -313,7 +334,7 @@ behind_again : (f : Frag) (next : List ℕ) (rest : List (List ℕ)) → IsFragm
 unfolding fragment_behind
 behind_again f next rest is = rw (beats_again f.first f.last 2 [] f.beats next rest is.beats) refl
 
-begins : (line : List ℕ) (lines : List (List ℕ)) (h : Header) (n : ℕ) (all : List (List ℕ)) (x : Found) → header_at line ≡ Some h → lines ≡ all → length all ≡ suc n → fragment_behind h all ≡ Ok x → fragment_in (line ∷ lines) ≡ Ok x
+pub begins : (line : List ℕ) (lines : List (List ℕ)) (h : Header) (n : ℕ) (all : List (List ℕ)) (x : Found) → header_at line ≡ Some h → lines ≡ all → length all ≡ suc n → fragment_behind h all ≡ Ok x → fragment_in (line ∷ lines) ≡ Ok x
 unfolding fragment_in
 begins line [] h n all x is same some e = absurd (omega (arith, some, ap (λ (ls : List (List ℕ)). length ls) same))
 begins line (next ∷ lines) h n all x is same some e = rw is (rw same e)
@@ -333,7 +354,7 @@ body_free first last before (b ∷ more) kept = and_from _ _ (beat_line b (at_se
 
 pub its_lines_free : (f : Frag) → IsFragment f → all_free (fragment_lines f) ≡ true
 unfolding header_text
-its_lines_free f is = and_from _ _ (header_line f.link f.number f.first f.last is.named is.number is.order is.last) (body_free f.first f.last [] f.beats is.beats)
+its_lines_free f is = and_from _ _ (header_line f.link f.number f.first f.last is.named is.number (omega (arith, is.order, is.last)) is.last) (body_free f.first f.last [] f.beats is.beats)
 
 -- what was read is the text, and what is left
 pub text_takes : (bytes rest : List ℕ) (f : Frag) → fragment_in (lines_of bytes) ≡ Ok (f, lines_of rest) → bytes ≡ fragment_text f ++ rest

@@ -1,19 +1,19 @@
 -- One beat more behind those of a fragment.
-use Rattle.std.proofs.Common.{◌≡◌, ℕ, zero, suc, ◌+◌, ◌-◌, ◌<◌, ◌≤◌, Bool, true, false, cond, leb, ltb, List, [], ◌∷◌, ◌++◌, length, get_or, Option, Some, None, Result, Ok, Err, refl, subst, arith, inl, inr, length-append}
+use Rattle.std.proofs.Common.{◌≡◌, ℕ, zero, suc, ◌+◌, ◌-◌, ◌<◌, ◌≤◌, Bool, true, false, cond, leb, ltb, List, [], ◌∷◌, ◌++◌, length, get_or, take, add-one, sym, Option, Some, None, Result, Ok, Err, refl, subst, arith, inl, inr, length-append}
 use Rattle.std.specs.Prelude.{◌||◌, slice_get}
 use Rattle.std.specs.List.{All, AllAdjacentBelow}
 use Rattle.std.proofs.lemmas.Bool.{leb-false, ltb-false, or_parts, cases_lt}
 use Rattle.std.proofs.lemmas.List.Elements.{All-append}
 use Rattle.std.proofs.lemmas.Option.{slice_get-get_or}
 use Rattle.std.proofs.Math.ListN.{get_or-append}
-use Rattle.std.proofs.Math.Seq.{get_or-append_seam}
+use Rattle.std.proofs.Math.Seq.{get_or-append_seam, take-suc}
 use Rattle.tl_text.specs.Readings.{◌>>>◌, or_fault}
 use Rattle.tl_beats.specs.declared.Beat.{Beat}
 use Rattle.tl_beats.specs.declared.fault.FragmentFault.{FragmentFault}
 use Rattle.tl_beats.specs.declared.fault.FragmentFault.TheVariants as fault
 use Rattle.tl_beats.specs.Beats.{IsWellFormed, rises}
 use Rattle.tl_beats.specs.Fragments.{AreBeats}
-use Rattle.tl_beats.specs.Reading.{beat_at, rises_behind, next_at}
+use Rattle.tl_beats.specs.Reading.{beat_at, rises_behind, placed_at, next_at}
 
 -- what a beat has that is read behind others
 pub record IsNext (first last : ℕ) (before : List Beat) (beat : Beat) : Type 0 where
@@ -40,11 +40,14 @@ tested first last before b beat x y z e =
       rises_here = p.2;
     })
 
+-- a beat that is placed is the next
+pub placed_is : (first last n : ℕ) (before : List Beat) (b beat : Beat) → placed_at first last n before b ≡ Ok beat → IsNext first last before beat
+placed_is first last n before b beat e = tested first last before b beat _ _ _ e
+
 by_beat : (first last n : ℕ) (before : List Beat) (found : Option Beat) (beat : Beat)
-    → (or_fault found (fault.BadField n) >>> λ b. cond (leb 65536 (length before)) (Err fault.TooManyBeats) (cond (ltb b.cycle first || ltb last b.cycle) (Err (fault.OutOfRange n)) (cond (rises_behind (slice_get before (length before - 1)) b) (Ok b) (Err (fault.NotRising n))))) ≡ Ok beat
-    → IsNext first last before beat
+    → (or_fault found (fault.BadField n) >>> λ b. placed_at first last n before b) ≡ Ok beat → IsNext first last before beat
 by_beat first last n before None beat e = absurd cc
-by_beat first last n before (Some b) beat e = tested first last before b beat _ _ _ e
+by_beat first last n before (Some b) beat e = placed_is first last n before b beat e
 
 pub next_is : (first last n : ℕ) (before : List Beat) (line : List ℕ) (beat : Beat) → next_at first last n before line ≡ Ok beat → IsNext first last before beat
 unfolding next_at
@@ -73,9 +76,8 @@ rising_more before beat rising h k d lt =
           rw (left, right) (last_rises before beat d k is h)
     ]
 
-pub grown : (first last n : ℕ) (before : List Beat) (line : List ℕ) (beat : Beat) → AreBeats first last before → next_at first last n before line ≡ Ok beat → IsWellFormed beat → AreBeats first last (before ++ beat ∷ [])
-grown first last n before line beat kept read formed =
-    let next = next_is first last n before line beat read in
+pub joined : (first last : ℕ) (before : List Beat) (beat : Beat) → AreBeats first last before → IsNext first last before beat → IsWellFormed beat → AreBeats first last (before ++ beat ∷ [])
+joined first last before beat kept next formed =
     let len : length (before ++ beat ∷ []) ≡ length before + 1 = length-append before (beat ∷ []) in
     record {
       few = omega (arith, len, next.room);
@@ -83,6 +85,22 @@ grown first last n before line beat kept read formed =
       within = All-append (λ (b : Beat). (first ≤ b.cycle) × (b.cycle ≤ last)) before (beat ∷ []) kept.within (all_one (λ (b : Beat). (first ≤ b.cycle) × (b.cycle ≤ last)) beat (next.low, next.high));
       rising = rising_more before beat kept.rising next.rises_here;
     }
+
+pub grown : (first last n : ℕ) (before : List Beat) (line : List ℕ) (beat : Beat) → AreBeats first last before → next_at first last n before line ≡ Ok beat → IsWellFormed beat → AreBeats first last (before ++ beat ∷ [])
+grown first last n before line beat kept read formed = joined first last before beat kept (next_is first last n before line beat read) formed
+
+placed_same : (first last n : ℕ) (before : List Beat) (b beat : Beat) → placed_at first last n before b ≡ Ok beat → b ≡ beat
+placed_same first last n before b beat e = (passed (leb 65536 (length before)) (ltb b.cycle first || ltb last b.cycle) (rises_behind (slice_get before (length before - 1)) b) b beat fault.TooManyBeats (fault.OutOfRange n) (fault.NotRising n) e).3
+
+placed_here : (first last n : ℕ) (before : List Beat) (b beat : Beat) → placed_at first last n before b ≡ Ok beat → IsNext first last before b
+placed_here first last n before b beat e = subst (IsNext first last before) (sym (placed_same first last n before b beat e)) (placed_is first last n before b beat e)
+
+-- one place further along beats
+pub more_kept : (first last n i : ℕ) (beats : List Beat) (d placed : Beat) → i < length beats → AreBeats first last (take i beats) → placed_at first last n (take i beats) (get_or beats i d) ≡ Ok placed → IsWellFormed (get_or beats i d)
+    → AreBeats first last (take (i + 1) beats)
+more_kept first last n i beats d placed lt kept is formed =
+    let next = placed_here first last n (take i beats) (get_or beats i d) placed is in
+    rw (add-one, take-suc beats i d lt) (joined first last (take i beats) (get_or beats i d) kept next formed)
 
 pub room_for : (first last n : ℕ) (before : List Beat) (line : List ℕ) (beat : Beat) → next_at first last n before line ≡ Ok beat → length before < 65536
 room_for first last n before line beat read = (next_is first last n before line beat read).room

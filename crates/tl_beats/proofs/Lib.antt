@@ -3,4 +3,7 @@ pub mod FragmentTexts
 pub mod Growing
 pub mod Lacking
 pub mod Lines
+pub mod OneAnswer
+pub mod PartsTexts
+pub mod TextParts
 pub mod Whole

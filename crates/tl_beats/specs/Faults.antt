@@ -14,6 +14,7 @@ code_of (fault.Truncated line) = 15
 code_of fault.TooManyBeats = 16
 code_of fault.ReadFault = 17
 code_of fault.TooLong = 18
+code_of fault.WriteFault = 19
 code_of fault.Memory = 20
 
 -- the line that is printed with it
@@ -28,7 +29,7 @@ abbrev pub is_memory : FragmentFault → Bool
 is_memory fault.Memory = true
 is_memory _ = false
 
--- a fault that is not the text's
+-- a fault of reading that is not the text's
 abbrev pub is_outside : FragmentFault → Bool
 is_outside fault.ReadFault = true
 is_outside fault.TooLong = true

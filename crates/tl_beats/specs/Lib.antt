@@ -1,5 +1,6 @@
 pub mod Beats
 pub mod Faults
 pub mod Fragments
+pub mod Parts
 pub mod Reading
 pub mod Text

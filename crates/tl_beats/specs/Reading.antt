@@ -112,12 +112,15 @@ abbrev pub rises_behind : Option Beat → Beat → Bool
 rises_behind None beat = true
 rises_behind (Some before) beat = rises before beat
 
--- the beat of line n, in the range and behind the beats before it
-unfoldable pub next_at : ℕ → ℕ → ℕ → List Beat → List ℕ → Result Beat FragmentFault
-next_at first last n before line = or_fault (beat_at line) (fault.BadField n) >>> λ beat.
-    if nat_le 65536 (length before) then Err fault.TooManyBeats
+-- line n's beat, where there is room behind the beats before it, in the range, and behind the last of them
+abbrev pub placed_at : ℕ → ℕ → ℕ → List Beat → Beat → Result Beat FragmentFault
+placed_at first last n before beat = if nat_le 65536 (length before) then Err fault.TooManyBeats
     else (if nat_lt beat.cycle first || nat_lt last beat.cycle then Err (fault.OutOfRange n)
     else (if rises_behind (slice_get before (length before - 1)) beat then Ok beat else Err (fault.NotRising n)))
+
+-- the beat of line n, in its place
+unfoldable pub next_at : ℕ → ℕ → ℕ → List Beat → List ℕ → Result Beat FragmentFault
+next_at first last n before line = or_fault (beat_at line) (fault.BadField n) >>> λ beat. placed_at first last n before beat
 
 -- the beats from line n on, behind those before, and the lines behind the end
 unfoldable pub beats_from : ℕ → ℕ → ℕ → List Beat → List (List ℕ) → Result (List Beat × List (List ℕ)) FragmentFault

@@ -2,12 +2,12 @@
 
 ghost use Rattle.std.specs.Prelude.{◌≡◌};
 ghost use Rattle.tl_beats.specs.Faults.{code_of, number_of};
-ghost use Rattle.tl_beats.specs.declared.fault.FragmentFault.TheVariants.{Memory};
+ghost use Rattle.tl_beats.specs.declared.fault.FragmentFault.TheVariants.{Memory, WriteFault as Unwritten};
 ghost use Rattle.tl_beats.specs.Faults.{of_text};
 
 use std::alloc::{AllocError, AllocFailed};
 use thiserror::Error;
-use tl_text::TextFault;
+use tl_text::{TextFault, WriteFault};
 
 /// The first cause in the first faulty line; those that name a line count the header as 1.
 #[derive(Clone, Copy, Debug, Drop, Error, PartialEq, Eq)]
@@ -36,6 +36,9 @@ pub enum FragmentFault {
     /// The text is longer than 8,388,608 bytes.
     #[error("the text is longer than 8388608 bytes")]
     TooLong,
+    /// A write failed.
+    #[error("a write failed")]
+    WriteFault,
     /// A growth was refused.
     #[error("out of memory")]
     Memory,
@@ -55,6 +58,7 @@ impl FragmentFault {
             FragmentFault::TooManyBeats => 16,
             FragmentFault::ReadFault => 17,
             FragmentFault::TooLong => 18,
+            FragmentFault::WriteFault => 19,
             FragmentFault::Memory => 20,
         }
     }
@@ -98,5 +102,13 @@ impl From<TextFault> for FragmentFault {
             TextFault::TooLong => FragmentFault::TooLong,
             TextFault::Memory => FragmentFault::Memory,
         }
+    }
+}
+
+impl From<WriteFault> for FragmentFault {
+    ghost from_gives = { λ _ e. e ≡ Unwritten };
+
+    fn from(_error: WriteFault) -> FragmentFault {
+        FragmentFault::WriteFault
     }
 }

@@ -2,8 +2,16 @@
 
 ghost use Rattle.std.specs.Prelude.{◌≡◌, ◌≤◌, IfOk};
 ghost use Rattle.tl_beats.specs.Fragments.{AreBeats};
+ghost use Rattle.tl_beats.specs.Parts.{IsAnswerTo};
+ghost use Rattle.std.specs.List.{All};
+ghost use Rattle.tl_text.specs.Words.{lines_of};
+ghost use Rattle.tl_beats.specs.Beats.{IsWellFormed};
+ghost use Rattle.tl_beats.specs.Text.{fragment_text};
+ghost use Rattle.tl_beats.specs.Reading.{whole_fragment_in};
 
 use crate::Beat;
+use crate::fault::FragmentFault;
+use crate::places::judge;
 use std::alloc::{AllocError, Global};
 use std::marker::Model;
 use tl_topology::Name;
@@ -30,6 +38,34 @@ impl Model for Fragment {
 }
 
 impl Fragment {
+    /// The fragment with these parts, or the first fault, counted as in the text: the header is line 1 and the beat at place i
+    /// is on line i + 2. BadHeader where the first cycle is above the last; in the line of a beat first BadField, where the beat
+    /// is not well-formed, then TooManyBeats, OutOfRange and NotRising.
+    pub fn new(
+        link: Name,
+        number: u32,
+        first: u64,
+        last: u64,
+        beats: Vec<Beat>,
+    ) -> Result<Fragment, FragmentFault>
+        ensures exact { IsAnswerTo (record { link = link; number = number; first = first; last = last; beats = beats.items }) result }
+        ensures keeps { IfOk result (λ f. f ≡ record { link = link; number = number; first = first; last = last; beats = beats.items }) }
+        // Well-formed beats are answered as the text of the parts is.
+        ensures as_text { All IsWellFormed beats.items → result ≡ whole_fragment_in (lines_of (fragment_text (record { link = link; number = number; first = first; last = last; beats = beats.items }))) }
+    {
+        if last < first {
+            return Err(FragmentFault::BadHeader);
+        }
+        judge(first, last, &beats)?;
+        Ok(Fragment {
+            link,
+            number,
+            first,
+            last,
+            beats,
+        })
+    }
+
     /// The name of its link.
     pub fn link(&self) -> Name
         ensures { result ≡ self.now.link }

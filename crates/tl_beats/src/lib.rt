@@ -5,14 +5,20 @@ mod beat_line;
 mod fault;
 mod fragment;
 mod laws;
+mod places;
 mod reading;
+mod writing;
 
 pub use fault::FragmentFault;
 pub use fragment::Fragment;
-pub use laws::{texts_end_by_themselves, texts_tell_fragments_apart};
+pub use laws::{
+    parts_have_one_answer, texts_end_by_themselves, texts_tell_fragments_apart,
+    written_texts_are_read_back,
+};
 pub use reading::{parse_fragment, parse_whole_fragment, read_fragment};
 use tl_tables::{Chan, Op, Rule};
 pub use tl_text::{ByteIn, ByteOut};
+pub use writing::write_fragment;
 
 /// One accepted beat, as it was recorded at the client's port. A field that its channel lacks is 0.
 /// [TileLink 1.8: the signals of the five channels]

@@ -4,7 +4,7 @@ ghost use Rattle.std.specs.Prelude.{◌≡◌, ◌↔◌, ◌+◌, ◌<◌, ◌�
 ghost use Rattle.std.specs.Result.{IsErrOf};
 ghost use Rattle.tl_text.specs.Words.{lines_of, IsBehind};
 ghost use Rattle.tl_text.specs.Readings.{Gives};
-ghost use Rattle.tl_beats.specs.Beats.{IsWellFormed, rises};
+ghost use Rattle.tl_beats.specs.Beats.{IsWellFormed};
 ghost use Rattle.tl_beats.specs.Faults.{is_memory, is_outside};
 ghost use Rattle.tl_beats.specs.Fragments.{AreBeats, Frag, IsFragment};
 ghost use Rattle.tl_beats.specs.Text.{fragment_text};
@@ -14,12 +14,10 @@ use crate::Beat;
 use crate::beat_line::beat_of;
 use crate::fault::FragmentFault;
 use crate::fragment::Fragment;
+use crate::places::placed;
 use std::alloc::Global;
-use tl_tables::chan_index;
 use tl_text::{ByteIn, decimal, line, read_text, word};
 use tl_topology::Name;
-
-const MOST_BEATS: usize = 65_536;
 
 /// The most bytes of a fragment's text.
 const MOST_BYTES: u64 = 8_388_608;
@@ -71,14 +69,6 @@ fn header_of(line: &[u8]) -> Option<Header>
     })
 }
 
-/// Whether the first beat stands strictly before the second.
-fn rises(before: &Beat, after: &Beat) -> bool
-    ensures { result ≡ rises before.now after.now }
-{
-    before.cycle < after.cycle
-        || before.cycle == after.cycle && chan_index(before.chan) < chan_index(after.chan)
-}
-
 /// The beat of a line, in the range and behind the beats before it.
 #[tactic(auto, unfolding(crate::specs::Reading::next_at))]
 fn next_of(
@@ -92,18 +82,9 @@ fn next_of(
     ensures formed { IfOk result IsWellFormed }
     ensures inside { IfErr result (λ e. is_outside e ≡ is_memory e) }
 {
-    let Some(beat) = beat_of(line) else {
-        return Err(FragmentFault::BadField(number));
-    };
-    if before.len() >= MOST_BEATS {
-        return Err(FragmentFault::TooManyBeats);
-    }
-    if beat.cycle < first || last < beat.cycle {
-        return Err(FragmentFault::OutOfRange(number));
-    }
-    match before.last() {
-        Some(earlier) if !rises(earlier, &beat) => Err(FragmentFault::NotRising(number)),
-        _ => Ok(beat),
+    match beat_of(line) {
+        Some(beat) => placed(number, first, last, before, beat),
+        None => Err(FragmentFault::BadField(number)),
     }
 }
 

@@ -17,3 +17,5 @@ mod streams;
 mod tables;
 #[cfg(test)]
 mod topologies;
+#[cfg(test)]
+mod written;

@@ -2,4 +2,6 @@ pub mod Cuts
 pub mod Numerals
 pub mod Spelling
 pub mod AsciiNames
-mod Writes
+pub mod Writes
+mod Joins
+pub mod Digits

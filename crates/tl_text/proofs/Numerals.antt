@@ -85,7 +85,7 @@ led_pos : (d b c : ℕ) (bytes : List ℕ) → digit_glyph false d ≡ b → is_
 led_pos zero b c bytes glyph led = absurd (led_zero b c bytes (sym glyph) led)
 led_pos (suc d) b c bytes glyph led = omega arith
 
-one_digit : (base k d : ℕ) (acc : List ℕ) → d < base → digits_onto (suc k) base false d acc ≡ digit_glyph false d ∷ acc
+pub one_digit : (base k d : ℕ) (acc : List ℕ) → d < base → digits_onto (suc k) base false d acc ≡ digit_glyph false d ∷ acc
 one_digit base k d acc lt = rw (div-eq_of_lt lt, mod-eq_of_lt lt) refl
 
 led_then : (t : Bool) (o : Option ℕ) (n : ℕ) → cond t o None ≡ Some n → (t ≡ true) × (o ≡ Some n)

@@ -3,3 +3,4 @@ pub mod Numbers
 pub mod Names
 pub mod Written
 pub mod Readings
+pub mod Spelled

@@ -8,6 +8,7 @@ mod names;
 mod numbers;
 mod output;
 mod words;
+mod writing;
 
 pub use counted::{CountedReader, CountedWriter};
 pub use input::{ByteIn, ReadFailed, TextFault, read_text};
@@ -15,3 +16,4 @@ pub use names::{bit, is_name};
 pub use numbers::{decimal, hexadecimal};
 pub use output::{ByteOut, WriteFault, write_all};
 pub use words::{line, word};
+pub use writing::{Word, write_words};

@@ -1,6 +1,7 @@
 //! Values whose clones are equal to them.
 
 ghost use Rattle.std.specs.Prelude.{◌≡◌};
+ghost use Rattle.std.proofs.Common.{rules};
 
 use tl_beats::Request;
 use tl_tables::Perm;
@@ -36,4 +37,8 @@ impl Faithful for Perm {
 
 impl Faithful for Request {
     ghost faithful = { λ x y h. h };
+}
+
+impl<T: Faithful> Faithful for Option<T> {
+    ghost faithful = { Prim.search rules };
 }

@@ -13,11 +13,12 @@ use Rattle.tl_definitions.specs.Messages.{Message, as_request, sources, releases
 use Rattle.tl_definitions.specs.Past.{LinkPast, past_of, acquires_block, releases_block, grants_block}
 use Rattle.tl_definitions.specs.Judging.{message_in, past_after, past_with}
 use Rattle.tl_definitions.proofs.JudgingLaws.{message_next}
+use Rattle.tl_flow_rules.specs.Flow.{answered}
 use Rattle.tl_perm_rules.specs.declared.client.ClientState.{ClientState}
 use Rattle.tl_perm_rules.specs.declared.open_blocks.OpenBlocks.{OpenBlocks}
 use Rattle.tl_perm_rules.specs.OpenBlocks.{block_at, open_on}
 use Rattle.tl_perm_rules.specs.Bounds.{bound_at}
-use Rattle.tl_perm_rules.specs.Client.{ClientView, probe_at, shown, acquired_block, released_block, client_view, Shows, StandsFor, permission_rules, answered, rules_in, answered_in, view_after, view_with, view_rules, head_with, IsView}
+use Rattle.tl_perm_rules.specs.Client.{ClientView, probe_at, shown, acquired_block, released_block, client_view, Shows, StandsFor, permission_rules, rules_in, answered_in, view_after, view_with, view_rules, head_with, IsView}
 
 -- ---- what a state shows
 

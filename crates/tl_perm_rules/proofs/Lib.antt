@@ -4,3 +4,5 @@ pub mod Blocks
 pub mod Carried
 pub mod ClientLaws
 pub mod SameLaws
+pub mod LinkLaws
+pub mod ClaimLaws

@@ -14,7 +14,7 @@ use Rattle.tl_beats.specs.declared.Request.{Request}
 use Rattle.tl_topology.specs.declared.LinkDecl.{LinkDecl}
 use Rattle.tl_definitions.specs.Kinds.{is_acquire, is_probe, is_probe_ack, is_release, is_grant, is_release_ack, is_grant_ack}
 use Rattle.tl_definitions.specs.OpenTables.{Table, entry_after, count_after, passes}
-use Rattle.tl_definitions.specs.Messages.{Message, Links, as_request, sources, releases, sinks, probes, round_down, granted_block, claim, claimed_or, request_of, message_at, messages_on}
+use Rattle.tl_definitions.specs.Messages.{Message, Links, as_request, sources, releases, sinks, probes, round_down, granted_block, claim, claimed_or, message_at, messages_on}
 use Rattle.tl_definitions.specs.Past.{ClientPast, LinkPast, past_of, client_past, grants_block}
 use Rattle.tl_definitions.specs.Rules.{breaks_permission, permission_order}
 use Rattle.tl_definitions.specs.Judging.{request_in, message_in}
@@ -76,10 +76,6 @@ StandsFor exponent state before = Shows exponent state (past_of exponent before)
 abbrev pub permission_rules : ℕ → List Message → Beat → Option Op → List Rule
 permission_rules exponent before head found =
     option_map_or (λ o. filter (breaks_permission exponent (client_past exponent before) (message_at before head o)) permission_order) found []
-
--- The request that it answers.
-abbrev pub answered : List Message → Beat → Option Op → Option Request
-answered before head found = option_and_then (λ o. request_of before o head) found
 
 -- The same from what a past leaves.
 abbrev pub rules_in : ℕ → LinkPast → Beat → Option Op → List Rule

@@ -4,3 +4,4 @@ pub mod OpenBlocks
 pub mod Holds
 pub mod Bounds
 pub mod Client
+pub mod Laws

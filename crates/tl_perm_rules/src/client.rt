@@ -54,7 +54,8 @@ pub struct ClientState {
 }
 
 impl ClientState {
-    ghost use Rattle.tl_perm_rules.specs.Client.{ClientView, StandsFor, Shows, shown, probe_at, acquired_block, permission_rules, answered, rules_in, answered_in, view_after, view_with, view_rules, head_with, can_carry, IsOpened, IsView};
+    ghost use Rattle.tl_flow_rules.specs.Flow.{answered};
+    ghost use Rattle.tl_perm_rules.specs.Client.{ClientView, StandsFor, Shows, shown, probe_at, acquired_block, permission_rules, rules_in, answered_in, view_after, view_with, view_rules, head_with, can_carry, IsOpened, IsView};
     ghost use Rattle.tl_perm_rules.specs.Bounds.{bound_at};
     ghost use Rattle.tl_perm_rules.specs.OpenBlocks.{block_at, open_on};
 

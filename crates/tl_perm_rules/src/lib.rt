@@ -6,6 +6,7 @@ mod client;
 mod counts;
 mod entries;
 mod kinds;
+pub mod laws;
 mod open_blocks;
 
 pub use client::ClientState;

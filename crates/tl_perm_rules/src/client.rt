@@ -1,0 +1,371 @@
+//! What a client may hold of each block, and the permission rules of the heads of its link.
+
+ghost use Rattle.std.specs.Prelude.{◌≡◌, ◌||◌, ℕ, List, [], None, Some, filter, nat_lt, is_some, true, false, if◌then◌else◌, IfOk, OnOk, OnErr};
+ghost use Rattle.std.specs.Bool.{Decides};
+ghost use Rattle.std.specs.Option.{option_copied, option_and_then, option_map_or};
+ghost use Rattle.tl_tables.specs.Params.{from_of, to_of};
+ghost use Rattle.tl_definitions.specs.Kinds.{is_acquire, is_probe_ack, is_release};
+ghost use Rattle.tl_definitions.specs.Heads.{message_of};
+ghost use Rattle.tl_definitions.specs.Messages.{Message, with_message, round_down, claim, bound_of};
+ghost use Rattle.tl_definitions.specs.Past.{LinkPast, client_past};
+ghost use Rattle.tl_definitions.specs.Rules.{breaks_permission, permission_order, claims_above, keeps_above};
+ghost use Rattle.tl_definitions.specs.Judging.{past_with};
+ghost use Rattle.tl_perm_rules.specs.Client.{SameClient};
+
+use crate::bounds::Bounds;
+use crate::kinds::{
+    is_above, is_acquire, is_grant, is_probe, is_probe_ack, is_release, is_release_ack,
+};
+use crate::open_blocks::OpenBlocks;
+use std::alloc::{AllocError, Global};
+use tl_beats::{Beat, Request};
+use tl_flow_rules::OpenTable;
+use tl_format_rules::RuleList;
+use tl_same::Same;
+use tl_tables::{Chan, Op, Perm, Rule, cap_of, from_of, op_of, to_of};
+use tl_topology::LinkDecl;
+
+/// The permission rules, in the order of reports.
+const PERMISSION_ORDER: [Rule; 8] = [
+    Rule::P1,
+    Rule::P2,
+    Rule::P3,
+    Rule::P4,
+    Rule::P5,
+    Rule::P6,
+    Rule::P7,
+    Rule::P8,
+];
+
+/// What one client, on its link, can hold of each block, and what is open on it. [TileLink 1.8: permission transitions]
+#[derive(Drop)]
+pub struct ClientState {
+    /// A block has 2 to this power bytes.
+    exponent: u8,
+    /// The caps of the Probes without their ProbeAck, by block; None where the param named no cap.
+    probes: OpenTable<u64, Option<Perm>>,
+    bounds: Bounds,
+    /// The requests of channel A by source: of an Acquire its block, of another None.
+    acquires: OpenBlocks,
+    /// The Releases by source: these are other sources than those of channel A.
+    releases: OpenBlocks,
+    /// The Grants without their GrantAck by sink; None where the block is not known.
+    grants: OpenBlocks,
+}
+
+impl ClientState {
+    ghost use Rattle.tl_flow_rules.specs.Flow.{answered};
+    ghost use Rattle.tl_perm_rules.specs.Client.{ClientView, StandsFor, Shows, shown, probe_at, acquired_block, permission_rules, rules_in, answered_in, view_after, view_with, view_rules, head_with, can_carry, IsOpened, IsView};
+    ghost use Rattle.tl_perm_rules.specs.Bounds.{bound_at};
+    ghost use Rattle.tl_perm_rules.specs.OpenBlocks.{block_at, open_on};
+
+    /// The state of a client of a manager whose blocks have 2 to the exponent bytes, before all messages.
+    pub fn new(alloc: Global, exponent: u8) -> ClientState
+        ensures { StandsFor exponent result [] }
+    {
+        ClientState {
+            exponent,
+            probes: OpenTable::new(alloc),
+            bounds: Bounds::new(alloc),
+            acquires: OpenBlocks::new(alloc),
+            releases: OpenBlocks::new(alloc),
+            grants: OpenBlocks::new(alloc),
+        }
+    }
+
+    /// The most that the client can hold of the block that begins at this address: what the last message set that set it. Where
+    /// no block begins there, it is Nothing. [TileLink 1.8: permission transitions]
+    pub fn bound(&self, block: u64) -> Perm
+        ensures stands { (exponent : ℕ) (before : List Message) → StandsFor exponent self.now before → result ≡ bound_of exponent before block }
+        ensures shown { result ≡ (shown self.now).past.bound block }
+    {
+        self.bounds.get(block)
+    }
+
+    /// Whether a Probe of the block that begins at this address awaits its ProbeAck; never where no block begins there.
+    pub fn probe_open(&self, block: u64) -> bool
+        ensures stands { (exponent : ℕ) (before : List Message) → StandsFor exponent self.now before → result ≡ is_some ((client_past exponent before).probe block) }
+        ensures shown { result ≡ is_some ((shown self.now).past.probe block) }
+    {
+        self.probes.get(&block).is_some()
+    }
+
+    /// Whether a Grant of the block that begins at this address awaits its GrantAck; never where no block begins there.
+    pub fn grant_open(&self, block: u64) -> bool
+        ensures stands { (exponent : ℕ) (before : List Message) → StandsFor exponent self.now before → result ≡ nat_lt 0 ((client_past exponent before).grants block) }
+        ensures shown { result ≡ nat_lt 0 ((shown self.now).past.grants block) }
+    {
+        self.grants.is_open(block)
+    }
+
+    /// The address of the block that an address lies in.
+    #[tactic(auto, using(crate::proofs::Blocks::one_block))]
+    fn block_of(&self, address: u64) -> u64
+        ensures { result ≡ round_down self.now.exponent address }
+    {
+        if self.exponent < 64 {
+            let bytes: u64 = 1 << self.exponent;
+            address / bytes * bytes
+        } else {
+            0
+        }
+    }
+
+    /// The block that a request acquires, if it is an Acquire.
+    fn acquired_block(&self, op: Op, address: u64) -> Option<u64>
+        ensures { result ≡ (if is_acquire op then Some (round_down self.now.exponent address) else None) }
+    {
+        if is_acquire(op) {
+            Some(self.block_of(address))
+        } else {
+            None
+        }
+    }
+
+    /// The block of a Grant: that of the Acquire that it answers.
+    fn granted_block(&self, request: Option<Request>) -> Option<u64>
+        ensures { result ≡ option_and_then (acquired_block self.now.exponent) request }
+    {
+        match request {
+            Some(request) => self.acquired_block(request.op, request.address),
+            None => None,
+        }
+    }
+
+    /// The block and the bound that a head with this message sets, if it sets one.
+    fn claim(&self, op: Op, head: &Beat, request: Option<Request>) -> Option<(u64, Perm)>
+        ensures { result ≡ claim self.now.exponent (head_with head.now request op) }
+    {
+        if is_grant(op) {
+            if head.denied {
+                return None;
+            }
+            let block = self.granted_block(request)?;
+            let cap = cap_of(op, head.param)?;
+            return Some((block, cap));
+        }
+        let set = own_claim(op, head.param)?;
+        Some((self.block_of(head.address), set))
+    }
+
+    /// Whether a head with this message claims that the client held more than it can.
+    fn claims_above(&self, op: Op, head: &Beat) -> bool
+        ensures { result ≡ claims_above self.now.exponent (shown self.now).past (head_with head.now None op) }
+    {
+        match from_of(op, head.param) {
+            Some(from) => is_above(from, self.bounds.get(self.block_of(head.address))),
+            None => false,
+        }
+    }
+
+    /// Whether it keeps more than the cap of the open Probe.
+    fn keeps_above(&self, op: Op, head: &Beat) -> bool
+        ensures { result ≡ keeps_above self.now.exponent (shown self.now).past (head_with head.now None op) }
+    {
+        let cap = self.probes.get(&self.block_of(head.address)).copied();
+        match (to_of(op, head.param), cap) {
+            (Some(to), Some(Some(cap))) => is_above(to, cap),
+            _ => false,
+        }
+    }
+
+    /// Whether a head with this message breaks the rule.
+    fn breaks(&self, op: Op, head: &Beat, rule: Rule) -> bool
+        ensures { result ≡ breaks_permission self.now.exponent (shown self.now).past (head_with head.now None op) rule }
+    {
+        let block = self.block_of(head.address);
+        let shrinks = is_probe_ack(op) || is_release(op);
+        match rule {
+            Rule::P1 => is_acquire(op) && self.claims_above(op, head),
+            Rule::P2 => shrinks && self.claims_above(op, head),
+            Rule::P3 => is_probe_ack(op) && self.probes.get(&block).is_none(),
+            Rule::P4 => is_probe_ack(op) && self.keeps_above(op, head),
+            Rule::P5 => is_probe(op) && self.probes.get(&block).is_some(),
+            Rule::P6 => is_acquire(op) && self.acquires.is_open(block),
+            Rule::P7 => is_release(op) && self.acquires.is_open(block),
+            Rule::P8 => (is_acquire(op) || shrinks) && self.releases.is_open(block),
+            _ => false,
+        }
+    }
+
+    /// The rules that it breaks, in the order of reports.
+    fn broken_rules(&self, alloc: Global, op: Op, head: &Beat) -> RuleList
+        ensures { result ≡ filter (breaks_permission self.now.exponent (shown self.now).past (head_with head.now None op)) permission_order }
+    {
+        let mut rules = RuleList::new(alloc);
+        for rule in PERMISSION_ORDER {
+            if self.breaks(op, head, rule) {
+                rules.push(rule);
+            }
+        }
+        rules
+    }
+
+    /// A state that shows the same.
+    #[tactic(auto, using(crate::proofs::SameLaws::same_parts))]
+    pub fn copy(&self) -> Result<ClientState, AllocError>
+        ensures { IfOk result (λ copy. SameClient self.now copy) }
+    {
+        Ok(ClientState {
+            exponent: self.exponent,
+            probes: self.probes.copy()?,
+            bounds: self.bounds.copy()?,
+            acquires: self.acquires.copy()?,
+            releases: self.releases.copy()?,
+            grants: self.grants.copy()?,
+        })
+    }
+
+    /// The permission rules that the next head of the link breaks, by what is open and what the client can hold before it; then
+    /// what it opens, closes and sets. The request is the one that the head answers, as the flow rules find it. A head whose
+    /// opcode is no message breaks none and changes nothing; one whose param is not lawful claims nothing, and opens and
+    /// closes. A later beat is no message: the state is not stepped by it. At want of memory nothing has changed.
+    /// [TileLink 1.8: permission transitions; own profile, after the concurrency rules]
+    #[tactic(auto, using(crate::proofs::ClientLaws::standing_rules, crate::proofs::ClientLaws::shown_rules))]
+    pub fn step(
+        &mut self,
+        alloc: Global,
+        link: &LinkDecl,
+        head: &Beat,
+        request: Option<&Request>,
+    ) -> Result<RuleList, AllocError>
+        // Where the state stands for the messages of the link so far, the rules are the definition's, and the state then
+        // stands for them and this head.
+        ensures rules { (exponent : ℕ) (before : List Message) → StandsFor exponent self.old before
+            → IfOk result (λ rules. rules ≡ permission_rules exponent before head.now (message_of link.now head.now)) }
+        ensures stands { (exponent : ℕ) (before : List Message) → StandsFor exponent self.old before
+            → option_copied request.entry ≡ answered before head.now (message_of link.now head.now)
+            → OnOk result (StandsFor exponent self.new (with_message head.now (message_of link.now head.now) before)) }
+        // Whatever past the state shows, the head is judged by that.
+        ensures shown { (exponent : ℕ) (past : LinkPast) → Shows exponent self.old past
+            → IfOk result (λ rules. rules ≡ rules_in exponent past head.now (message_of link.now head.now)) }
+        ensures next { (exponent : ℕ) (past : LinkPast) → Shows exponent self.old past
+            → option_copied request.entry ≡ answered_in past head.now (message_of link.now head.now)
+            → OnOk result (Shows exponent self.new (past_with exponent past head.now (message_of link.now head.now))) }
+        ensures err { OnErr result (shown self.new ≡ shown self.old) }
+    {
+        self.advance(alloc, link, head, request.copied())
+    }
+
+    /// The same on what the state shows.
+    #[tactic(auto, using(crate::proofs::Carried::carried, crate::proofs::ClientLaws::seen))]
+    fn advance(
+        &mut self,
+        alloc: Global,
+        link: &LinkDecl,
+        head: &Beat,
+        request: Option<Request>,
+    ) -> Result<RuleList, AllocError>
+        ensures rules { IfOk result (λ rules. rules ≡ view_rules (shown self.old) head.now (message_of link.now head.now)) }
+        ensures next { OnOk result (shown self.new ≡ view_with (shown self.old) head.now request (message_of link.now head.now)) }
+        ensures err { OnErr result (shown self.new ≡ shown self.old) }
+    {
+        let Some(op) = op_of(link.level, head.chan, head.opcode) else {
+            return Ok(RuleList::new(alloc));
+        };
+        let rules = self.broken_rules(alloc, op, head);
+        self.change(op, head, request)?;
+        Ok(rules)
+    }
+
+    /// Opens and closes what a head with this message does, and sets the bound that it sets. At want of memory nothing has
+    /// changed.
+    fn change(&mut self, op: Op, head: &Beat, request: Option<Request>) -> Result<(), AllocError>
+        requires { can_carry head.now.chan op ≡ true }
+        ensures ok { OnOk result (IsView self.new (view_after (shown self.old) (head_with head.now request op))) }
+        ensures err { OnErr result (IsView self.new (shown self.old)) }
+    {
+        let Some((block, set)) = self.claim(op, head, request) else {
+            return self.open_and_close(op, head, request);
+        };
+        let before = self.bounds.get(block);
+        self.bounds.make_room(block, set)?;
+        match self.open_and_close(op, head, request) {
+            Ok(()) => {
+                self.bounds.put(block, set);
+                Ok(())
+            }
+            Err(error) => {
+                self.bounds.put(block, before);
+                Err(error)
+            }
+        }
+    }
+
+    /// Opens and closes what a head with this message does. Each opens at most one, so that at want of memory nothing has
+    /// changed.
+    fn open_and_close(
+        &mut self,
+        op: Op,
+        head: &Beat,
+        request: Option<Request>,
+    ) -> Result<(), AllocError>
+        requires { can_carry head.now.chan op ≡ true }
+        ensures exponent { self.new.exponent ≡ self.old.exponent }
+        ensures bound { (block : ℕ) → bound_at self.new.bounds block ≡ bound_at self.old.bounds block }
+        ensures ok { OnOk result (IsOpened self.new (view_after (shown self.old) (head_with head.now request op))) }
+        ensures err { OnErr result (IsOpened self.new (shown self.old)) }
+    {
+        match head.chan {
+            Chan::A => {
+                let block = self.acquired_block(op, head.address);
+                self.acquires.open(head.source, block)?;
+            }
+            Chan::B if is_probe(op) => {
+                let block = self.block_of(head.address);
+                self.probes.open(block, cap_of(op, head.param))?;
+            }
+            Chan::C if is_probe_ack(op) => {
+                let block = self.block_of(head.address);
+                self.probes.close(&block);
+            }
+            Chan::C if is_release(op) => {
+                let block = self.block_of(head.address);
+                self.releases.open(head.source, Some(block))?;
+            }
+            Chan::D if is_release_ack(op) => {
+                self.releases.close(head.source);
+            }
+            Chan::D => {
+                if is_grant(op) {
+                    let block = self.granted_block(request);
+                    self.grants.open(head.sink, block)?;
+                }
+                self.acquires.close(head.source);
+            }
+            Chan::E => {
+                self.grants.close(head.sink);
+            }
+            _ => {}
+        }
+        Ok(())
+    }
+}
+
+impl Same for ClientState {
+    ghost same = { SameClient };
+
+    #[tactic(auto, using(crate::proofs::SameLaws::same_parts, crate::proofs::SameLaws::parts_of_same))]
+    fn is_same(&self, other: &Self) -> bool {
+        if self.exponent != other.exponent || !self.probes.is_same(&other.probes) {
+            return false;
+        }
+        if !self.bounds.same_bounds(&other.bounds) || !self.acquires.same_blocks(&other.acquires) {
+            return false;
+        }
+        self.releases.same_blocks(&other.releases) && self.grants.same_blocks(&other.grants)
+    }
+}
+
+/// What a client says in this message that it holds: an Acquire what it had, a ProbeAck or Release what it keeps.
+fn own_claim(op: Op, param: u8) -> Option<Perm>
+    ensures { result ≡ (if is_acquire op then from_of op param else (if is_probe_ack op || is_release op then to_of op param else None)) }
+{
+    if is_acquire(op) {
+        from_of(op, param)
+    } else if is_probe_ack(op) || is_release(op) {
+        to_of(op, param)
+    } else {
+        None
+    }
+}

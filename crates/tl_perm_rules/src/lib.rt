@@ -1,0 +1,12 @@
+//! The permission rules: what a client may hold of each block, and what is open on it.
+#![tactic(auto)]
+
+mod bounds;
+mod client;
+mod counts;
+mod entries;
+mod kinds;
+pub mod laws;
+mod open_blocks;
+
+pub use client::ClientState;

@@ -1,0 +1,85 @@
+//! Recorded beats, fragments of captures, and their text.
+#![tactic(auto)]
+
+mod beat_line;
+mod fault;
+mod fragment;
+mod laws;
+mod places;
+mod reading;
+mod writing;
+
+pub use fault::FragmentFault;
+pub use fragment::Fragment;
+pub use laws::{
+    parts_have_one_answer, texts_end_by_themselves, texts_tell_fragments_apart,
+    written_texts_are_read_back,
+};
+pub use reading::{parse_fragment, parse_whole_fragment, read_fragment};
+use tl_tables::{Chan, Op, Rule};
+pub use tl_text::{ByteIn, ByteOut};
+pub use writing::write_fragment;
+
+/// One accepted beat, as it was recorded at the client's port. A field that its channel lacks is 0.
+/// [TileLink 1.8: the signals of the five channels]
+#[derive(Clone, Copy, Debug, PartialEq, Eq)]
+pub struct Beat {
+    /// The cycle of the manager's counter.
+    pub cycle: u64,
+    pub chan: Chan,
+    /// 0 to 7; 0 on E.
+    pub opcode: u8,
+    /// 0 to 7.
+    pub param: u8,
+    /// The exponent of the message's bytes, 0 to 15.
+    pub size: u8,
+    pub source: u16,
+    /// On D and E.
+    pub sink: u16,
+    /// In bytes; on A, B and C.
+    pub address: u64,
+    /// Bit i is byte lane i; on A and B.
+    pub mask: u64,
+    /// On D.
+    pub denied: bool,
+    /// On A to D.
+    pub corrupt: bool,
+}
+
+/// A beat of a link, and where it is written.
+#[derive(Clone, Copy, Debug, PartialEq, Eq)]
+pub struct Placed {
+    /// The number of the link.
+    pub link: u16,
+    /// The number of the fragment.
+    pub fragment: u32,
+    /// The line in the fragment's text; the header is line 1.
+    pub line: u32,
+    pub beat: Beat,
+}
+
+/// What a reply is compared with: the fields of the request that it answers.
+#[derive(Clone, Copy, Debug, PartialEq, Eq)]
+pub struct Request {
+    pub op: Op,
+    pub param: u8,
+    pub size: u8,
+    pub source: u16,
+    pub address: u64,
+}
+
+/// A rule that a beat breaks. Rows stand in the order of link, cycle, channel, rule and monitor.
+#[derive(Clone, Copy, Debug, PartialEq, Eq)]
+pub struct Row {
+    /// The number of the link.
+    pub link: u16,
+    pub cycle: u64,
+    pub chan: Chan,
+    pub rule: Rule,
+    /// The monitor of an X1.
+    pub monitor: Option<u32>,
+    /// The number of the fragment.
+    pub fragment: u32,
+    /// The line of the beat in its fragment's text; the header is line 1.
+    pub line: u32,
+}

@@ -28,7 +28,9 @@ use Rattle.tl_messages.specs.declared.Place.TheVariants as place
 use Rattle.tl_messages.specs.Bursts.{place_of}
 use Rattle.tl_flow_rules.specs.declared.flow.FlowState.{FlowState}
 use Rattle.tl_flow_rules.specs.Flow.{StandsFor, StandsOn, flow_rules}
-use Rattle.tl_flow_rules.proofs.StandLaws.{found_rules_are_broken}
+use Rattle.tl_perm_rules.specs.declared.client.ClientState.{ClientState}
+use Rattle.tl_perm_rules.specs.Client as client_state
+use Rattle.tl_perm_rules.proofs.LinkLaws.{found_rules_are_broken}
 use Rattle.tl_cli.specs.Once.{is_checked, checked_rows, Serves}
 
 abbrev pub placed : ℕ → ℕ → ℕ → Beat → Placed
@@ -110,19 +112,27 @@ is_later decl own stands head is later = (belongs_to (is_head decl own) (last_he
 abbrev pub AreFound : LinkDecl → ℕ → List Area → List Placed → Placed → List Rule → Type 0
 AreFound decl exponent regions before p rules = (m : Manager) → Serves m p.link decl exponent regions → rules ≡ filter is_checked (rules_at m before p)
 
-pub head_found : (decl : LinkDecl) (exponent : ℕ) (regions : List Area) (before : List Placed) (p : Placed) (state : FlowState) (format flow : List Rule)
+pub head_found : (decl : LinkDecl) (exponent : ℕ) (regions : List Area) (before : List Placed) (p : Placed) (state : FlowState) (client : ClientState) (format flow permissions : List Rule)
     → is_head decl (before_on p.link p.beat.chan before) ≡ true → format ≡ format_rules exponent regions decl p.beat (message_of decl p.beat) → StandsOn state decl p.link before
-    → ((messages : List Message) → StandsFor state messages → flow ≡ flow_rules messages p.beat (message_of decl p.beat)) → AreFound decl exponent regions before p (format ++ flow)
-head_found decl exponent regions before p state format flow head formats held flows m (same, block, areas) =
+    → client_state.StandsOn exponent client decl p.link before
+    → ((messages : List Message) → StandsFor state messages → flow ≡ flow_rules messages p.beat (message_of decl p.beat))
+    → ((messages : List Message) → client_state.StandsFor exponent client messages → permissions ≡ client_state.permission_rules exponent messages p.beat (message_of decl p.beat))
+    → AreFound decl exponent regions before p (format ++ flow ++ permissions)
+head_found decl exponent regions before p state client format flow permissions head formats in_flight holds flows claims m (same, block, areas) =
     let here : at_head m.links before p ≡ true = ap (λ d. is_head d (before_on p.link p.beat.chan before)) same ∙ head in
     let own : format ≡ format_rules m.exponent m.regions (m.links p.link) p.beat (message_of (m.links p.link) p.beat) =
     subst (λ d. format ≡ format_rules m.exponent m.regions d p.beat (message_of d p.beat)) (sym same)
     (subst (λ e. format ≡ format_rules e m.regions decl p.beat (message_of decl p.beat)) (sym block) (subst (λ r. format ≡ format_rules exponent r decl p.beat (message_of decl p.beat)) (sym areas) formats)) in
-    let stands : StandsOn state (m.links p.link) p.link before = subst (λ d. StandsOn state d p.link before) (sym same) held in
+    let stands : StandsOn state (m.links p.link) p.link before = subst (λ d. StandsOn state d p.link before) (sym same) in_flight in
+    let held : client_state.StandsOn m.exponent client (m.links p.link) p.link before =
+    subst (λ d. client_state.StandsOn m.exponent client d p.link before) (sym same) (subst (λ e. client_state.StandsOn e client decl p.link before) (sym block) holds) in
     let answers : (messages : List Message) → StandsFor state messages → flow ≡ flow_rules messages p.beat (message_of (m.links p.link) p.beat) =
     subst (λ d. (messages : List Message) → StandsFor state messages → flow ≡ flow_rules messages p.beat (message_of d p.beat)) (sym same) flows in
-    ap (λ rules. rules ++ flow) (own ∙ sym (kept_format m.exponent m.regions (m.links p.link) p.beat (message_of (m.links p.link) p.beat)))
-    ∙ sym (found_rules_are_broken is_checked m before p state flow refl refl refl here stands answers)
+    let claimed : (messages : List Message) → client_state.StandsFor m.exponent client messages → permissions ≡ client_state.permission_rules m.exponent messages p.beat (message_of (m.links p.link) p.beat) =
+    subst (λ d. (messages : List Message) → client_state.StandsFor m.exponent client messages → permissions ≡ client_state.permission_rules m.exponent messages p.beat (message_of d p.beat)) (sym same)
+    (subst (λ e. (messages : List Message) → client_state.StandsFor e client messages → permissions ≡ client_state.permission_rules e messages p.beat (message_of decl p.beat)) (sym block) claims) in
+    ap (λ rules. rules ++ flow ++ permissions) (own ∙ sym (kept_format m.exponent m.regions (m.links p.link) p.beat (message_of (m.links p.link) p.beat)))
+    ∙ sym (found_rules_are_broken is_checked m before p state client flow permissions refl refl refl here stands held answers claimed)
 
 pub later_found : (decl : LinkDecl) (exponent : ℕ) (regions : List Area) (before : List Placed) (p : Placed) (stands : Place) (head : Beat) (rules : List Rule)
     → stands ≡ place_of decl (before_on p.link p.beat.chan before) → stands ≡ place.Later head → rules ≡ later_rules decl p.beat head → AreFound decl exponent regions before p rules

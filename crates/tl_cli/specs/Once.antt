@@ -18,7 +18,7 @@ use Rattle.tl_definitions.specs.Rules.{Manager}
 use Rattle.tl_definitions.specs.Breaks.{rows_in}
 use Rattle.tl_definitions.specs.Report.{Capture, IsReportOf}
 
--- The rules that are checked so far: the format rules, the burst rule and the flow rules.
+-- The rules that are checked so far: all but those of several clients.
 abbrev pub is_checked : Rule → Bool
 is_checked rule.F1 = true
 is_checked rule.F2 = true
@@ -40,6 +40,14 @@ is_checked rule.S6 = true
 is_checked rule.S7 = true
 is_checked rule.S8 = true
 is_checked rule.S9 = true
+is_checked rule.P1 = true
+is_checked rule.P2 = true
+is_checked rule.P3 = true
+is_checked rule.P4 = true
+is_checked rule.P5 = true
+is_checked rule.P6 = true
+is_checked rule.P7 = true
+is_checked rule.P8 = true
 is_checked _ = false
 
 -- The manager has this link under this number, blocks of 2 ^ exponent bytes, and these regions.

@@ -20,6 +20,7 @@ use tl_beats::{Beat, ByteOut, Fragment, Placed, Row};
 use tl_flow_rules::FlowState;
 use tl_format_rules::{RuleList, check_head, check_later};
 use tl_messages::{BurstState, Place};
+use tl_perm_rules::ClientState;
 use tl_text::{WriteFault, write_all};
 use tl_topology::{LinkDecl, RegionMap, Topo};
 
@@ -92,6 +93,7 @@ fn rows_of(
     let mut rows = Vec::new(alloc);
     let mut bursts = BurstState::new();
     let mut flow = FlowState::new(alloc);
+    let mut client = ClientState::new(alloc, exponent);
     for (index, beat) in beats.iter().enumerate() {
         let at = Placed {
             link,
@@ -103,8 +105,10 @@ fn rows_of(
             Place::Head => {
                 let format = check_head(alloc, decl, exponent, regions, beat);
                 let answer = flow.step(alloc, decl, beat)?;
+                let permissions = client.step(alloc, decl, beat, answer.request.as_ref())?;
                 add_rows(&mut rows, &at, format)?;
                 add_rows(&mut rows, &at, answer.rules)?;
+                add_rows(&mut rows, &at, permissions)?;
             }
             Place::Later(head) => {
                 let later = check_later(alloc, decl, &head, beat);
@@ -143,7 +147,7 @@ fn rows_once(
 }
 
 /// Writes the report of a topology with this fragment alone, version 1 after edit 1, and answers the number of its rows:
-/// exactly those of F1 to F10, U1 and S1 to S9, with bursts told apart beat by beat, and without regions. Refused with 21 where the topology has no such
+/// exactly those of F1 to F10, U1, S1 to S9 and P1 to P8, with bursts told apart beat by beat, and without regions. Refused with 21 where the topology has no such
 /// link.
 pub fn run_once<O: ByteOut>(
     alloc: Global,

@@ -21,7 +21,7 @@ fn once(alloc: Global, link: &str, beats: &str) -> Result<(Vec<u8>, Result<u64, 
 }
 
 /// A link, beat lines on it, and the report of them.
-const REPORTS: [(&str, &str, u64, &str); 15] = [
+const REPORTS: [(&str, &str, u64, &str); 17] = [
     // A stands before D in one cycle, so this is a Get with its reply.
     (
         "dma0",
@@ -112,6 +112,20 @@ const REPORTS: [(&str, &str, u64, &str); 15] = [
         "10 D 5 3 6 0 1 1 0\n",
         3,
         "report 1 edit 1 rows 3\ncpu0 1 2 F2\ncpu0 1 2 F7\ncpu0 1 2 S2\n",
+    ),
+    // A client drops what it held and says nothing, which is lawful; a denied Grant gives nothing.
+    (
+        "cpu0",
+        "10 A 7 1 6 0 1000 ff 0\n20 D 4 0 6 0 1 0 0\n30 E 1\n40 A 6 0 6 0 1000 ff 0\n50 D 4 1 6 0 1 1 0\n60 E 1\n70 A 7 2 6 0 1000 ff 0\n",
+        1,
+        "report 1 edit 1 rows 1\ncpu0 1 8 P1\n",
+    ),
+    // A ProbeAck to no Probe, of what was never held; then an Acquire of the block while the Release of it is open.
+    (
+        "cpu0",
+        "10 C 4 1 6 0 1000 0\n20 C 6 5 6 0 1000 0\n30 A 7 1 6 0 1000 ff 0\n",
+        3,
+        "report 1 edit 1 rows 3\ncpu0 1 2 P2\ncpu0 1 2 P3\ncpu0 1 4 P8\n",
     ),
     // A later beat of another size is still a beat of its burst, and the beats after it are judged by the head.
     (

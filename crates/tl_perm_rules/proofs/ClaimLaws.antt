@@ -87,7 +87,7 @@ no_claim exponent message h =
     ∙ ap (λ found. cond (is_grant o) None (option_map (λ set. (block_of exponent message, set)) found)) own
     ∙ elim (is_grant o) as (λ b. cond {A = Option (ℕ × Perm)} b None None ≡ None) [ true ↦ refl | false ↦ refl ]
 
-never : (b : Bool) → (b && false) ≡ false
+pub never : (b : Bool) → (b && false) ≡ false
 never true = refl
 never false = refl
 

@@ -6,3 +6,4 @@ pub mod ClientLaws
 pub mod SameLaws
 pub mod LinkLaws
 pub mod ClaimLaws
+pub mod BlockLaws

@@ -1,14 +1,15 @@
 -- What follows from the definitions of bounds, and how a state stands for the beats of its link.
-use Rattle.std.specs.Prelude.{◌≡◌, ℕ, Bool, true, false, List, ◌∷◌, ◌++◌, filter}
+use Rattle.std.specs.Prelude.{◌≡◌, ℕ, ◌==◌, Bool, true, false, List, ◌∷◌, ◌++◌, None, filter}
 use Rattle.std.specs.List.{list_any}
+use Rattle.tl_tables.specs.declared.Perm.TheVariants as perm
 use Rattle.tl_tables.specs.declared.Rule.{Rule}
 use Rattle.tl_tables.specs.declared.Rule.TheVariants as rule
 use Rattle.tl_tables.specs.Params.{is_lawful}
 use Rattle.tl_topology.specs.declared.LinkDecl.{LinkDecl}
 use Rattle.tl_beats.specs.declared.Placed.{Placed}
 use Rattle.tl_definitions.specs.Heads.{message_of, before_on, is_head}
-use Rattle.tl_definitions.specs.Messages.{Message, with_message, at_head, messages_on, bound_of}
-use Rattle.tl_definitions.specs.Past.{ClientPast}
+use Rattle.tl_definitions.specs.Messages.{Message, with_message, at_head, messages_on, round_down, bound_of}
+use Rattle.tl_definitions.specs.Past.{ClientPast, client_past}
 use Rattle.tl_definitions.specs.Rules.{Manager, flow_order, permission_order, manager_order, format_rules, breaks_permission}
 use Rattle.tl_definitions.specs.Breaks.{rules_at}
 use Rattle.tl_definitions.specs.Laws.{sets_block}
@@ -29,6 +30,11 @@ UnlawfulClaimsNothing = (exponent : ℕ) (message : Message) → is_lawful messa
 abbrev pub OtherBlocksStay : Type 0
 OtherBlocksStay = (exponent : ℕ) (message : Message) (before : List Message) (block : ℕ) → sets_block exponent block message ≡ false
     → bound_of exponent (message ∷ before) block ≡ bound_of exponent before block
+
+-- Where no block begins, nothing is held, and no Probe or Grant is open.
+abbrev pub OnlyBlocksAreHeld : Type 0
+OnlyBlocksAreHeld = (exponent : ℕ) (before : List Message) (address : ℕ) → (round_down exponent address == address) ≡ false
+    → (bound_of exponent before address ≡ perm.Nothing) × ((client_past exponent before).probe address ≡ None) × ((client_past exponent before).grants address ≡ 0)
 
 -- Of the rules of a head, those that are no manager rules are its format rules, its flow rules and its permission rules, and these
 -- need the messages of its own link alone.

@@ -1,6 +1,6 @@
 //! What the definitions of bounds mean, and how a client's state stands for the beats of its link.
 
-ghost use Rattle.tl_perm_rules.specs.Laws.{UnlawfulClaimsNothing, OtherBlocksStay, PermissionsNeedTheirLinkAlone, HeadsAreStoodFor, LaterBeatsAreStoodFor, FoundRulesAreBroken};
+ghost use Rattle.tl_perm_rules.specs.Laws.{UnlawfulClaimsNothing, OtherBlocksStay, OnlyBlocksAreHeld, PermissionsNeedTheirLinkAlone, HeadsAreStoodFor, LaterBeatsAreStoodFor, FoundRulesAreBroken};
 
 /// A message whose param is not lawful sets no bound, and claims nothing that a rule could forbid.
 pub fn unlawful_claims_nothing()
@@ -10,6 +10,11 @@ pub fn unlawful_claims_nothing()
 /// A message leaves the bounds of the blocks that it does not set.
 pub fn other_blocks_stay()
     ensures { OtherBlocksStay }
+{}
+
+/// Where no block begins, nothing is held, and no Probe or Grant is open.
+pub fn only_blocks_are_held()
+    ensures { OnlyBlocksAreHeld }
 {}
 
 /// The permission rules of a head need the messages of its own link and no others.

@@ -8,6 +8,8 @@ mod flows;
 #[cfg(test)]
 mod fragments;
 #[cfg(test)]
+mod permissions;
+#[cfg(test)]
 mod program;
 #[cfg(test)]
 mod regions;

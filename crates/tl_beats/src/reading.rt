@@ -1,7 +1,7 @@
 //! The text of a whole fragment.
 
-ghost use Rattle.std.specs.Prelude.{◌≡◌, ◌↔◌, ◌+◌, ◌<◌, ◌≤◌, ◌^◌, ◌++◌, ℕ, List, [], drop, take, length, option_map, Ok, IfErr, IfOk, IfSome, OnOk};
-ghost use Rattle.std.specs.Result.{IsErrOf};
+ghost use Rattle.std.specs.Prelude.{◌≡◌, ◌↔◌, ◌+◌, ◌<◌, ◌≤◌, ◌^◌, ◌++◌, ℕ, List, [], drop, take, length, option_map, Ok, IfErr, IfOk, IfSome, OnOk, true};
+ghost use Rattle.std.specs.Result.{IsErrOf, IsErrAnd};
 ghost use Rattle.tl_text.specs.Words.{lines_of, IsBehind};
 ghost use Rattle.tl_text.specs.Readings.{Gives};
 ghost use Rattle.tl_beats.specs.Beats.{IsWellFormed};
@@ -202,6 +202,8 @@ pub fn read_fragment<I: ByteIn>(alloc: Global, input: &mut I) -> Result<Fragment
     ensures found { IfSome (I.remaining input.old) (λ bytes. IfOk result (λ f. bytes ≡ fragment_text f)) }
     ensures only { IfSome (I.remaining input.old) (λ bytes. (f : Frag) → IsFragment f → bytes ≡ fragment_text f → Gives is_outside (λ f. f) result (Ok f)) }
     ensures too_long { IsErrOf result FragmentFault.TooLong → IfSome (I.remaining input.old) (λ bytes. 8388608 < length bytes) }
+    // A longer input is not parsed: its fault is none of a text.
+    ensures unparsed { IfSome (I.remaining input.old) (λ bytes. 8388608 < length bytes → IsErrAnd result (λ e. is_outside e ≡ true)) }
     ensures failed { IsErrOf result FragmentFault.ReadFault → I.failure_count input.old < I.failure_count input.new }
     ensures quiet { OnOk result (I.failure_count input.new ≡ I.failure_count input.old) }
     ensures reads { I.read_count input.new ≤ I.read_count input.old + 8388610 }

@@ -30,7 +30,7 @@ use Rattle.tl_definitions.specs.Report.{by_number, key_order, Capture, IsReportO
 use Rattle.tl_definitions.proofs.Lists.{contains_none, contains_here, contains_there, contains_cases, contains_kept, kept_from, mapped_from, all_of, kept_of_both}
 use Rattle.tl_definitions.proofs.RuleLaws.{rules_rise}
 use Rattle.tl_definitions.proofs.ReportLaws.{key_total, rows_are_breaks}
-use Rattle.tl_definitions.proofs.OneBeatLaws.{strict_both, kept_rows, rows_of_two, rows_rise}
+use Rattle.tl_definitions.proofs.RisingLaws.{strict_both, kept_rows, rows_of_two, rows_rise}
 use Rattle.tl_cli.specs.Once.{is_checked, Serves, checked_rows, rows_once, declared_links, manager_of, capture_once, IsReportOnce}
 use Rattle.tl_cli.proofs.Rows.{placed, is_kept, rows_linked}
 

@@ -22,7 +22,7 @@ use Rattle.tl_definitions.specs.Rules.{Manager, breaks_format, format_order, for
 use Rattle.tl_definitions.specs.Breaks.{breaks_later, later_order, later_rules, head_rules, rules_at, row_of, rows_after}
 use Rattle.tl_definitions.proofs.Lists.{onto, kept_order, kept_of_both}
 use Rattle.tl_definitions.proofs.HeadLaws.{later_beats_have_a_head}
-use Rattle.tl_definitions.proofs.OneBeatLaws.{kept_rows}
+use Rattle.tl_definitions.proofs.RisingLaws.{kept_rows}
 use Rattle.tl_messages.specs.declared.Place.{Place}
 use Rattle.tl_messages.specs.declared.Place.TheVariants as place
 use Rattle.tl_messages.specs.Bursts.{place_of}

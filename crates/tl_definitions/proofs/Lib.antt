@@ -8,5 +8,5 @@ pub mod SanityLaws
 pub mod JudgingLaws
 pub mod ReportLaws
 pub mod PositionLaws
-pub mod OneBeatLaws
+pub mod RisingLaws
 pub mod RuleLaws

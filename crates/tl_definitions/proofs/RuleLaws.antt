@@ -21,7 +21,7 @@ use Rattle.tl_definitions.specs.Rules.{Manager, breaks_format, breaks_flow, brea
 use Rattle.tl_definitions.specs.Breaks.{breaks_later, later_order, later_rules, head_rules}
 use Rattle.tl_definitions.specs.Report.{by_number, RulesRise}
 use Rattle.tl_definitions.proofs.Lists.{kept_from, all_of, all_by}
-use Rattle.tl_definitions.proofs.OneBeatLaws.{strict_both, format_order_rises}
+use Rattle.tl_definitions.proofs.RisingLaws.{strict_both, format_order_rises}
 
 number_total : IsTotalOrder by_number
 number_total = on_total rule_number nat_cmp_total

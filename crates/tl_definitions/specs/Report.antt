@@ -1,10 +1,10 @@
 -- The report: the rows of all broken rules, each once and in order.
-use Rattle.std.specs.Prelude.{ℕ, ◌≡◌, ◌↔◌, Bool, true, false, List, [], ◌∷◌, ◌++◌, filter, map}
+use Rattle.std.specs.Prelude.{◌≡◌, ◌↔◌, Bool, true, List, [], ◌∷◌, ◌++◌, filter}
 use Rattle.std.specs.declared.cmp.Ordering.{Ordering}
 use Rattle.std.specs.declared.cmp.Ordering.TheVariants.{Equal}
 use Rattle.std.specs.Ordering.{nat_cmp, on, then_cmp, match_ordering}
 use Rattle.std.specs.Option.{option_cmp}
-use Rattle.std.specs.List.{Contains, AllByRecursion, list_any}
+use Rattle.std.specs.List.{Contains}
 use Rattle.std.specs.List.Sorted.{IsStrictlySortedBy}
 use Rattle.tl_tables.specs.declared.Rule.{Rule}
 use Rattle.tl_tables.specs.Messages.{chan_number}
@@ -12,9 +12,8 @@ use Rattle.tl_tables.specs.Rules.{rule_number}
 use Rattle.tl_beats.specs.declared.Placed.{Placed}
 use Rattle.tl_beats.specs.declared.Row.{Row}
 use Rattle.tl_definitions.specs.Positions.{position_order}
-use Rattle.tl_definitions.specs.Heads.{message_of, beat_count}
-use Rattle.tl_definitions.specs.Rules.{Manager, format_rules, flow_order, permission_order, manager_order}
-use Rattle.tl_definitions.specs.Breaks.{Breaks, rules_at, row_of, rows_in}
+use Rattle.tl_definitions.specs.Rules.{Manager}
+use Rattle.tl_definitions.specs.Breaks.{Breaks, rules_at, rows_in}
 
 abbrev pub by_number : Rule → Rule → Ordering
 by_number = on rule_number nat_cmp
@@ -113,19 +112,3 @@ RisingBeatsHaveOnePlace = (captures : List Capture) → ((capture : Capture) →
     → ((here there : Capture) (p q : Placed) → Contains captures here → Contains captures there → Contains here.beats p → Contains there.beats q
     → p.link ≡ q.link → here.beats ≡ there.beats)
     → HasOnePlace captures
-
--- The rows of beats each of which is judged by itself.
-abbrev pub rows_apart : (Placed → List Rule) → List Placed → List Row
-rows_apart rules [] = []
-rows_apart rules (p ∷ beats) = map (row_of p) (rules p) ++ rows_apart rules beats
-
--- The format rules of a beat that is read as a head, as far as they are kept.
-abbrev pub kept_format : (Rule → Bool) → Manager → Placed → List Rule
-kept_format kept m p = filter kept (format_rules m.exponent m.regions (m.links p.link) p.beat (message_of (m.links p.link) p.beat))
-
--- Beats of one link whose messages all have one beat: for format rules, the report is what each beat gives by itself.
-abbrev pub OneBeatReports : Type 0
-OneBeatReports = (kept : Rule → Bool) (m : Manager) (link : ℕ) (beats : List Placed)
-    → list_any kept flow_order ≡ false → list_any kept permission_order ≡ false → list_any kept manager_order ≡ false
-    → IsStrictlySortedBy position_order beats → AllByRecursion (λ p. (p.link ≡ link) × (beat_count (m.links link) p.beat ≡ 1)) beats
-    → IsReportOf kept (record { manager = m; beats = beats } ∷ []) (rows_apart (kept_format kept m) beats)

@@ -1,6 +1,6 @@
 //! The report has one answer.
 
-ghost use Rattle.tl_definitions.specs.Report.{RulesRise, RowsAreBreaks, OneReport, SortedRowsAreTheReport, ReportsAreComputed, SortedRowsAreTheirReport, OneReportOf, PartsOfReports, RisingBeatsHaveOnePlace, OneBeatReports};
+ghost use Rattle.tl_definitions.specs.Report.{RulesRise, RowsAreBreaks, OneReport, SortedRowsAreTheReport, ReportsAreComputed, SortedRowsAreTheirReport, OneReportOf, PartsOfReports, RisingBeatsHaveOnePlace};
 
 /// The rules of one beat stand in the order of reports, each once.
 #[tactic(auto, using(crate::proofs::RuleLaws::rules_rise))]
@@ -46,9 +46,4 @@ pub fn parts_of_reports()
 /// Beats that rise strictly stand at one place each, in one capture and in several that share no link.
 pub fn rising_beats_have_one_place()
     ensures { RisingBeatsHaveOnePlace }
-{}
-
-/// Where the messages of a link all have one beat, the report of format rules is what each beat gives by itself.
-pub fn one_beat_reports()
-    ensures { OneBeatReports }
 {}

@@ -6,6 +6,8 @@ mod captures;
 #[cfg(test)]
 mod fragments;
 #[cfg(test)]
+mod permissions;
+#[cfg(test)]
 mod program;
 #[cfg(test)]
 mod streams;

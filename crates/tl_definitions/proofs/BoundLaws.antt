@@ -8,7 +8,7 @@ use Rattle.tl_tables.specs.declared.Op.TheVariants as op
 use Rattle.tl_tables.specs.declared.Perm.{Perm}
 use Rattle.tl_tables.specs.declared.Perm.TheVariants as perm
 use Rattle.tl_tables.specs.Params.{from_of, to_of, is_above}
-use Rattle.tl_definitions.specs.Kinds.{is_acquire, is_grant, is_probe_ack, is_release}
+use Rattle.tl_tables.specs.Kinds.{is_acquire, is_grant, is_probe_ack, is_release}
 use Rattle.tl_definitions.specs.Messages.{Message, block_of, own_claim, grant_claim, claim, claimed_or, bound_of}
 use Rattle.tl_definitions.specs.Laws.{DeniedGivesNothing, ReleaseLeaves, OnlyGrantsRaise, BoundsAreLastSet, sets_block}
 use Rattle.tl_definitions.proofs.CoherenceLaws.{own_below}

@@ -13,7 +13,7 @@ use Rattle.tl_tables.specs.declared.Rule.TheVariants as rule
 use Rattle.tl_tables.specs.Params.{from_of, to_of, is_above, shrink_froms, shrink_tos}
 use Rattle.tl_beats.specs.declared.Placed.{Placed}
 use Rattle.tl_beats.specs.declared.Row.{Row}
-use Rattle.tl_definitions.specs.Kinds.{is_acquire, is_probe_ack, is_release, is_grant, conflicts}
+use Rattle.tl_tables.specs.Kinds.{is_acquire, is_probe_ack, is_release, is_grant, conflicts}
 use Rattle.tl_definitions.specs.Heads.{message_of, last_head, before_on}
 use Rattle.tl_definitions.specs.Messages.{Message, message_at, with_message, at_head, messages_on, own_claim, grant_claim, claim, claimed_or, block_of, bound_of}
 use Rattle.tl_definitions.specs.Past.{LinkPast, ClientPast, pasts_of}

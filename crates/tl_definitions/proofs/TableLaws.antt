@@ -5,7 +5,7 @@ use Rattle.std.specs.List.{list_any, AllByRecursion}
 use Rattle.std.specs.Option.{option_and_then, option_map, option_map_or}
 use Rattle.std.proofs.lemmas.Bool.Decides.{nat_tests}
 use Rattle.tl_beats.specs.declared.Request.{Request}
-use Rattle.tl_definitions.specs.Kinds.{is_acquire, is_release_ack}
+use Rattle.tl_tables.specs.Kinds.{is_acquire, is_release_ack}
 use Rattle.tl_definitions.specs.OpenTables.{Table, IsOpen, acts, touches, if_opens, open_at, entry_at, without, open_keys, entry_after, one_if, count_after}
 use Rattle.tl_definitions.specs.Messages.{Message, sources, releases, sinks, as_request, granted_block, block_of, request_of}
 use Rattle.tl_definitions.specs.Past.{acquires_block, releases_block, grants_block}

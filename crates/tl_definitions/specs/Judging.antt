@@ -15,7 +15,7 @@ use Rattle.tl_beats.specs.declared.Placed.{Placed}
 use Rattle.tl_beats.specs.declared.Request.{Request}
 use Rattle.tl_beats.specs.declared.Row.{Row}
 use Rattle.tl_definitions.specs.declared.Unfinished.{Unfinished}
-use Rattle.tl_definitions.specs.Kinds.{is_grant, is_release_ack}
+use Rattle.tl_tables.specs.Kinds.{is_grant, is_release_ack}
 use Rattle.tl_definitions.specs.OpenTables.{touches, entry_after, passes, count_after}
 use Rattle.tl_definitions.specs.Heads.{message_of, before_on, unfinished, after_beat}
 use Rattle.tl_definitions.specs.Messages.{Message, as_request, sources, releases, sinks, probes, granted_block, claim, claimed_or}

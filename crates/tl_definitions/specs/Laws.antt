@@ -15,7 +15,7 @@ use Rattle.tl_beats.specs.declared.Beat.{Beat}
 use Rattle.tl_beats.specs.declared.Placed.{Placed}
 use Rattle.tl_beats.specs.declared.Request.{Request}
 use Rattle.tl_definitions.specs.declared.Unfinished.{Unfinished}
-use Rattle.tl_definitions.specs.Kinds.{is_acquire, is_grant, is_probe_ack, is_release, is_release_ack}
+use Rattle.tl_tables.specs.Kinds.{is_acquire, is_grant, is_probe_ack, is_release, is_release_ack}
 use Rattle.tl_definitions.specs.OpenTables.{Table, IsOpen, open_at, open_keys}
 use Rattle.tl_definitions.specs.Heads.{message_of, beat_count, is_head, last_head, unfinished}
 use Rattle.tl_definitions.specs.Messages.{Message, at_head, sources, releases, sinks, as_request, granted_block, request_of, message_at, block_of, round_down, claim, bound_of}

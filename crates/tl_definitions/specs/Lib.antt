@@ -1,4 +1,3 @@
-pub mod Kinds
 pub mod OpenTables
 pub mod Heads
 pub mod Messages

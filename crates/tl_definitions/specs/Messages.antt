@@ -11,7 +11,7 @@ use Rattle.tl_topology.specs.declared.LinkDecl.{LinkDecl}
 use Rattle.tl_beats.specs.declared.Beat.{Beat}
 use Rattle.tl_beats.specs.declared.Placed.{Placed}
 use Rattle.tl_beats.specs.declared.Request.{Request}
-use Rattle.tl_definitions.specs.Kinds.{is_acquire, is_probe, is_probe_ack, is_release, is_grant, is_release_ack, is_grant_ack}
+use Rattle.tl_tables.specs.Kinds.{is_acquire, is_probe, is_probe_ack, is_release, is_grant, is_release_ack, is_grant_ack}
 use Rattle.tl_definitions.specs.OpenTables.{Table, entry_at}
 use Rattle.tl_definitions.specs.Heads.{message_of, before_on, is_head}
 

@@ -5,7 +5,7 @@ use Rattle.tl_tables.specs.declared.Perm.{Perm}
 use Rattle.tl_tables.specs.Params.{cap_of}
 use Rattle.tl_beats.specs.declared.Placed.{Placed}
 use Rattle.tl_beats.specs.declared.Request.{Request}
-use Rattle.tl_definitions.specs.Kinds.{is_acquire}
+use Rattle.tl_tables.specs.Kinds.{is_acquire}
 use Rattle.tl_definitions.specs.OpenTables.{open_at, entry_at, open_keys}
 use Rattle.tl_definitions.specs.Messages.{Message, Links, as_request, sources, releases, sinks, probes, round_down, granted_block, messages_on, bound_of}
 

@@ -11,7 +11,7 @@ use Rattle.tl_tables.specs.declared.Op.TheVariants as op
 use Rattle.tl_tables.specs.Messages.{same_chan}
 use Rattle.tl_beats.specs.declared.Beat.{Beat}
 use Rattle.tl_beats.specs.declared.Request.{Request}
-use Rattle.tl_definitions.specs.Kinds.{is_release, is_release_ack}
+use Rattle.tl_tables.specs.Kinds.{is_release, is_release_ack}
 use Rattle.tl_definitions.specs.OpenTables.{Table, touches, if_opens, open_at, entry_at}
 use Rattle.tl_definitions.specs.Messages.{Message, is_request, is_reply, sources, releases, as_request, request_of, message_at}
 use Rattle.tl_definitions.specs.Past.{flow_past}

@@ -10,7 +10,7 @@ use Rattle.tl_beats.specs.declared.Beat.{Beat}
 use Rattle.tl_beats.specs.declared.Placed.{Placed}
 use Rattle.tl_beats.specs.declared.Request.{Request}
 use Rattle.tl_topology.specs.declared.LinkDecl.{LinkDecl}
-use Rattle.tl_definitions.specs.Kinds.{is_release, is_grant, is_release_ack, is_grant_ack}
+use Rattle.tl_tables.specs.Kinds.{is_release, is_grant, is_release_ack, is_grant_ack}
 use Rattle.tl_definitions.specs.Messages.{Links, Message, request_of, message_at, messages_on}
 use Rattle.tl_definitions.specs.Past.{FlowPast, flow_past}
 use Rattle.tl_definitions.specs.Rules.{breaks_flow, flow_order}

@@ -6,7 +6,7 @@ use Rattle.tl_tables.specs.declared.Rule.{Rule}
 use Rattle.tl_beats.specs.declared.Beat.{Beat}
 use Rattle.tl_beats.specs.declared.Placed.{Placed}
 use Rattle.tl_beats.specs.declared.Request.{Request}
-use Rattle.tl_definitions.specs.Kinds.{is_release_ack}
+use Rattle.tl_tables.specs.Kinds.{is_release_ack}
 use Rattle.tl_definitions.specs.OpenTables.{Table, IsOpen}
 use Rattle.tl_definitions.specs.Heads.{message_of, before_on, is_head}
 use Rattle.tl_definitions.specs.Messages.{Links, Message, is_reply, request_of, message_at, with_message, at_head, messages_on}

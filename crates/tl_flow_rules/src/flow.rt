@@ -4,7 +4,6 @@ ghost use Rattle.std.specs.Prelude.{◌≡◌, ◌==◌, ℕ, List, [], filter, 
 ghost use Rattle.std.specs.Bool.{Decides};
 ghost use Rattle.std.specs.Option.{option_map_or};
 ghost use Rattle.tl_tables.specs.Messages.{replies_to};
-ghost use Rattle.tl_definitions.specs.Kinds.{is_release, is_release_ack, is_grant, is_grant_ack};
 ghost use Rattle.tl_definitions.specs.Heads.{message_of};
 ghost use Rattle.tl_definitions.specs.Messages.{Message, with_message};
 ghost use Rattle.tl_definitions.specs.Rules.{breaks_flow, flow_order};
@@ -16,7 +15,9 @@ use std::alloc::{AllocError, Global};
 use tl_beats::{Beat, Request};
 use tl_format_rules::RuleList;
 use tl_same::Same;
-use tl_tables::{Chan, Op, Rule, op_of, replies};
+use tl_tables::{
+    Chan, Op, Rule, is_grant, is_grant_ack, is_release, is_release_ack, op_of, replies,
+};
 use tl_topology::LinkDecl;
 
 /// The flow rules, in the order of reports.
@@ -50,30 +51,6 @@ pub struct FlowAnswer {
     pub rules: RuleList,
     /// Of a head on D: the Release that is open on its source for a ReleaseAck, else the request that is open there.
     pub request: Option<Request>,
-}
-
-fn is_release(op: Op) -> bool
-    ensures { result ≡ is_release op }
-{
-    matches!(op, Op::Release | Op::ReleaseData)
-}
-
-fn is_release_ack(op: Op) -> bool
-    ensures { result ≡ is_release_ack op }
-{
-    matches!(op, Op::ReleaseAck)
-}
-
-fn is_grant(op: Op) -> bool
-    ensures { result ≡ is_grant op }
-{
-    matches!(op, Op::Grant | Op::GrantData)
-}
-
-fn is_grant_ack(op: Op) -> bool
-    ensures { result ≡ is_grant_ack op }
-{
-    matches!(op, Op::GrantAck)
 }
 
 /// What is kept of a head that asks for a reply.

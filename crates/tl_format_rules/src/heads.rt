@@ -4,7 +4,6 @@ ghost use Rattle.std.specs.Prelude.{◌≡◌, ◌≤◌};
 ghost use Rattle.tl_topology.specs.Regions.{areas_of};
 ghost use Rattle.tl_topology.specs.Topology.{IsSound};
 ghost use Rattle.tl_beats.specs.Beats.{IsWellFormed};
-ghost use Rattle.tl_definitions.specs.Kinds.{is_of_block};
 ghost use Rattle.tl_definitions.specs.Heads.{message_of};
 ghost use Rattle.tl_definitions.specs.Rules.{breaks_format, format_rules, is_in_region};
 
@@ -12,7 +11,7 @@ use crate::fields::{is_denied_data, is_off_lanes};
 use crate::rule_list::RuleList;
 use std::alloc::Global;
 use tl_beats::Beat;
-use tl_tables::{Chan, Op, Rule, carries_data, op_of, param_ok};
+use tl_tables::{Chan, Op, Rule, carries_data, is_of_block, op_of, param_ok};
 use tl_topology::{LinkDecl, RegionMap};
 
 /// The rules of a head with a message, in the order of reports.
@@ -27,26 +26,6 @@ const FORMAT_ORDER: [Rule; 9] = [
     Rule::F9,
     Rule::F10,
 ];
-
-/// Whether the message is always of one whole block.
-fn is_of_block(op: Op) -> bool
-    ensures { result ≡ is_of_block op }
-{
-    matches!(
-        op,
-        Op::AcquireBlock
-            | Op::AcquirePerm
-            | Op::ProbeBlock
-            | Op::ProbePerm
-            | Op::ProbeAck
-            | Op::ProbeAckData
-            | Op::Release
-            | Op::ReleaseData
-            | Op::Grant
-            | Op::GrantData
-            | Op::ReleaseAck
-    )
-}
 
 /// Whether one region permits the request to all its bytes, or there are no regions.
 #[tactic(auto, using(crate::proofs::Lanes::last_coded))]

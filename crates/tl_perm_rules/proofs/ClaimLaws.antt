@@ -8,7 +8,7 @@ use Rattle.tl_tables.specs.declared.Op.{Op}
 use Rattle.tl_tables.specs.declared.Op.TheVariants as op
 use Rattle.tl_tables.specs.declared.Perm.{Perm}
 use Rattle.tl_tables.specs.Params.{param_count, is_lawful, caps, froms, tos, cap_of, from_of, to_of, is_above}
-use Rattle.tl_definitions.specs.Kinds.{is_acquire, is_grant, is_probe_ack, is_release}
+use Rattle.tl_tables.specs.Kinds.{is_acquire, is_grant, is_probe_ack, is_release}
 use Rattle.tl_definitions.specs.Messages.{Message, block_of, granted_block, grant_claim, own_claim, claim, claimed_or, bound_of}
 use Rattle.tl_definitions.specs.Past.{ClientPast}
 use Rattle.tl_perm_rules.specs.Laws.{UnlawfulClaimsNothing, OtherBlocksStay}

@@ -7,7 +7,7 @@ use Rattle.tl_tables.specs.declared.Perm.TheVariants as perm
 use Rattle.tl_tables.specs.Params.{cap_of}
 use Rattle.tl_beats.specs.declared.Beat.{Beat}
 use Rattle.tl_beats.specs.declared.Request.{Request}
-use Rattle.tl_definitions.specs.Kinds.{is_acquire}
+use Rattle.tl_tables.specs.Kinds.{is_acquire}
 use Rattle.tl_definitions.specs.OpenTables.{Table, acts, touches, if_opens, passes, one_if, entry_after, count_after}
 use Rattle.tl_definitions.specs.Messages.{Message, as_request, sources, releases, sinks, probes, round_down, granted_block, claim, claimed_or, message_at, with_message}
 use Rattle.tl_definitions.specs.Past.{LinkPast, past_of, acquires_block, releases_block, grants_block}

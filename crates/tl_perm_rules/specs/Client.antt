@@ -12,7 +12,7 @@ use Rattle.tl_beats.specs.declared.Beat.{Beat}
 use Rattle.tl_beats.specs.declared.Placed.{Placed}
 use Rattle.tl_beats.specs.declared.Request.{Request}
 use Rattle.tl_topology.specs.declared.LinkDecl.{LinkDecl}
-use Rattle.tl_definitions.specs.Kinds.{is_acquire, is_probe, is_probe_ack, is_release, is_grant, is_release_ack, is_grant_ack}
+use Rattle.tl_tables.specs.Kinds.{is_acquire, is_probe, is_probe_ack, is_release, is_grant, is_release_ack, is_grant_ack}
 use Rattle.tl_definitions.specs.OpenTables.{Table, entry_after, count_after, passes}
 use Rattle.tl_definitions.specs.Messages.{Message, Links, as_request, sources, releases, sinks, probes, round_down, granted_block, claim, claimed_or, message_at, messages_on}
 use Rattle.tl_definitions.specs.Past.{ClientPast, LinkPast, past_of, client_past, grants_block}

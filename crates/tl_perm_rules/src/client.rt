@@ -4,7 +4,7 @@ ghost use Rattle.std.specs.Prelude.{◌≡◌, ◌||◌, ℕ, List, [], None, So
 ghost use Rattle.std.specs.Bool.{Decides};
 ghost use Rattle.std.specs.Option.{option_copied, option_and_then, option_map_or};
 ghost use Rattle.tl_tables.specs.Params.{from_of, to_of};
-ghost use Rattle.tl_definitions.specs.Kinds.{is_acquire, is_probe_ack, is_release};
+ghost use Rattle.tl_tables.specs.Kinds.{is_acquire, is_probe_ack, is_release};
 ghost use Rattle.tl_definitions.specs.Heads.{message_of};
 ghost use Rattle.tl_definitions.specs.Messages.{Message, with_message, round_down, claim, bound_of};
 ghost use Rattle.tl_definitions.specs.Past.{LinkPast, client_past};
@@ -13,16 +13,16 @@ ghost use Rattle.tl_definitions.specs.Judging.{past_with};
 ghost use Rattle.tl_perm_rules.specs.Client.{SameClient};
 
 use crate::bounds::Bounds;
-use crate::kinds::{
-    is_above, is_acquire, is_grant, is_probe, is_probe_ack, is_release, is_release_ack,
-};
 use crate::open_blocks::OpenBlocks;
 use std::alloc::{AllocError, Global};
 use tl_beats::{Beat, Request};
 use tl_flow_rules::OpenTable;
 use tl_format_rules::RuleList;
 use tl_same::Same;
-use tl_tables::{Chan, Op, Perm, Rule, cap_of, from_of, op_of, to_of};
+use tl_tables::{
+    Chan, Op, Perm, Rule, cap_of, from_of, is_above, is_acquire, is_grant, is_probe, is_probe_ack,
+    is_release, is_release_ack, op_of, to_of,
+};
 use tl_topology::LinkDecl;
 
 /// The permission rules, in the order of reports.

@@ -5,7 +5,6 @@ mod bounds;
 mod client;
 mod counts;
 mod entries;
-mod kinds;
 pub mod laws;
 mod open_blocks;
 

@@ -1,3 +1,4 @@
 pub mod Messages
+pub mod Kinds
 pub mod Params
 pub mod Rules

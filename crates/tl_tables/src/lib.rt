@@ -2,10 +2,17 @@
 //! names of the rules. Each call is one table, over all its arguments.
 #![tactic(auto)]
 
+mod kinds;
+
 ghost use Rattle.std.specs.Prelude.{◌≡◌, ◌<◌};
 ghost use Rattle.tl_tables.specs.Messages.{op_at, carries_data_of, least_level, level_le, replies_to, chan_number};
-ghost use Rattle.tl_tables.specs.Params.{is_lawful, cap_of, from_of, to_of};
+ghost use Rattle.tl_tables.specs.Params.{is_lawful, cap_of, from_of, to_of, is_above};
 ghost use Rattle.tl_tables.specs.Rules.{rule_text_of};
+
+pub use kinds::{
+    is_acquire, is_grant, is_grant_ack, is_of_block, is_probe, is_probe_ack, is_release,
+    is_release_ack,
+};
 
 /// A channel of a link. A, C and E run from client to manager, B and D from manager to client. Within one cycle the
 /// beats of a link stand in the order A to E.
@@ -295,6 +302,17 @@ pub fn to_of(op: Op, param: u8) -> Option<Perm>
             Perm::Nothing,
         ),
         _ => None,
+    }
+}
+
+/// Whether the first permission allows more than the second: Trunk more than Branch, and Branch more than Nothing.
+pub fn is_above(perm: Perm, other: Perm) -> bool
+    ensures { result ≡ is_above perm other }
+{
+    match perm {
+        Perm::Nothing => false,
+        Perm::Branch => other == Perm::Nothing,
+        Perm::Trunk => other != Perm::Trunk,
     }
 }
 

@@ -105,8 +105,10 @@ fn is_outside(alloc: Global, line: &str, regions: &[(u64, u64, char)]) -> Result
     let (topo, _) = read_topo(alloc, ONE_MANAGER.as_bytes())?;
     let link = topo.link(0).ok_or("a link")?;
     let mut map = RegionMap::new(alloc);
-    for (number, (first, last, letter)) in regions.iter().enumerate() {
-        map.set(number as u8, region(*first, *last, *letter)?)?;
+    let mut number = 0u8;
+    for (first, last, letter) in regions {
+        map.set(number, region(*first, *last, *letter)?)?;
+        number = number.saturating_add(1);
     }
     let rules = check_head(alloc, link, 6, &map, &beat(alloc, line)?);
     Ok(rules.as_slice().contains(&Rule::F10))

@@ -3,7 +3,7 @@
 use crate::topologies::ONE_MANAGER;
 use std::alloc::Global;
 use std::test::Fail;
-use tl_beats::{Beat, parse_whole_fragment};
+use tl_beats::parse_whole_fragment;
 use tl_format_rules::check_head;
 use tl_tables::{Op, Rule};
 use tl_topology::{Permits, Region, RegionFault, RegionMap, read_topo};
@@ -93,25 +93,23 @@ fn regions_never_overlap(rt: HostRuntime) -> Result<(), Fail> {
     Ok(())
 }
 
-/// The beat of a line.
-fn beat(alloc: Global, line: &str) -> Result<Beat, Fail> {
-    let text = format!(in alloc; "fragment cpu0 1 0 99999\n{line}\nend\n")?;
-    let fragment = parse_whole_fragment(alloc, text.as_bytes())?;
-    Ok(*fragment.beats().first().ok_or("a beat")?)
-}
-
 /// Whether a head on the first link breaks F10, with these regions of letters.
 fn is_outside(alloc: Global, line: &str, regions: &[(u64, u64, char)]) -> Result<bool, Fail> {
     let (topo, _) = read_topo(alloc, ONE_MANAGER.as_bytes())?;
-    let link = topo.link(0).ok_or("a link")?;
+    let text = format!(in alloc; "fragment cpu0 1 0 99999\n{line}\nend\n")?;
+    let fragment = parse_whole_fragment(alloc, text.as_bytes())?;
     let mut map = RegionMap::new(alloc);
     let mut number = 0u8;
     for (first, last, letter) in regions {
         map.set(number, region(*first, *last, *letter)?)?;
         number = number.saturating_add(1);
     }
-    let rules = check_head(alloc, link, 6, &map, &beat(alloc, line)?);
-    Ok(rules.as_slice().contains(&Rule::F10))
+    let mut found = None;
+    if let (Some(link), Some(head)) = (topo.link(0), fragment.beats().first()) {
+        let rules = check_head(alloc, link, 6, &map, head);
+        found = Some(rules.as_slice().contains(&Rule::F10));
+    }
+    Ok(found.ok_or("a link and a head")?)
 }
 
 #[test]

@@ -69,7 +69,7 @@ pub struct Request {
 }
 
 /// A rule that a beat breaks. Rows stand in the order of link, cycle, channel, rule and monitor.
-#[derive(Clone, Copy, Debug, PartialEq, Eq)]
+#[derive(Clone, Copy, Debug, PartialEq, Eq, PartialOrd, Ord)]
 pub struct Row {
     /// The number of the link.
     pub link: u16,

@@ -11,3 +11,4 @@ pub mod Rows
 pub mod Laws
 pub mod Coherence
 pub mod Judging
+pub mod Managers

@@ -4,8 +4,13 @@ use Rattle.std.proofs.Common.{refl, ap}
 use Rattle.std.specs.Bool.{Decides}
 use Rattle.std.specs.Option.{option_eq}
 use Rattle.std.proofs.lemmas.Bool.Decides.{Decides-eqb, Decides-and, Decides-like}
+use denote.Enum.Bare.{Bare, sameb, same_true, true_same}
+use denote.Enum.Declared.{Declared}
+use Rattle.tl_tables.specs.contracts.Chan as chan
+use Rattle.tl_tables.specs.contracts.Rule as rule
 use Rattle.tl_tables.specs.declared.Op.{Op}
 use Rattle.tl_beats.specs.declared.Request.{Request}
+use Rattle.tl_beats.specs.declared.Row.{Row}
 
 pub units_exact : (x y : Unit {0}) → Decides true (x ≡ y)
 units_exact x y = (λ h. refl, λ e. refl)
@@ -30,3 +35,31 @@ options_exact inner None None = (λ h. refl, λ e. refl)
 options_exact inner None (Some y) = (λ h. cc, λ e. cc)
 options_exact inner (Some x) None = (λ h. cc, λ e. cc)
 options_exact inner (Some x) (Some y) = (λ h. ap Some ((inner x y).0 h), λ e. (inner x y).1 cc)
+
+-- an enum without fields, whose variants are compared by their tags
+bare_exact : (D : Declared) → Bare D.parts → (x y : D.D) → Decides (sameb D x y) (x ≡ y)
+bare_exact D bare x y = (same_true D bare x y, true_same D x y)
+
+pub rows_exact : (x y : Row)
+    → Decides ((x.link == y.link) && ((x.cycle == y.cycle) && (sameb chan.the_type x.chan y.chan && (sameb rule.the_type x.rule y.rule
+    && (option_eq (λ m n. m == n) x.monitor y.monitor && ((x.fragment == y.fragment) && (x.line == y.line))))))) (x ≡ y)
+rows_exact x y =
+    Decides-like _
+    (λ h. λ i. record { link = h.0 i; cycle = h.1.0 i; chan = h.1.1.0 i; rule = h.1.1.1.0 i; monitor = h.1.1.1.1.0 i; fragment = h.1.1.1.1.1.0 i; line = h.1.1.1.1.1.1 i })
+    (λ e. (
+      ap (λ (r : Row). r.link) e,
+      (
+        ap (λ (r : Row). r.cycle) e,
+        (
+          ap (λ (r : Row). r.chan) e,
+          (
+            ap (λ (r : Row). r.rule) e,
+            (ap (λ (r : Row). r.monitor) e, (ap (λ (r : Row). r.fragment) e, ap (λ (r : Row). r.line) e)),
+          ),
+        ),
+      ),
+    ))
+    (Decides-and _ _ (Decides-eqb x.link y.link) (Decides-and _ _ (Decides-eqb x.cycle y.cycle)
+    (Decides-and _ _ (bare_exact chan.the_type tt x.chan y.chan) (Decides-and _ _ (bare_exact rule.the_type tt x.rule y.rule)
+    (Decides-and _ _ (options_exact Decides-eqb x.monitor y.monitor)
+    (Decides-and _ _ (Decides-eqb x.fragment y.fragment) (Decides-eqb x.line y.line)))))))

@@ -3,6 +3,7 @@
 #![tactic(auto)]
 
 mod kinds;
+mod order;
 
 ghost use Rattle.std.specs.Prelude.{◌≡◌, ◌<◌};
 ghost use Rattle.tl_tables.specs.Messages.{op_at, carries_data_of, least_level, level_le, replies_to, chan_number};

@@ -1,1 +1,2 @@
 pub mod BurstLaws
+pub mod SameLaws

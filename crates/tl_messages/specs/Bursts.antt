@@ -32,3 +32,7 @@ slot_at state chan = slice_index_or state.slots (chan_number chan) None
 -- The state shows what these beats leave unfinished on each channel of the link with this number.
 pub record StandsFor (state : BurstState) (link : LinkDecl) (number : ℕ) (before : List Placed) : Type 0 where
   pub slots : (chan : Chan) → slot_at state chan ≡ unfinished link (before_on number chan before)
+
+-- Both show the same on each channel.
+abbrev pub SameBursts : BurstState → BurstState → Type 0
+SameBursts one two = (chan : Chan) → slot_at one chan ≡ slot_at two chan

@@ -5,9 +5,11 @@ ghost use Rattle.std.specs.Prelude.{◌≡◌, ◌≤◌, ℕ, List, [], ◌∷�
 ghost use Rattle.tl_topology.specs.Topology.{IsSound};
 ghost use Rattle.tl_beats.specs.Beats.{IsWellFormed};
 ghost use Rattle.tl_definitions.specs.Heads.{beat_count, left};
+ghost use Rattle.tl_messages.specs.Bursts.{SameBursts};
 
 use tl_beats::Beat;
 use tl_definitions::Unfinished;
+use tl_same::Same;
 use tl_tables::{carries_data, chan_index, op_of};
 use tl_topology::LinkDecl;
 
@@ -59,6 +61,9 @@ impl BurstState {
     pub fn step(&mut self, link: &LinkDecl, beat: &Beat) -> Place
         requires link { IsSound link.now }
         requires beat { IsWellFormed beat.now }
+        // On what the state shows.
+        ensures judged { result ≡ place_in (slot_at self.old beat.now.chan) }
+        ensures next { (chan : AnyChan) → slot_at self.new chan ≡ slots_after link.now beat.now (slot_at self.old) chan }
         // Where the state stands for beats, the answer is the definition's, and the state then stands for them and this one.
         ensures place { (number : ℕ) (before : List Placed) → StandsFor self.old link.now number before
             → result ≡ place_of link.now (before_on number beat.now.chan before) }
@@ -87,6 +92,14 @@ impl BurstState {
                 Place::Head
             }
         }
+    }
+}
+
+impl Same for BurstState {
+    ghost same = { SameBursts };
+
+    fn is_same(&self, other: &Self) -> bool {
+        self == other
     }
 }
 

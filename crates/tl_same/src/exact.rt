@@ -2,10 +2,10 @@
 
 ghost use Rattle.std.specs.Bool.{Decides};
 ghost use Rattle.std.specs.Prelude.{◌≡◌};
-ghost use Rattle.tl_same.specs.Exact.{nats_exact, options_exact, pairs_exact, units_exact, requests_exact, rows_exact};
+ghost use Rattle.tl_same.specs.Exact.{nats_exact, options_exact, pairs_exact, units_exact, requests_exact, beats_exact, rows_exact};
 ghost use Rattle.std.proofs.Common.{rules};
 
-use tl_beats::{Request, Row};
+use tl_beats::{Beat, Request, Row};
 use tl_tables::{Op, Perm};
 
 /// A type of which `==` says whether two values are one.
@@ -47,6 +47,10 @@ impl Exact for Op {
 
 impl Exact for Request {
     ghost exact = { requests_exact (Prim.search rules) };
+}
+
+impl Exact for Beat {
+    ghost exact = { beats_exact };
 }
 
 impl Exact for Row {

@@ -10,3 +10,4 @@ pub mod ReportLaws
 pub mod PositionLaws
 pub mod RisingLaws
 pub mod RuleLaws
+pub mod PassLaws

@@ -170,7 +170,7 @@ key_less x y h place =
     (five (nat_cmp x.link y.link) (nat_cmp x.cycle y.cycle) (nat_cmp (chan_number x.chan) (chan_number y.chan)) (nat_cmp (rule_number x.rule) (rule_number y.rule)) (option_cmp nat_cmp x.monitor y.monitor) (place_order x y) ∙ h)
     (λ e. both_tie (nat_cmp x.fragment y.fragment) (nat_cmp x.line y.line) (tied x.fragment y.fragment (place e).0) (tied x.line y.line (place e).1))
 
-rises_by_key : (rows : List Row) → ((x y : Row) → Contains rows x → Contains rows y → key_order x y ≡ Equal → (x.fragment ≡ y.fragment) × (x.line ≡ y.line))
+pub rises_by_key : (rows : List Row) → ((x y : Row) → Contains rows x → Contains rows y → key_order x y ≡ Equal → (x.fragment ≡ y.fragment) × (x.line ≡ y.line))
     → IsStrictlySortedBy row_order rows → IsStrictlySortedBy key_order rows
 unfolding IsStrictlySortedBy
 rises_by_key [] place rises = tt
@@ -180,7 +180,7 @@ rises_by_key (x ∷ rows) place rises = (
 )
 
 -- Rows with one key are of beats at one position.
-same_position : (p q : Placed) (r s : Rule) → key_order (row_of p r) (row_of q s) ≡ Equal → position_order p q ≡ Equal
+pub same_position : (p q : Placed) (r s : Rule) → key_order (row_of p r) (row_of q s) ≡ Equal → position_order p q ≡ Equal
 same_position p q r s h =
     let link : Ordering = nat_cmp p.link q.link in
     let cycle : Ordering = nat_cmp p.beat.cycle q.beat.cycle in

@@ -23,7 +23,7 @@ use Rattle.tl_definitions.proofs.PositionLaws.{positions_are_ordered}
 
 module _ {X : Type 0} (R : X → X → Ordering) (total : IsTotalOrder R) where
   -- Members of a strict list that tie are one.
-  tied_members : (xs : List X) → IsStrictlySortedBy R xs → (p q : X) → Contains xs p → Contains xs q → R p q ≡ Equal → p ≡ q
+  pub tied_members : (xs : List X) → IsStrictlySortedBy R xs → (p q : X) → Contains xs p → Contains xs q → R p q ≡ Equal → p ≡ q
   unfolding IsStrictlySortedBy
   tied_members [] s p q h g e = absurd (contains_none p h)
   tied_members (x ∷ xs) s p q h g e = elim (contains_cases x xs p h) [

@@ -22,7 +22,8 @@ use Rattle.tl_definitions.specs.Messages.{Message, as_request, sources, releases
 use Rattle.tl_definitions.specs.Past.{FlowPast, ClientPast, LinkPast, pasts_of, acquires_block, releases_block, grants_block}
 use Rattle.tl_definitions.specs.Rules.{Manager, rules_of_message}
 use Rattle.tl_definitions.specs.Breaks.{later_rules, rules_at, row_of, rows_in}
-use Rattle.tl_definitions.specs.Report.{key_order}
+use Rattle.tl_definitions.specs.Positions.{position_order}
+use Rattle.tl_definitions.specs.Report.{key_order, row_order, IsReport}
 
 -- For each link and channel the burst that is unfinished, and for each link what its messages leave.
 pub record Snapshot : Type 0 where
@@ -136,3 +137,14 @@ abbrev pub ChainsAreWhole : Type 0
 ChainsAreWhole = (m : Manager) (passes : List Pass) → IsChain m (snapshot m []) passes →
     ((row : Row) → ((pass : Pass) × Contains passes pass × Contains pass.rows row) ↔ Contains (rows_in m (pass_beats passes)) row)
     × (last_exit (snapshot m []) passes ≡ snapshot m (reverse (pass_beats passes)))
+
+-- Rows in strict order that are those of judging beats in strict order make a pass.
+abbrev pub SortedRowsAreAPass : Type 0
+SortedRowsAreAPass = (m : Manager) (s : Snapshot) (beats : List Placed) (rows : List Row) → IsStrictlySortedBy position_order beats
+    → IsStrictlySortedBy row_order rows → ((row : Row) → Contains rows row ↔ Contains (all_judged m s beats) row)
+    → IsPass m (record { entry = s; beats = beats; exit = all_next m s beats; rows = rows })
+
+-- A pass from the beginning has the report of its beats.
+abbrev pub FirstPassesAreReports : Type 0
+FirstPassesAreReports = (m : Manager) (pass : Pass) → IsPass m pass → pass.entry ≡ snapshot m []
+    → IsReport (record { manager = m; beats = pass.beats } ∷ []) pass.rows

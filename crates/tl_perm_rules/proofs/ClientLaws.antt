@@ -1,9 +1,10 @@
 -- What a state shows after one more head.
-use Rattle.std.specs.Prelude.{OnOk}
-use Rattle.std.proofs.Common.{Result, Ok, Err, ◌≡◌, ℕ, ◌+◌, ◌-◌, ◌==◌, ◌&&◌, Bool, true, false, cond, List, [], Option, Some, None, refl, ap, ◌∙◌}
+use Rattle.std.specs.Prelude.{OnOk, filter}
+use Rattle.std.proofs.Common.{Result, Ok, Err, ◌≡◌, ℕ, ◌+◌, ◌-◌, ◌==◌, ◌≤◌, ◌&&◌, Bool, true, false, cond, List, [], ◌∷◌, length, Option, Some, None, refl, ap, ◌∙◌, arith}
 use Rattle.std.specs.Option.{option_map}
 use Rattle.tl_tables.specs.declared.Op.{Op}
 use Rattle.tl_tables.specs.declared.Perm.TheVariants as perm
+use Rattle.tl_tables.specs.declared.Rule.{Rule}
 use Rattle.tl_tables.specs.Params.{cap_of}
 use Rattle.tl_beats.specs.declared.Beat.{Beat}
 use Rattle.tl_beats.specs.declared.Request.{Request}
@@ -11,6 +12,7 @@ use Rattle.tl_tables.specs.Kinds.{is_acquire}
 use Rattle.tl_definitions.specs.OpenTables.{Table, acts, touches, if_opens, passes, one_if, entry_after, count_after}
 use Rattle.tl_definitions.specs.Messages.{Message, as_request, sources, releases, sinks, probes, round_down, granted_block, claim, claimed_or, message_at, with_message}
 use Rattle.tl_definitions.specs.Past.{LinkPast, past_of, acquires_block, releases_block, grants_block}
+use Rattle.tl_definitions.specs.Rules.{breaks_permission, permission_order}
 use Rattle.tl_definitions.specs.Judging.{message_in, past_after, past_with}
 use Rattle.tl_definitions.proofs.JudgingLaws.{message_next}
 use Rattle.tl_flow_rules.specs.Flow.{answered}
@@ -154,3 +156,16 @@ stands_law {E} (Ok x) exponent old new before head request found stands answer n
     next_law {E = E} (Ok x) exponent old new (past_of exponent before) head request found stands (answer ∙ answer_law exponent before head found) next in
     record { shows = known.shows ∙ ap (client_view exponent) (past_law exponent before head found) }
 stands_law (Err e) exponent old new before head request found stands answer next = tt
+
+-- ---- how many rules there can be
+
+few_of : (test : Rule → Bool) (rules : List Rule) → length (filter test rules) ≤ length rules
+few_of test [] = omega arith
+few_of test (x ∷ rules) = elim (test x) as (λ b. length (cond b (x ∷ filter test rules) (filter test rules)) ≤ length (x ∷ rules)) [
+  | true ↦ omega (arith, few_of test rules)
+  | false ↦ omega (arith, few_of test rules)
+]
+
+pub few_rules : (view : ClientView) (head : Beat) (found : Option Op) → length (view_rules view head found) ≤ 8
+few_rules view head None = omega arith
+few_rules view head (Some o) = few_of (breaks_permission view.exponent view.past (head_with head None o)) permission_order

@@ -1,18 +1,17 @@
 //! What a client may hold of each block, and the permission rules of the heads of its link.
 
-ghost use Rattle.std.specs.Prelude.{◌≡◌, ◌||◌, ℕ, List, [], None, Some, filter, nat_lt, is_some, true, false, if◌then◌else◌, IfOk, OnOk, OnErr};
+ghost use Rattle.std.specs.Prelude.{◌≡◌, ◌≤◌, ℕ, List, [], None, filter, length, nat_lt, is_some, true, false, IfOk, OnOk, OnErr};
 ghost use Rattle.std.specs.Bool.{Decides};
-ghost use Rattle.std.specs.Option.{option_copied, option_and_then, option_map_or};
-ghost use Rattle.tl_tables.specs.Params.{from_of, to_of};
-ghost use Rattle.tl_tables.specs.Kinds.{is_acquire, is_probe_ack, is_release};
+ghost use Rattle.std.specs.Option.{option_copied, option_map_or};
 ghost use Rattle.tl_definitions.specs.Heads.{message_of};
-ghost use Rattle.tl_definitions.specs.Messages.{Message, with_message, round_down, claim, bound_of};
+ghost use Rattle.tl_definitions.specs.Messages.{Message, with_message, bound_of};
 ghost use Rattle.tl_definitions.specs.Past.{LinkPast, client_past};
 ghost use Rattle.tl_definitions.specs.Rules.{breaks_permission, permission_order, claims_above, keeps_above};
 ghost use Rattle.tl_definitions.specs.Judging.{past_with};
 ghost use Rattle.tl_perm_rules.specs.Client.{SameClient};
 
 use crate::bounds::Bounds;
+use crate::claims::{acquired_block, block_of, claim, granted_block};
 use crate::open_blocks::OpenBlocks;
 use std::alloc::{AllocError, Global};
 use tl_beats::{Beat, Request};
@@ -55,7 +54,7 @@ pub struct ClientState {
 
 impl ClientState {
     ghost use Rattle.tl_flow_rules.specs.Flow.{answered};
-    ghost use Rattle.tl_perm_rules.specs.Client.{ClientView, StandsFor, Shows, shown, probe_at, acquired_block, permission_rules, rules_in, answered_in, view_after, view_with, view_rules, head_with, can_carry, IsOpened, IsView};
+    ghost use Rattle.tl_perm_rules.specs.Client.{ClientView, StandsFor, Shows, shown, probe_at, permission_rules, rules_in, answered_in, view_after, view_with, view_rules, head_with, can_carry, IsOpened, IsView};
     ghost use Rattle.tl_perm_rules.specs.Bounds.{bound_at};
     ghost use Rattle.tl_perm_rules.specs.OpenBlocks.{block_at, open_on};
 
@@ -98,62 +97,12 @@ impl ClientState {
         self.grants.is_open(block)
     }
 
-    /// The address of the block that an address lies in.
-    #[tactic(auto, using(crate::proofs::Blocks::one_block))]
-    fn block_of(&self, address: u64) -> u64
-        ensures { result ≡ round_down self.now.exponent address }
-    {
-        if self.exponent < 64 {
-            let bytes: u64 = 1 << self.exponent;
-            address / bytes * bytes
-        } else {
-            0
-        }
-    }
-
-    /// The block that a request acquires, if it is an Acquire.
-    fn acquired_block(&self, op: Op, address: u64) -> Option<u64>
-        ensures { result ≡ (if is_acquire op then Some (round_down self.now.exponent address) else None) }
-    {
-        if is_acquire(op) {
-            Some(self.block_of(address))
-        } else {
-            None
-        }
-    }
-
-    /// The block of a Grant: that of the Acquire that it answers.
-    fn granted_block(&self, request: Option<Request>) -> Option<u64>
-        ensures { result ≡ option_and_then (acquired_block self.now.exponent) request }
-    {
-        match request {
-            Some(request) => self.acquired_block(request.op, request.address),
-            None => None,
-        }
-    }
-
-    /// The block and the bound that a head with this message sets, if it sets one.
-    fn claim(&self, op: Op, head: &Beat, request: Option<Request>) -> Option<(u64, Perm)>
-        ensures { result ≡ claim self.now.exponent (head_with head.now request op) }
-    {
-        if is_grant(op) {
-            if head.denied {
-                return None;
-            }
-            let block = self.granted_block(request)?;
-            let cap = cap_of(op, head.param)?;
-            return Some((block, cap));
-        }
-        let set = own_claim(op, head.param)?;
-        Some((self.block_of(head.address), set))
-    }
-
     /// Whether a head with this message claims that the client held more than it can.
     fn claims_above(&self, op: Op, head: &Beat) -> bool
         ensures { result ≡ claims_above self.now.exponent (shown self.now).past (head_with head.now None op) }
     {
         match from_of(op, head.param) {
-            Some(from) => is_above(from, self.bounds.get(self.block_of(head.address))),
+            Some(from) => is_above(from, self.bounds.get(block_of(self.exponent, head.address))),
             None => false,
         }
     }
@@ -162,7 +111,10 @@ impl ClientState {
     fn keeps_above(&self, op: Op, head: &Beat) -> bool
         ensures { result ≡ keeps_above self.now.exponent (shown self.now).past (head_with head.now None op) }
     {
-        let cap = self.probes.get(&self.block_of(head.address)).copied();
+        let cap = self
+            .probes
+            .get(&block_of(self.exponent, head.address))
+            .copied();
         match (to_of(op, head.param), cap) {
             (Some(to), Some(Some(cap))) => is_above(to, cap),
             _ => false,
@@ -173,7 +125,7 @@ impl ClientState {
     fn breaks(&self, op: Op, head: &Beat, rule: Rule) -> bool
         ensures { result ≡ breaks_permission self.now.exponent (shown self.now).past (head_with head.now None op) rule }
     {
-        let block = self.block_of(head.address);
+        let block = block_of(self.exponent, head.address);
         let shrinks = is_probe_ack(op) || is_release(op);
         match rule {
             Rule::P1 => is_acquire(op) && self.claims_above(op, head),
@@ -221,7 +173,7 @@ impl ClientState {
     /// opcode is no message breaks none and changes nothing; one whose param is not lawful claims nothing, and opens and
     /// closes. A later beat is no message: the state is not stepped by it. At want of memory nothing has changed.
     /// [TileLink 1.8: permission transitions; own profile, after the concurrency rules]
-    #[tactic(auto, using(crate::proofs::ClientLaws::standing_rules, crate::proofs::ClientLaws::shown_rules))]
+    #[tactic(auto, using(crate::proofs::ClientLaws::standing_rules, crate::proofs::ClientLaws::shown_rules, crate::proofs::ClientLaws::few_rules))]
     pub fn step(
         &mut self,
         alloc: Global,
@@ -242,6 +194,8 @@ impl ClientState {
         ensures next { (exponent : ℕ) (past : LinkPast) → Shows exponent self.old past
             → option_copied request.entry ≡ answered_in past head.now (message_of link.now head.now)
             → OnOk result (Shows exponent self.new (past_with exponent past head.now (message_of link.now head.now))) }
+        // Of eight rules there can be no more.
+        ensures few { IfOk result (λ rules. length rules ≤ 8) }
         ensures err { OnErr result (shown self.new ≡ shown self.old) }
     {
         self.advance(alloc, link, head, request.copied())
@@ -275,7 +229,7 @@ impl ClientState {
         ensures ok { OnOk result (IsView self.new (view_after (shown self.old) (head_with head.now request op))) }
         ensures err { OnErr result (IsView self.new (shown self.old)) }
     {
-        let Some((block, set)) = self.claim(op, head, request) else {
+        let Some((block, set)) = claim(self.exponent, op, head, request) else {
             return self.open_and_close(op, head, request);
         };
         let before = self.bounds.get(block);
@@ -308,19 +262,19 @@ impl ClientState {
     {
         match head.chan {
             Chan::A => {
-                let block = self.acquired_block(op, head.address);
+                let block = acquired_block(self.exponent, op, head.address);
                 self.acquires.open(head.source, block)?;
             }
             Chan::B if is_probe(op) => {
-                let block = self.block_of(head.address);
+                let block = block_of(self.exponent, head.address);
                 self.probes.open(block, cap_of(op, head.param))?;
             }
             Chan::C if is_probe_ack(op) => {
-                let block = self.block_of(head.address);
+                let block = block_of(self.exponent, head.address);
                 self.probes.close(&block);
             }
             Chan::C if is_release(op) => {
-                let block = self.block_of(head.address);
+                let block = block_of(self.exponent, head.address);
                 self.releases.open(head.source, Some(block))?;
             }
             Chan::D if is_release_ack(op) => {
@@ -328,7 +282,7 @@ impl ClientState {
             }
             Chan::D => {
                 if is_grant(op) {
-                    let block = self.granted_block(request);
+                    let block = granted_block(self.exponent, request);
                     self.grants.open(head.sink, block)?;
                 }
                 self.acquires.close(head.source);
@@ -354,18 +308,5 @@ impl Same for ClientState {
             return false;
         }
         self.releases.same_blocks(&other.releases) && self.grants.same_blocks(&other.grants)
-    }
-}
-
-/// What a client says in this message that it holds: an Acquire what it had, a ProbeAck or Release what it keeps.
-fn own_claim(op: Op, param: u8) -> Option<Perm>
-    ensures { result ≡ (if is_acquire op then from_of op param else (if is_probe_ack op || is_release op then to_of op param else None)) }
-{
-    if is_acquire(op) {
-        from_of(op, param)
-    } else if is_probe_ack(op) || is_release(op) {
-        to_of(op, param)
-    } else {
-        None
     }
 }

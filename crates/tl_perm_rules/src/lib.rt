@@ -2,10 +2,12 @@
 #![tactic(auto)]
 
 mod bounds;
+mod claims;
 mod client;
 mod counts;
 mod entries;
 pub mod laws;
 mod open_blocks;
 
+pub use claims::{block_of, claim, granted_block};
 pub use client::ClientState;

@@ -1,0 +1,2 @@
+pub mod ManagerLaws
+pub mod StandLaws

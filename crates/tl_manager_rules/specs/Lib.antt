@@ -1,0 +1,2 @@
+pub mod Manager
+pub mod Laws

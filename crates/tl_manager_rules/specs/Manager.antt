@@ -1,0 +1,61 @@
+-- What the state of a manager shows, and what it stands for.
+use Rattle.std.specs.Prelude.{ℕ, ◌≡◌, ◌==◌, ◌++◌, List, [], length, Option, filter, if◌then◌else◌}
+use Rattle.std.specs.List.{slice_get}
+use Rattle.std.specs.Option.{option_map_or}
+use Rattle.tl_tables.specs.declared.Op.{Op}
+use Rattle.tl_tables.specs.declared.Rule.{Rule}
+use Rattle.tl_beats.specs.declared.Beat.{Beat}
+use Rattle.tl_beats.specs.declared.Placed.{Placed}
+use Rattle.tl_beats.specs.declared.Request.{Request}
+use Rattle.tl_definitions.specs.Past.{ClientPast, LinkPast, past_of, pasts_of}
+use Rattle.tl_definitions.specs.Rules.{Manager, breaks_permission, permission_order, breaks_manager, manager_order}
+use Rattle.tl_definitions.specs.Judging.{message_in, past_with}
+use Rattle.tl_perm_rules.specs.Client as client_state
+use Rattle.tl_perm_rules.specs.Client.{ClientView, client_view, head_with}
+use Rattle.tl_manager_rules.specs.declared.manager.ManagerState.{ManagerState}
+
+-- What one client shows; a link number that the topology lacks shows what no messages leave.
+abbrev pub client_at : ManagerState → ℕ → ClientView
+client_at state link = option_map_or client_state.shown (slice_get state.states.items link) (client_view state.exponent (past_of state.exponent []))
+
+abbrev pub past_at : ManagerState → ℕ → ClientPast
+past_at state client = (client_at state client).past
+
+-- What a state shows: the numbers of its manager's links, the size of its blocks, how many links the topology has, each client.
+pub record ManagerView : Type 0 where
+  pub clients : List ℕ
+  pub exponent : ℕ
+  pub count : ℕ
+  pub client : ℕ → ClientView
+
+abbrev pub shown : ManagerState → ManagerView
+shown state = record { clients = state.clients.items; exponent = state.exponent; count = length state.states.items; client = client_at state }
+
+-- The state shows what these pasts of all links leave.
+pub record Shows (numbers : List ℕ) (power : ℕ) (state : ManagerState) (pasts : ℕ → LinkPast) : Type 0 where
+  pub clients : state.clients.items ≡ numbers
+  pub exponent : state.exponent ≡ power
+  pub each : (link : ℕ) → client_at state link ≡ client_view power (pasts link)
+
+-- The state shows what these beats of its manager leave, the newest first.
+abbrev pub StandsFor : Manager → ManagerState → List Placed → Type 0
+StandsFor m state before = Shows m.clients m.exponent state (pasts_of m.links m.exponent before)
+
+-- The permission and manager rules that a head with this message, if it is one, breaks on its link after these pasts.
+abbrev pub rules_in : List ℕ → ℕ → (ℕ → LinkPast) → ℕ → Beat → Option Op → List Rule
+rules_in clients exponent pasts link head found =
+    option_map_or (λ o. filter (breaks_permission exponent (pasts link).client (message_in (pasts link).flow head o)) permission_order
+    ++ filter (breaks_manager clients exponent (λ client. (pasts client).client) link (message_in (pasts link).flow head o)) manager_order) found []
+
+-- The pasts after a head.
+abbrev pub pasts_with : ℕ → ℕ → (ℕ → LinkPast) → Beat → Option Op → ℕ → LinkPast
+pasts_with exponent link pasts head found = λ n. if link == n then past_with exponent (pasts n) head found else pasts n
+
+-- The manager rules alone, by what a state shows.
+abbrev pub manager_rules : ManagerState → ℕ → Beat → Option Request → Option Op → List Rule
+manager_rules state link head request found =
+    option_map_or (λ o. filter (breaks_manager state.clients.items state.exponent (past_at state) link (head_with head request o)) manager_order) found []
+
+-- Both states show the same.
+abbrev pub SameManager : ManagerState → ManagerState → Type 0
+SameManager one two = shown one ≡ shown two

@@ -1,0 +1,8 @@
+//! How a state stands for the beats of its manager.
+
+ghost use Rattle.tl_manager_rules.specs.Laws.{LaterBeatsAreStoodFor};
+
+/// A state that is not stepped by a later beat stands for the beats with it.
+pub fn later_beats_are_stood_for()
+    ensures { LaterBeatsAreStoodFor }
+{}

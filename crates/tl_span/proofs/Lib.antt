@@ -1,0 +1,6 @@
+pub mod ListLaws
+pub mod LinkLaws
+pub mod StateLaws
+pub mod StepLaws
+pub mod JobLaws
+pub mod JoinLaws

@@ -1,0 +1,77 @@
+use Rattle.std.proofs.Common.{refl, sym, ap, subst, ◌∙◌}
+use Rattle.std.proofs.Math.ListN.{set}
+use Rattle.tl_beats.specs.Beats.{IsWellFormed}
+use Rattle.tl_definitions.specs.Heads.{message_of}
+use Rattle.tl_flow_rules.specs.Flow as flow
+use Rattle.tl_manager_rules.specs.Manager as managers
+use Rattle.tl_topology.specs.Regions.{areas_of}
+use Rattle.tl_span.specs.Links.{IsFound}
+use Rattle.tl_span.specs.States.{flow_at, past_at, shown}
+use Rattle.tl_span.proofs.StateLaws.{head_next, later_next}
+use Rattle.tl_span.proofs.StepLaws.{at_link, burst_here, flow_here, on_ok, whatever, head_is_judged, served_format, head_rows, later_rows}
+use Rattle.tl_span.proofs.state.SpanState.step.Goals as goal
+
+pub check_later-requires-clause-head : goal.check_later-requires-clause-head
+check_later-requires-clause-head c =
+    let p = c.args.at.now in
+    let link = c.index_mut.result.now in
+    let at = at_link c.args.self.now.links.items c.from-number.result p.link link c.from-number.ensures c.requires.link c.index_mut.ensures.value in
+    let found = subst (IsFound c.args.decl.now p.beat link) c.in-Later.is c.in_ok-answer.ensures.found in
+    subst IsWellFormed found.2 (c.requires.formed p.link p.beat.chan found.0 (burst_here c.args.self.now p.link link p.beat.chan at ∙ found.1))
+
+pub returns-in_ok-add_rows-in-Head-2-clause-rows : goal.returns-in_ok-add_rows-in-Head-2-clause-rows
+returns-in_ok-add_rows-in-Head-2-clause-rows c m count of serves =
+    let p = c.args.at.now in
+    let old = c.args.self.now in
+    let link = c.index_mut.result.now in
+    let at = at_link old.links.items c.from-number.result p.link link c.from-number.ensures c.requires.link c.index_mut.ensures.value in
+    let found = subst (IsFound c.args.decl.now p.beat link) c.in-Head.is c.in_ok-answer.ensures.found in
+    let opcode = message_of c.args.decl.now p.beat in
+    let past = flow_here old p.link link at in
+    let request = c.as_ref-request.ensures.value ∙ found.2 ∙ ap (λ f. flow.answered_in f p.beat opcode) past in
+    let clients = c.in_ok-clients-in-Head.ensures.judged m.clients m.exponent (past_at old) of.clients request in
+    let message = ap (λ d. message_of d p.beat) (sym serves.declared) in
+    let rules = head_is_judged m (shown old) p (message_of (m.links p.link) p.beat) c.check_head-format.result c.in-Head.answer.rules c.in_ok-clients-in-Head.clients
+    (c.check_head-format.ensures ∙ served_format m p c.args.decl.now c.args.exponent (areas_of c.args.regions.now) serves)
+    (found.1 ∙ ap (λ f. flow.rules_in f p.beat opcode) past ∙ ap (flow.rules_in (flow_at old p.link) p.beat) message)
+    (clients ∙ ap (managers.rules_in m.clients m.exponent (past_at old) p.link p.beat) message) in
+    on_ok c.add_rows-in-Head-2.result
+    (λ three. head_rows m old p c.check_head-format.result c.in-Head.answer.rules c.in_ok-clients-in-Head.clients c.args.rows.now.items c.add_rows.new.rows.items c.add_rows-in-Head.new.rows.items
+    c.add_rows-in-Head-2.new.rows.items (burst_here old p.link link p.beat.chan at ∙ found.0) rules c.in_ok-add_rows-in-Head.ensures c.in_ok-add_rows-in-Head-2.ensures three)
+    c.add_rows-in-Head-2.ensures
+
+pub returns-in_ok-add_rows-in-Head-2-clause-next : goal.returns-in_ok-add_rows-in-Head-2-clause-next
+returns-in_ok-add_rows-in-Head-2-clause-next c m count of serves =
+    let p = c.args.at.now in
+    let old = c.args.self.now in
+    let link = c.index_mut.result.now in
+    let at = at_link old.links.items c.from-number.result p.link link c.from-number.ensures c.requires.link c.index_mut.ensures.value in
+    let found = subst (IsFound c.args.decl.now p.beat link) c.in-Head.is c.in_ok-answer.ensures.found in
+    let request = c.as_ref-request.ensures.value ∙ found.2 ∙ ap (λ f. flow.answered_in f p.beat (message_of c.args.decl.now p.beat)) (flow_here old p.link link at) in
+    whatever c.add_rows-in-Head-2.result
+    (head_next m count old _ p c.args.decl.now link c.step.new.self of serves.declared c.requires.beat at c.in_ok-answer.ensures.next
+    (ap (λ k. set old.links.items k c.step.new.self) c.from-number.ensures) found.0
+    (c.in_ok-clients-in-Head.ensures.next m.clients m.exponent (past_at old) of.clients request) c.in_ok-clients-in-Head.ensures.count)
+
+pub returns-in-Later-clause-rows : goal.returns-in-Later-clause-rows
+returns-in-Later-clause-rows c m count of serves =
+    let p = c.args.at.now in
+    let old = c.args.self.now in
+    let link = c.index_mut.result.now in
+    let at = at_link old.links.items c.from-number.result p.link link c.from-number.ensures c.requires.link c.index_mut.ensures.value in
+    let found = subst (IsFound c.args.decl.now p.beat link) c.in-Later.is c.in_ok-answer.ensures.found in
+    on_ok c.add_rows-in-Later.result
+    (λ one. later_rows m old p c.args.decl.now c.in-Later.head found.0 c.check_later.result c.args.rows.now.items c.add_rows-in-Later.new.rows.items serves.declared
+    (burst_here old p.link link p.beat.chan at ∙ found.1) found.2 c.check_later.ensures one)
+    c.add_rows-in-Later.ensures
+
+pub returns-in-Later-clause-next : goal.returns-in-Later-clause-next
+returns-in-Later-clause-next c m count of serves =
+    let p = c.args.at.now in
+    let old = c.args.self.now in
+    let link = c.index_mut.result.now in
+    let at = at_link old.links.items c.from-number.result p.link link c.from-number.ensures c.requires.link c.index_mut.ensures.value in
+    let found = subst (IsFound c.args.decl.now p.beat link) c.in-Later.is c.in_ok-answer.ensures.found in
+    whatever c.add_rows-in-Later.result
+    (later_next m count old _ p c.args.decl.now link c.step.new.self of serves.declared c.requires.beat at c.in_ok-answer.ensures.next
+    (ap (λ k. set old.links.items k c.step.new.self) c.from-number.ensures) found.0 found.1 refl)

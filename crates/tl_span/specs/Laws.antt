@@ -1,0 +1,38 @@
+-- What follows for states and for results of windows.
+use Rattle.std.specs.Prelude.{◌≡◌, ◌↔◌, ℕ, List, [], ◌∷◌, ◌++◌, reverse}
+use Rattle.std.specs.List.{Contains}
+use Rattle.tl_beats.specs.declared.Placed.{Placed}
+use Rattle.tl_beats.specs.declared.Row.{Row}
+use Rattle.tl_definitions.specs.Rules.{Manager}
+use Rattle.tl_definitions.specs.Breaks.{rows_in}
+use Rattle.tl_definitions.specs.Judging.{snapshot}
+use Rattle.tl_span.specs.declared.state.SpanState.{SpanState}
+use Rattle.tl_span.specs.States.{shown, IsOf, StandsFor, SameSpan}
+use Rattle.tl_span.specs.Jobs.{Checked, IsResult, manager_of}
+
+-- Two states of one manager are the same exactly where they show the same.
+abbrev pub SameStatesShowTheSame : Type 0
+SameStatesShowTheSame = (m : Manager) (count : ℕ) (one two : SpanState) → IsOf m count one → IsOf m count two → SameSpan one two ↔ (shown one ≡ shown two)
+
+-- A state that is the same as one that stands for beats stands for them.
+abbrev pub SameStatesStandForTheSame : Type 0
+SameStatesStandForTheSame = (m : Manager) (count : ℕ) (one two : SpanState) (before : List Placed) → StandsFor m count one before → SameSpan one two → StandsFor m count two before
+
+-- Results of one manager, of which the first has this entry, and each other the exit of the one before it.
+abbrev pub AreJoined : Manager → SpanState → List Checked → Type 0
+AreJoined m entry [] = Unit {0}
+AreJoined m entry (result ∷ results) = IsResult result × (manager_of result.job ≡ m) × SameSpan entry result.job.entry × AreJoined m result.exit results
+
+abbrev pub all_beats : List Checked → List Placed
+all_beats [] = []
+all_beats (result ∷ results) = result.job.beats ++ all_beats results
+
+abbrev pub last_exit : SpanState → List Checked → SpanState
+last_exit entry [] = entry
+last_exit entry (result ∷ results) = last_exit result.exit results
+
+-- Joined from the opening state on, they have the rows of all their beats, and end with what these leave.
+abbrev pub JoinedResultsAreWhole : Type 0
+JoinedResultsAreWhole = (m : Manager) (count : ℕ) (opening : SpanState) (results : List Checked) → StandsFor m count opening [] → AreJoined m opening results →
+    ((row : Row) → ((result : Checked) × Contains results result × Contains result.rows row) ↔ Contains (rows_in m (all_beats results)) row)
+    × ((shown (last_exit opening results)) ≡ snapshot m (reverse (all_beats results)))

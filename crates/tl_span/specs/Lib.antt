@@ -1,0 +1,4 @@
+pub mod Links
+pub mod States
+pub mod Jobs
+pub mod Laws

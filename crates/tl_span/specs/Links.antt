@@ -1,0 +1,41 @@
+-- What the state of one link shows.
+use Rattle.std.specs.Prelude.{◌≡◌, List, [], None, Some, is_none, if◌then◌else◌}
+use Rattle.std.specs.List.{AllByRecursion}
+use Rattle.tl_tables.specs.declared.Chan.{Chan}
+use Rattle.tl_topology.specs.declared.LinkDecl.{LinkDecl}
+use Rattle.tl_beats.specs.declared.Beat.{Beat}
+use Rattle.tl_definitions.specs.declared.Unfinished.{Unfinished}
+use Rattle.tl_definitions.specs.Heads.{message_of}
+use Rattle.tl_definitions.specs.Past.{flow_past}
+use Rattle.tl_messages.specs.Bursts.{slot_at, slots_after, SameBursts}
+use Rattle.tl_flow_rules.specs.Flow as flow
+use Rattle.tl_span.specs.declared.links.LinkState.{LinkState}
+use Rattle.tl_span.specs.declared.links.Found.{Found}
+use Rattle.tl_span.specs.declared.links.Found.TheVariants as found
+
+-- What the next beat of a link is, by the burst that its channel leaves unfinished: a head, with what its link's past makes
+-- of it, or a later beat of the head of that burst.
+abbrev pub IsFound : LinkDecl → Beat → LinkState → Found → Type 0
+IsFound decl beat old (found.Head answer) = (slot_at old.bursts beat.chan ≡ None)
+    × (answer.rules ≡ flow.rules_in (flow.shown old.flow) beat (message_of decl beat))
+    × (answer.request ≡ flow.answered_in (flow.shown old.flow) beat (message_of decl beat))
+IsFound decl beat old (found.Later head) = (burst : Unfinished) × (slot_at old.bursts beat.chan ≡ Some burst) × (burst.head ≡ head)
+
+-- The link's state after the beat.
+pub record IsNext (decl : LinkDecl) (beat : Beat) (old new : LinkState) : Type 0 where
+  pub bursts : (chan : Chan) → slot_at new.bursts chan ≡ slots_after decl beat (slot_at old.bursts) chan
+  pub flow : flow.shown new.flow ≡ (if is_none (slot_at old.bursts beat.chan) then flow.flow_with (flow.shown old.flow) beat (message_of decl beat)
+      else flow.shown old.flow)
+
+-- Nothing is left on a link.
+pub record IsOpening (state : LinkState) : Type 0 where
+  pub bursts : (chan : Chan) → slot_at state.bursts chan ≡ None
+  pub flow : flow.shown state.flow ≡ flow_past []
+
+abbrev pub AreOpening : List LinkState → Type 0
+AreOpening links = AllByRecursion IsOpening links
+
+-- Both links show the same.
+pub record SameLink (one two : LinkState) : Type 0 where
+  pub bursts : SameBursts one.bursts two.bursts
+  pub flow : flow.SameFlow one.flow two.flow

@@ -1,0 +1,125 @@
+//! What the beats of a manager leave for those that come.
+
+ghost use Rattle.std.specs.Prelude.{◌≡◌, ◌<◌, ◌++◌, ℕ, List, [], length, map, IfOk, OnOk};
+ghost use Rattle.std.specs.Bool.{Decides};
+ghost use Rattle.tl_topology.specs.Regions.{Area, areas_of};
+ghost use Rattle.tl_topology.specs.Topology.{IsSound};
+ghost use Rattle.tl_beats.specs.Beats.{IsWellFormed};
+ghost use Rattle.tl_definitions.specs.Breaks.{row_of};
+ghost use Rattle.tl_definitions.specs.Judging.{judged_rules, judged_next};
+ghost use Rattle.tl_definitions.specs.Managers.{manager_at};
+ghost use Rattle.tl_definitions.specs.Rules.{Manager};
+ghost use Rattle.tl_manager_rules.specs.Manager as managers;
+ghost use Rattle.tl_same.specs.SameItems.{SameItems};
+ghost use Rattle.tl_span.specs.Links.{SameLink, AreOpening};
+ghost use Rattle.tl_span.specs.States.{shown, IsOf, StandsFor, SameSpan, AreFormed, Serves};
+
+use crate::links::{Found, LinkState};
+use crate::rows::add_rows;
+use std::alloc::{AllocError, Global};
+use tl_beats::{Placed, Row};
+use tl_format_rules::{check_head, check_later};
+use tl_manager_rules::ManagerState;
+use tl_same::Same;
+use tl_topology::{LinkDecl, RegionMap, Topo};
+
+/// All that the beats of a manager so far leave for those that come: for each link what is unfinished and in flight, for each
+/// client what it can hold and what is open on it. Two states of one manager are the same (`is_same`) exactly where they show
+/// the same.
+#[derive(Drop)]
+pub struct SpanState {
+    /// One for each link of the topology, by number; those of other managers stay empty.
+    links: Vec<LinkState>,
+    clients: ManagerState,
+}
+
+/// The states of so many links without beats.
+fn opening_links(alloc: Global, count: usize) -> Result<Vec<LinkState>, AllocError>
+    ensures { IfOk result (λ links. (length links.items ≡ count) × AreOpening links.items) }
+{
+    let mut links = Vec::new(alloc);
+    for _ in 0..count {
+        links.push(LinkState::new(alloc))?;
+    }
+    Ok(links)
+}
+
+/// States that show the same.
+fn copied_links(alloc: Global, links: &[LinkState]) -> Result<Vec<LinkState>, AllocError>
+    ensures { IfOk result (λ copies. SameItems SameLink links.now copies.items) }
+{
+    let mut copies = Vec::new(alloc);
+    for link in links {
+        copies.push(link.copy()?)?;
+    }
+    Ok(copies)
+}
+
+impl SpanState {
+    /// The state of a manager before all its beats.
+    #[tactic(auto, using(crate::proofs::StateLaws::opening_stands))]
+    pub fn opening(alloc: Global, topo: &Topo, manager: u16) -> Result<SpanState, AllocError>
+        requires manager { manager < length topo.now.managers }
+        ensures { (regions : List Area) → IfOk result (λ state. StandsFor (manager_at topo.now manager regions) (length topo.now.links) state []) }
+    {
+        Ok(SpanState {
+            links: opening_links(alloc, topo.link_count())?,
+            clients: ManagerState::new(alloc, topo, manager)?,
+        })
+    }
+
+    /// Judges the manager's next beat by what the state shows: puts the rows of what it breaks at the end, and the state then
+    /// shows what is left with it.
+    pub(crate) fn step(
+        &mut self,
+        alloc: Global,
+        decl: &LinkDecl,
+        exponent: u8,
+        regions: &RegionMap,
+        at: &Placed,
+        rows: &mut Vec<Row>,
+    ) -> Result<(), AllocError>
+        requires decl { IsSound decl.now }
+        requires beat { IsWellFormed at.now.beat }
+        requires link { at.now.link < length self.old.links.items }
+        requires client { at.now.link < (managers.shown self.old.clients).count }
+        requires formed { AreFormed self.old }
+        ensures rows { (m : Manager) (count : ℕ) → IsOf m count self.old → Serves m at.now.link decl.now exponent (areas_of regions.now)
+            → OnOk result (rows.new.items ≡ rows.old.items ++ map (row_of at.now) (judged_rules m (shown self.old) at.now)) }
+        ensures next { (m : Manager) (count : ℕ) → IsOf m count self.old → Serves m at.now.link decl.now exponent (areas_of regions.now)
+            → OnOk result (IsOf m count self.new × (shown self.new ≡ judged_next m (shown self.old) at.now)) }
+    {
+        let number = usize::from(at.link);
+        match self.links[number].step(alloc, decl, &at.beat)? {
+            Found::Head(answer) => {
+                let format = check_head(alloc, decl, exponent, regions, &at.beat);
+                let request = answer.request.as_ref();
+                let clients = self.clients.step(alloc, at.link, decl, &at.beat, request)?;
+                add_rows(rows, at, format)?;
+                add_rows(rows, at, answer.rules)?;
+                add_rows(rows, at, clients)
+            }
+            Found::Later(head) => add_rows(rows, at, check_later(alloc, decl, &head, &at.beat)),
+        }
+    }
+
+    /// A state that shows the same.
+    #[tactic(auto, using(crate::proofs::StateLaws::same_from_parts))]
+    pub fn copy(&self, alloc: Global) -> Result<SpanState, AllocError>
+        ensures { IfOk result (SameSpan self.now) }
+    {
+        Ok(SpanState {
+            links: copied_links(alloc, &self.links)?,
+            clients: self.clients.copy(alloc)?,
+        })
+    }
+}
+
+impl Same for SpanState {
+    ghost same = { SameSpan };
+
+    #[tactic(auto, using(crate::proofs::StateLaws::same_from_parts, crate::proofs::StateLaws::parts_from_same))]
+    fn is_same(&self, other: &Self) -> bool {
+        self.links.is_same(&other.links) && self.clients.is_same(&other.clients)
+    }
+}

@@ -1,0 +1,5 @@
+use Rattle.tl_cli.proofs.OnceReport as laws
+use Rattle.tl_cli.proofs.laws.clean_reports_are_coherent.Goals as goal
+
+pub returns : goal.returns
+returns c = laws.clean_reports_are_coherent

@@ -1,0 +1,23 @@
+-- Beats in the order of positions.
+use Rattle.std.proofs.Common.{◌≡◌, subst, List, [], ◌∷◌, ◌++◌}
+use Rattle.std.specs.List.{AllByRecursion}
+use Rattle.std.specs.List.Sorted.{IsStrictlySortedBy}
+use Rattle.std.specs.declared.cmp.Ordering.{Ordering}
+use Rattle.std.specs.declared.cmp.Ordering.TheVariants.{Less}
+use Rattle.tl_beats.specs.declared.Placed.{Placed}
+use Rattle.tl_definitions.specs.Positions.{position_order, IsBefore}
+use Rattle.tl_span.proofs.ListLaws.{all_more}
+
+-- A list in strict order, with one item more above all of it.
+pub strict_more : {X : Type 0} (R : X → X → Ordering) (xs : List X) (x : X) → IsStrictlySortedBy R xs → AllByRecursion (λ y. R y x ≡ Less) xs → IsStrictlySortedBy R (xs ++ x ∷ [])
+unfolding IsStrictlySortedBy
+strict_more R [] x s below = (tt, tt)
+strict_more R (y ∷ xs) x s below = (all_more (λ z. R y z ≡ Less) xs x s.0 below.0, strict_more R xs x s.1 below.1)
+
+pub strict_none : {X : Type 0} (R : X → X → Ordering) → IsStrictlySortedBy R []
+unfolding IsStrictlySortedBy
+strict_none R = tt
+
+-- A beat behind those that lie before it.
+pub beats_more : (beats same : List Placed) (p : Placed) → same ≡ beats → IsStrictlySortedBy position_order beats → AllByRecursion (λ q. IsBefore q p) same → IsStrictlySortedBy position_order (beats ++ p ∷ [])
+beats_more beats same p is rising below = strict_more position_order beats p rising (subst (AllByRecursion (λ q. IsBefore q p)) is below)

@@ -1,0 +1,14 @@
+use Rattle.std.proofs.Common.{◌<◌, length}
+use Rattle.std.specs.List.{All}
+use Rattle.std.specs.List.Sorted.{IsStrictlySortedBy}
+use Rattle.tl_beats.specs.Beats.{IsWellFormed}
+use Rattle.tl_definitions.specs.Positions.{position_order}
+use Rattle.tl_span_rows.proofs.windows.window.Given as goal
+
+-- the beats so far can be those of a window
+abbrev pub invariant-loop-at : goal.invariant-loop-at
+invariant-loop-at l = record {
+  formed : All (λ p. IsWellFormed p.beat) l.window.items;
+  within : All (λ p. p.link < length l.topo.links) l.window.items;
+  rises : IsStrictlySortedBy position_order l.window.items;
+}

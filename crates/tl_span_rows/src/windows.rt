@@ -1,0 +1,268 @@
+//! Windows of a manager: the beats of its links in the order of positions, checked from what the beats before them leave.
+
+ghost use Rattle.std.specs.Prelude.{◌≡◌, ◌<◌, [], length, IfOk, IsTrue};
+ghost use Rattle.std.specs.List.{All, AllByRecursion};
+ghost use Rattle.std.specs.List.Sorted.{IsStrictlySortedBy};
+ghost use Rattle.tl_beats.specs.Beats.{IsWellFormed};
+ghost use Rattle.tl_definitions.specs.Managers.{manager_at};
+ghost use Rattle.tl_definitions.specs.Positions.{position_order, IsBefore};
+ghost use Rattle.tl_span.specs.States.{IsOf};
+
+use std::alloc::{AllocError, Global};
+use std::cmp::Ordering;
+use std::test::Fail;
+use tl_beats::{Placed, Row, parse_whole_fragment};
+use tl_same::Same;
+use tl_span::{SpanJob, SpanResult, SpanState, span_check};
+use tl_tables::{chan_index, rule_text};
+use tl_topology::{Name, RegionMap, Topo, read_topo};
+
+const TOPOLOGY: &str =
+    "topo 1\nmanager m0 64\nlink cpu0 m0 c 8 6 4\nlink cpu1 m0 c 8 6 4\nlink dma0 m0 ul 8 3 2\nend\n";
+
+/// Puts the beats of a fragment behind others.
+fn place(
+    alloc: Global,
+    topo: &Topo,
+    (link, number, lines): (&str, u32, &str),
+    beats: &mut Vec<Placed>,
+) -> Result<(), Fail> {
+    let text = format!(in alloc; "fragment {link} {number} 0 99999\n{lines}end\n")?;
+    let fragment = parse_whole_fragment(alloc, text.as_bytes())?;
+    let link = topo.link_of(&fragment.link()).ok_or("a link")?;
+    let mut line = 2u32;
+    for beat in fragment.beats() {
+        beats.push(Placed {
+            link,
+            fragment: number,
+            line,
+            beat: *beat,
+        })?;
+        line = line.saturating_add(1);
+    }
+    Ok(())
+}
+
+/// The beats of three fragments in the order of positions.
+fn merged(
+    alloc: Global,
+    topo: &Topo,
+    first: (&str, u32, &str),
+    second: (&str, u32, &str),
+    third: (&str, u32, &str),
+) -> Result<Vec<Placed>, Fail> {
+    let mut beats = Vec::new(alloc);
+    place(alloc, topo, first, &mut beats)?;
+    place(alloc, topo, second, &mut beats)?;
+    place(alloc, topo, third, &mut beats)?;
+    beats.sort_by_key(|at| (at.beat.cycle, at.beat.chan, at.link))?;
+    Ok(beats)
+}
+
+/// How a beat lies to another in the order of positions.
+fn order(here: &Placed, there: &Placed) -> Ordering
+    ensures { result ≡ position_order here.now there.now }
+{
+    let channel = chan_index(here.beat.chan).cmp(&chan_index(there.beat.chan));
+    let cycle = here.beat.cycle.cmp(&there.beat.cycle);
+    cycle.then(channel.then(here.link.cmp(&there.link)))
+}
+
+/// Whether all beats lie before another.
+fn all_before(beats: &[Placed], at: &Placed) -> bool
+    ensures { IsTrue result → AllByRecursion (λ earlier. IsBefore earlier at.now) beats.now }
+{
+    for earlier in beats {
+        if order(earlier, at) != Ordering::Less {
+            return false;
+        }
+    }
+    true
+}
+
+/// Whether a beat can stand behind these in a window: well-formed, on a link of the topology, after all of them.
+fn fits(topo: &Topo, window: &[Placed], at: &Placed) -> bool
+    ensures formed { IsTrue result → IsWellFormed at.now.beat }
+    ensures within { IsTrue result → at.now.link < length topo.now.links }
+    ensures rises { IsTrue result → AllByRecursion (λ earlier. IsBefore earlier at.now) window.now }
+{
+    at.beat.is_well_formed() && topo.link(at.link).is_some() && all_before(window, at)
+}
+
+/// The beats, where they can be those of a window.
+fn window(alloc: Global, topo: &Topo, beats: &[Placed]) -> Result<Vec<Placed>, Fail>
+    ensures formed { IfOk result (λ window. All (λ p. IsWellFormed p.beat) window.items) }
+    ensures within { IfOk result (λ window. All (λ p. p.link < length topo.now.links) window.items) }
+    ensures rises { IfOk result (λ window. IsStrictlySortedBy position_order window.items) }
+{
+    let mut window = Vec::new(alloc);
+    for at in beats {
+        if !fits(topo, &window, at) {
+            return Err(Fail::new("no beats of a window"));
+        }
+        window.push(*at)?;
+    }
+    Ok(window)
+}
+
+/// The state of a manager before all its beats.
+fn opening(alloc: Global, topo: &Topo, manager: u16) -> Result<SpanState, AllocError>
+    requires manager { manager < length topo.now.managers }
+    ensures { IfOk result (λ state. IsOf (manager_at topo.now manager []) (length topo.now.links) state) }
+{
+    let state = SpanState::opening(alloc, topo, manager)?;
+    Ok(state)
+}
+
+/// A window of a manager without regions, checked from a state.
+fn checked(
+    alloc: Global,
+    topo: &Topo,
+    manager: u16,
+    beats: &[Placed],
+    entry: SpanState,
+) -> Result<SpanResult, Fail>
+    requires manager { manager < length topo.now.managers }
+    requires entry { IsOf (manager_at topo.now manager []) (length topo.now.links) entry }
+    ensures { IfOk result (λ checked. IsOf (manager_at topo.now manager []) (length topo.now.links) checked.exit) }
+{
+    let beats = window(alloc, topo, beats)?;
+    let regions = RegionMap::new(alloc);
+    let job = SpanJob::new(alloc, topo, manager, &regions, beats, entry)?;
+    match span_check(alloc, job) {
+        Ok(checked) => {
+            let _exit = checked.exit();
+            Ok(checked)
+        }
+        Err(_) => Err(Fail::new("out of memory")),
+    }
+}
+
+/// A copy of the state after a window, to check the next from.
+fn after(
+    alloc: Global,
+    topo: &Topo,
+    manager: u16,
+    checked: &SpanResult,
+) -> Result<SpanState, AllocError>
+    requires { IsOf (manager_at topo.now manager []) (length topo.now.links) checked.now.exit }
+    ensures { IfOk result (λ state. IsOf (manager_at topo.now manager []) (length topo.now.links) state) }
+{
+    let state = checked.exit().copy(alloc)?;
+    Ok(state)
+}
+
+/// Rows as a report writes them.
+fn told(alloc: Global, topo: &Topo, rows: &[Row]) -> Result<String, Fail> {
+    let mut text = String::new(alloc);
+    for row in rows {
+        let name = topo.link(row.link).ok_or("a link")?.name;
+        let (fragment, line, rule) = (row.fragment, row.line, rule_text(row.rule));
+        text.push_str(&format!(in alloc; "{name} {fragment} {line} {rule}\n")?)?;
+    }
+    Ok(text)
+}
+
+/// The rows of three fragments, in one window.
+fn rows_of(
+    alloc: Global,
+    first: (&str, u32, &str),
+    second: (&str, u32, &str),
+    third: (&str, u32, &str),
+) -> Result<String, Fail> {
+    let (topo, _) = read_topo(alloc, TOPOLOGY.as_bytes())?;
+    let name = Name::new(b"m0").ok_or("a name")?;
+    let manager = topo.manager_of(&name).ok_or("a manager")?;
+    let beats = merged(alloc, &topo, first, second, third)?;
+    let entry = opening(alloc, &topo, manager)?;
+    let result = checked(alloc, &topo, manager, &beats, entry)?;
+    told(alloc, &topo, result.rows())
+}
+
+/// An Acquire of T of the block 1000, its Grant in eight beats, and the GrantAck.
+const HELD: &str =
+    "10 A 6 1 6 0 1000 ff 0\n20 D 5 0 6 0 1 0 0\n21 D 5 0 6 0 1 0 0\n22 D 5 0 6 0 1 0 0\n23 D 5 0 6 0 1 0 0\n24 D 5 0 6 0 1 0 0\n25 D 5 0 6 0 1 0 0\n26 D 5 0 6 0 1 0 0\n27 D 5 0 6 0 1 0 0\n30 E 1\n";
+
+/// The same, later.
+const HELD_LATER: &str =
+    "100 A 6 1 6 0 1000 ff 0\n110 D 5 0 6 0 1 0 0\n111 D 5 0 6 0 1 0 0\n112 D 5 0 6 0 1 0 0\n113 D 5 0 6 0 1 0 0\n114 D 5 0 6 0 1 0 0\n115 D 5 0 6 0 1 0 0\n116 D 5 0 6 0 1 0 0\n117 D 5 0 6 0 1 0 0\n120 E 1\n";
+
+/// A Grant of B in eight beats, and the GrantAck, without the Acquire.
+const GRANT_OF_B: &str =
+    "4092 D 5 1 6 0 3 0 0\n4093 D 5 1 6 0 3 0 0\n4094 D 5 1 6 0 3 0 0\n4095 D 5 1 6 0 3 0 0\n4096 D 5 1 6 0 3 0 0\n4097 D 5 1 6 0 3 0 0\n4098 D 5 1 6 0 3 0 0\n4099 D 5 1 6 0 3 0 0\n4100 E 3\n";
+
+/// An Acquire of T, and its Grant while cpu0 may hold the block.
+const SECOND: &str =
+    "100 A 6 1 6 0 1000 ff 0\n200 D 5 0 6 0 2 0 0\n201 D 5 0 6 0 2 0 0\n202 D 5 0 6 0 2 0 0\n203 D 5 0 6 0 2 0 0\n204 D 5 0 6 0 2 0 0\n205 D 5 0 6 0 2 0 0\n206 D 5 0 6 0 2 0 0\n207 D 5 0 6 0 2 0 0\n210 E 2\n";
+
+/// A Probe that takes the block away, and its answer.
+const TAKEN: &str = "110 B 6 2 6 0 1000 ff 0\n120 C 4 1 6 0 1000 0\n";
+
+#[test]
+fn a_grant_beside_a_writer_is_found(rt: HostRuntime) -> Result<(), Fail> {
+    // The block is held by cpu1, and granted to cpu0 by a burst that stands in another fragment than its Acquire.
+    let acquire = ("cpu0", 1, "4000 A 6 0 6 0 1000 ff 0\n");
+    let beside = rows_of(
+        rt.alloc(),
+        ("cpu0", 2, GRANT_OF_B),
+        ("cpu1", 1, HELD_LATER),
+        acquire,
+    )?;
+    assert!(rt; beside.as_str() == "cpu0 2 2 M1\n");
+    Ok(())
+}
+
+#[test]
+fn a_grant_without_its_acquire_is_of_no_block(rt: HostRuntime) -> Result<(), Fail> {
+    let nothing = ("cpu0", 1, "");
+    let unknown = rows_of(
+        rt.alloc(),
+        ("cpu0", 2, GRANT_OF_B),
+        ("cpu1", 1, HELD_LATER),
+        nothing,
+    )?;
+    assert!(rt; unknown.as_str() == "cpu0 2 2 S2\n");
+    Ok(())
+}
+
+#[test]
+fn a_second_writer_is_found(rt: HostRuntime) -> Result<(), Fail> {
+    let nothing = ("cpu0", 2, "");
+    let held = rows_of(rt.alloc(), ("cpu0", 1, HELD), ("cpu1", 1, SECOND), nothing)?;
+    assert!(rt; held.as_str() == "cpu1 1 3 M1\n");
+    Ok(())
+}
+
+#[test]
+fn a_probe_takes_the_block_away(rt: HostRuntime) -> Result<(), Fail> {
+    let probe = ("cpu0", 2, TAKEN);
+    let taken = rows_of(rt.alloc(), ("cpu0", 1, HELD), ("cpu1", 1, SECOND), probe)?;
+    assert!(rt; taken.is_empty());
+    Ok(())
+}
+
+#[test]
+fn a_result_keeps_its_job(rt: HostRuntime) -> Result<(), Fail> {
+    let (topo, _) = read_topo(rt.alloc(), TOPOLOGY.as_bytes())?;
+    let name = Name::new(b"m0").ok_or("a name")?;
+    let manager = topo.manager_of(&name).ok_or("a manager")?;
+    let acquire = ("cpu0", 1, "4000 A 6 0 6 0 1000 ff 0\n");
+    let beats = merged(
+        rt.alloc(),
+        &topo,
+        ("cpu0", 2, GRANT_OF_B),
+        ("cpu1", 1, HELD_LATER),
+        acquire,
+    )?;
+    let entry = opening(rt.alloc(), &topo, manager)?;
+    let copy = entry.copy(rt.alloc())?;
+    assert!(rt; entry.is_same(&copy) && copy.is_same(&entry));
+    let result = checked(rt.alloc(), &topo, manager, &beats, entry)?;
+    assert!(rt; result.job().beats() == beats.as_slice() && result.job().entry().is_same(&copy));
+    assert!(rt; !result.exit().is_same(&copy) && !copy.is_same(result.exit()));
+    let exit = after(rt.alloc(), &topo, manager, &result)?;
+    assert!(rt; exit.is_same(result.exit()) && result.exit().is_same(&exit));
+    let rows = result.into_rows();
+    assert!(rt; told(rt.alloc(), &topo, &rows)?.as_str() == "cpu0 2 2 M1\n");
+    Ok(())
+}

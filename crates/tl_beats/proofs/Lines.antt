@@ -56,7 +56,3 @@ fails first last n before (x ∷ next ∷ lines) line after found e is read here
     let other : bytes_eq x (codes "end") ≡ false = ap (λ (q : Line). bytes_eq q.0 (codes "end")) p ∙ is in
     let bad : next_at first last n before x ≡ Err found = ap (λ (q : Line). next_at first last n before q.0) p ∙ read here in
     rw (other, bad) refl
-
--- what a line leaves is shorter
-pub shorter : (bytes line after : List ℕ) → bytes ≡ line ++ 10 ∷ after → length bytes ≡ length line + suc (length after)
-shorter bytes line after e = ap (λ (l : List ℕ). length l) e ∙ length-append line (10 ∷ after)

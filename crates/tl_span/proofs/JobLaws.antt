@@ -22,11 +22,6 @@ use Rattle.tl_span.specs.States.{shown, IsOf}
 use Rattle.tl_span.proofs.ListLaws.{drop_more}
 use Rattle.tl_span.specs.Jobs.{Job, IsJob, IsResult, manager_from, manager_of}
 
-pub manager_is : (topo : Topology) (manager exponent : ℕ) (links : List LinkDecl) (areas : List Area) (entry : SpanState) → links ≡ declared_links topo
-    → exponent ≡ slice_index (map (λ p. p.1) topo.managers) manager → IsOf (manager_at topo manager areas) (length topo.links) entry
-    → manager_from links exponent areas entry ≡ manager_at topo manager areas
-manager_is topo manager exponent links areas entry same block of = λ i. record { links = links_of (same i); clients = of.clients.clients i; exponent = block i; regions = areas }
-
 pub is_result : (job : Job) (exit : SpanState) (rows : List Row) → IsJob job → IsOf (manager_of job) (length job.links) exit
     → shown exit ≡ all_next (manager_of job) (shown job.entry) job.beats → IsStrictlySortedBy row_order rows
     → ((row : Row) → Contains rows row ↔ Contains (all_judged (manager_of job) (shown job.entry) job.beats) row)

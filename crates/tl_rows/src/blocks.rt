@@ -50,7 +50,10 @@ fn a_grant_sets_its_cap_unless_it_is_denied(rt: HostRuntime) {
         denied: true,
         ..GRANT
     };
-    assert_eq!(rt; claim(6, Op::Grant, &GRANT, Some(ACQUIRE)), Some((0x1040, Perm::Trunk)));
+    assert_eq!(rt;
+        claim(6, Op::Grant, &GRANT, Some(ACQUIRE)),
+        Some((0x1040, Perm::Trunk))
+    );
     assert_eq!(rt; claim(6, Op::Grant, &denied, Some(ACQUIRE)), None);
     assert_eq!(rt; claim(6, Op::Grant, &GRANT, None), None);
 }

@@ -3,7 +3,7 @@ use Rattle.std.proofs.Common.{◌≡◌, ℕ, ◌+◌, ◌-◌, ◌≤◌, List,
 use Rattle.std.specs.Prelude.{OnOk, OnErr, IsErr}
 use Rattle.std.proofs.lemmas.List.{take_all, take-append-le}
 use Rattle.std.proofs.Math.Seq.{take-add, take-append-add}
-use Rattle.std.specs.Io.KnownBytes.{Appends, Keeps}
+use Rattle.std.specs.Io.KnownBytes.{Appends}
 use Rattle.tl_text.specs.Written.{Writes}
 
 pub then : (old mid new : Option (List ℕ)) (a b c : List ℕ) → Appends old mid a → Appends mid new b → a ++ b ≡ c → Appends old new c

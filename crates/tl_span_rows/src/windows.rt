@@ -1,7 +1,7 @@
 //! Windows of a manager: the beats of its links in the order of positions, checked from what the beats before them leave.
 
-ghost use Rattle.std.specs.Prelude.{◌≡◌, ◌<◌, [], length, IfOk, IsTrue};
-ghost use Rattle.std.specs.List.{All, AllByRecursion};
+ghost use Rattle.std.specs.Prelude.{◌≡◌, ◌<◌, [], length, IfOk, IfSome, IsTrue};
+ghost use Rattle.std.specs.List.{All};
 ghost use Rattle.std.specs.List.Sorted.{IsStrictlySortedBy};
 ghost use Rattle.tl_beats.specs.Beats.{IsWellFormed};
 ghost use Rattle.tl_definitions.specs.Managers.{manager_at};
@@ -66,25 +66,17 @@ fn order(here: &Placed, there: &Placed) -> Ordering
     cycle.then(channel.then(here.link.cmp(&there.link)))
 }
 
-/// Whether all beats lie before another.
-fn all_before(beats: &[Placed], at: &Placed) -> bool
-    ensures { IsTrue result → AllByRecursion (λ earlier. IsBefore earlier at.now) beats.now }
-{
-    for earlier in beats {
-        if order(earlier, at) != Ordering::Less {
-            return false;
-        }
-    }
-    true
-}
-
-/// Whether a beat can stand behind these in a window: well-formed, on a link of the topology, after all of them.
-fn fits(topo: &Topo, window: &[Placed], at: &Placed) -> bool
+/// Whether a beat can stand in a window behind its last: well-formed, on a link of the topology, after that one.
+fn fits(topo: &Topo, last: Option<Placed>, at: &Placed) -> bool
     ensures formed { IsTrue result → IsWellFormed at.now.beat }
     ensures within { IsTrue result → at.now.link < length topo.now.links }
-    ensures rises { IsTrue result → AllByRecursion (λ earlier. IsBefore earlier at.now) window.now }
+    ensures rises { IsTrue result → IfSome last (λ earlier. IsBefore earlier at.now) }
 {
-    at.beat.is_well_formed() && topo.link(at.link).is_some() && all_before(window, at)
+    let is_after = match last {
+        Some(earlier) => order(&earlier, at) == Ordering::Less,
+        None => true,
+    };
+    is_after && at.beat.is_well_formed() && topo.link(at.link).is_some()
 }
 
 /// The beats, where they can be those of a window.
@@ -94,11 +86,13 @@ fn window(alloc: Global, topo: &Topo, beats: &[Placed]) -> Result<Vec<Placed>, F
     ensures rises { IfOk result (λ window. IsStrictlySortedBy position_order window.items) }
 {
     let mut window = Vec::new(alloc);
+    let mut last = None;
     for at in beats {
-        if !fits(topo, &window, at) {
+        if !fits(topo, last, at) {
             return Err(Fail::new("no beats of a window"));
         }
         window.push(*at)?;
+        last = Some(*at);
     }
     Ok(window)
 }

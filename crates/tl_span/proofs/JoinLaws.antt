@@ -13,7 +13,7 @@ use Rattle.tl_definitions.proofs.Lists.{contains_mapped, mapped_from, contains_n
 use Rattle.tl_span.specs.declared.state.SpanState.{SpanState}
 use Rattle.tl_span.specs.States.{shown}
 use Rattle.tl_span.specs.Jobs.{Checked, pass_of}
-use Rattle.tl_span.specs.Laws.{SameStatesShowTheSame, SameStatesAreOfOneManager, SameStatesStandForTheSame, AreJoined, all_beats, last_exit, JoinedResultsAreWhole, CleanResultsAreCoherent}
+use Rattle.tl_span.specs.Laws.{SameStatesShowTheSame, SameStatesAreOfOneManager, StatesKnowNoRegions, SameStatesStandForTheSame, AreJoined, all_beats, last_exit, JoinedResultsAreWhole, CleanResultsAreCoherent}
 use Rattle.tl_span.proofs.StateLaws.{same_shown, same_is_of, shown_same}
 
 pub same_states_show_the_same : SameStatesShowTheSame
@@ -21,6 +21,9 @@ same_states_show_the_same m count one two first second = (same_shown one two, sh
 
 pub same_states_are_of_one_manager : SameStatesAreOfOneManager
 same_states_are_of_one_manager = same_is_of
+
+pub states_know_no_regions : StatesKnowNoRegions
+states_know_no_regions m areas count state of = record { clients = of.clients; links = of.links; states = of.states; formed = of.formed }
 
 pub same_states_stand_for_the_same : SameStatesStandForTheSame
 same_states_stand_for_the_same m count one two before stands same = record {

@@ -1,6 +1,7 @@
 -- What follows for states and for results of windows.
 use Rattle.std.specs.Prelude.{◌≡◌, ◌↔◌, ℕ, List, [], ◌∷◌, ◌++◌, filter, reverse}
 use Rattle.std.specs.List.{Contains}
+use Rattle.tl_topology.specs.Regions.{Area}
 use Rattle.tl_beats.specs.declared.Placed.{Placed}
 use Rattle.tl_beats.specs.declared.Row.{Row}
 use Rattle.tl_definitions.specs.Rules.{Manager}
@@ -18,6 +19,11 @@ SameStatesShowTheSame = (m : Manager) (count : ℕ) (one two : SpanState) → Is
 -- A state that is the same as one of a manager is one of that manager.
 abbrev pub SameStatesAreOfOneManager : Type 0
 SameStatesAreOfOneManager = (m : Manager) (count : ℕ) (one two : SpanState) → IsOf m count one → SameSpan one two → IsOf m count two
+
+-- A state says nothing of regions: one of a manager is one of the same manager with others.
+abbrev pub StatesKnowNoRegions : Type 0
+StatesKnowNoRegions = (m : Manager) (areas : List Area) (count : ℕ) (state : SpanState) → IsOf m count state
+    → IsOf (record { links = m.links; clients = m.clients; exponent = m.exponent; regions = areas }) count state
 
 -- A state that is the same as one that stands for beats stands for them.
 abbrev pub SameStatesStandForTheSame : Type 0

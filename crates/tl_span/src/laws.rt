@@ -1,6 +1,6 @@
 //! What follows for states and for results of windows.
 
-ghost use Rattle.tl_span.specs.Laws.{SameStatesShowTheSame, SameStatesAreOfOneManager, SameStatesStandForTheSame, JoinedResultsAreWhole, CleanResultsAreCoherent};
+ghost use Rattle.tl_span.specs.Laws.{SameStatesShowTheSame, SameStatesAreOfOneManager, StatesKnowNoRegions, SameStatesStandForTheSame, JoinedResultsAreWhole, CleanResultsAreCoherent};
 
 /// Two states of one manager are the same exactly where they show the same.
 pub fn same_states_show_the_same()
@@ -10,6 +10,11 @@ pub fn same_states_show_the_same()
 /// A state that is the same as one of a manager is one of that manager.
 pub fn same_states_are_of_one_manager()
     ensures { SameStatesAreOfOneManager }
+{}
+
+/// A state of a manager is one of the same manager with other regions.
+pub fn states_know_no_regions()
+    ensures { StatesKnowNoRegions }
 {}
 
 /// A state that is the same as one that stands for beats stands for them.

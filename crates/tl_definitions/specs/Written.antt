@@ -90,6 +90,13 @@ each_kind =
     fragment 0 1 (a 10 4 0 3 0 0x1000 0xff ∷ a 11 0 0 3 1 0x1000 0xff ∷ a 12 1 0 3 2 0x1000 0xff ∷ a 13 2 0 3 3 0x1000 0xff ∷ [])
     ++ fragment 1 1 (a 10 3 0 3 0 0x1000 0xff ∷ a 11 5 0 3 1 0x1000 0xff ∷ a 12 6 0 6 2 0x1000 0xff ∷ a 13 7 0 6 3 0x1040 0xff ∷ [])
 
+-- The same, and a reply of channel D to each in that order, with these opcodes, all other fields fitting.
+abbrev pub answered : ℕ → ℕ → ℕ → ℕ → ℕ → ℕ → ℕ → ℕ → List Placed
+answered get full partial arithmetic logical intent block perm =
+    each_kind
+    ++ fragment 0 2 (d 20 get 0 3 0 0 false ∷ d 21 full 0 3 1 1 false ∷ d 22 partial 0 3 2 2 false ∷ d 23 arithmetic 0 3 3 3 false ∷ [])
+    ++ fragment 1 2 (d 20 logical 0 3 0 0 false ∷ d 21 intent 0 3 1 1 false ∷ d 22 block 0 6 2 2 false ∷ d 23 perm 0 6 3 3 false ∷ [])
+
 -- A line of a report: link, fragment, line of the fragment's text, rule.
 pub record Line : Type 0 where
   pub link : ℕ
@@ -113,6 +120,10 @@ found beats = found_with [] beats
 -- The eight beats of a GrantData of a block of 64 bytes: from a cycle on, its cap, its sink.
 abbrev pub grant : ℕ → ℕ → ℕ → List Beat
 grant cycle cap sink = burst 8 cycle (λ at. d at 5 cap 6 0 sink false)
+
+-- An Acquire to B of the block 1000, its Grant of one beat, and its GrantAck.
+abbrev pub shared : List Beat
+shared = a 10 7 0 6 0 0x1000 0xff ∷ d 20 4 1 6 0 1 false ∷ e 30 1 ∷ []
 
 -- An Acquire to T of the block 1000, its Grant of eight beats, and its GrantAck.
 abbrev pub owned : List Beat

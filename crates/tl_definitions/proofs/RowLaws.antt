@@ -1,15 +1,19 @@
 -- The captures are judged by computing.
 use Rattle.std.proofs.Common.{refl}
 use Rattle.tl_tables.specs.Messages.{op_at}
-use Rattle.tl_definitions.specs.Rows.{FormatRows, RegionRows, BurstRows, FlowRows, ReplyRows, BoundRows, ConcurrencyRows, ManagerRows}
+use Rattle.tl_definitions.specs.Rows.{FormatRows, LevelRows, RegionRows, BurstRows, FlowRows, ReplyRows, BoundRows, ConcurrencyRows, ManagerRows}
 
 pub format_rows : FormatRows
 unfolding op_at
 format_rows = (refl, refl, refl, refl, refl, refl, refl, refl, refl, refl, refl, refl, refl, refl, refl, refl, refl, refl, refl, refl, refl, refl, refl, refl)
 
+pub level_rows : LevelRows
+unfolding op_at
+level_rows = (refl, refl, refl, refl, refl)
+
 pub region_rows : RegionRows
 unfolding op_at
-region_rows = (refl, refl, refl, refl, refl, refl, refl, refl, refl, refl, refl, refl)
+region_rows = (refl, refl, refl, refl, refl, refl, refl, refl, refl, refl, refl, refl, refl, refl)
 
 pub burst_rows : BurstRows
 unfolding op_at
@@ -29,8 +33,8 @@ bound_rows = (refl, refl, refl, refl, refl, refl, refl, refl, refl, refl, refl, 
 
 pub concurrency_rows : ConcurrencyRows
 unfolding op_at
-concurrency_rows = (refl, refl, refl, refl, refl, refl, refl, refl, refl, refl, refl, refl, refl, refl)
+concurrency_rows = (refl, refl, refl, refl, refl, refl, refl, refl, refl, refl, refl, refl, refl, refl, refl)
 
 pub manager_rows : ManagerRows
 unfolding op_at
-manager_rows = (refl, refl, refl, refl, refl, refl, refl, refl, refl, refl, refl, refl, refl)
+manager_rows = (refl, refl, refl, refl, refl, refl, refl, refl, refl, refl, refl, refl, refl, refl, refl)

@@ -61,13 +61,31 @@ FormatRows =
     burst 8 22 (λ cycle. c cycle 5 6 6 0 0x1080) ++ burst 8 30 (λ cycle. c cycle 7 6 6 1 0x10c0)))
     ≡ row 0 1 2 rule.F2 ∷ row 0 1 3 rule.F2 ∷ row 0 1 3 rule.P3 ∷ row 0 1 4 rule.F2 ∷ row 0 1 5 rule.F2 ∷ row 0 1 5 rule.P3 ∷ row 0 1 13 rule.F2 ∷ [])
     -- Sizes over the limit on C, D and B.
-    × (found (fragment 0 1 (c 10 6 5 7 0 0x1000 ∷ d 20 1 0 7 0 0 false ∷ b 30 4 0 7 0 0x1000 0xff ∷ []))
+    × (found (fragment 0 1 (c 10 6 5 8 0 0x1000 ∷ d 20 1 0 8 0 0 false ∷ b 30 4 0 8 0 0x1000 0xff ∷ []))
     ≡ row 0 1 2 rule.F4 ∷ row 0 1 2 rule.F8 ∷ row 0 1 3 rule.F4 ∷ row 0 1 3 rule.S2 ∷ row 0 1 4 rule.F4 ∷ [])
     -- Corrupt messages without data on C and D.
     × (found (fragment 0 1 (corrupt (c 10 6 5 6 0 0x1000) ∷ corrupt (d 20 6 0 6 0 0 false) ∷ [])) ≡ row 0 1 2 rule.F6 ∷ row 0 1 3 rule.F6 ∷ [])
     -- Sources past the last on C, D and B.
     × (found (fragment 0 1 (c 10 6 5 6 4 0x1000 ∷ d 20 6 0 6 4 0 false ∷ b 30 6 2 6 4 0x2000 0xff ∷ []))
     ≡ row 0 1 2 rule.F9 ∷ row 0 1 3 rule.F9 ∷ row 0 1 4 rule.F9 ∷ [])
+
+-- What links of each level and width speak.
+abbrev pub LevelRows : Type 0
+LevelRows =
+    -- On TL-UH atomics and Intent are spoken, and on a link of 4 bytes 8 bytes have two beats.
+    (found (fragment 3 1 (a 10 2 0 3 0 0x1000 0x0f ∷ a 11 2 0 3 0 0x1000 0x0f ∷ d 20 1 0 3 0 0 false ∷ d 21 1 0 3 0 0 false ∷ a 30 5 0 3 1 0x1000 0x0f ∷
+    d 40 2 0 3 1 0 false ∷ [])) ≡ [])
+    -- Acquire, Probe, Release, Grant and GrantAck aren't spoken there.
+    × (found (fragment 3 1 (a 10 6 0 6 0 0x1000 0x0f ∷ b 11 6 2 6 0 0x1000 0x0f ∷ c 12 6 5 6 0 0x1000 ∷ d 13 4 0 6 0 0 false ∷ e 14 0 ∷ []))
+    ≡ row 3 1 2 rule.F1 ∷ row 3 1 3 rule.F1 ∷ row 3 1 4 rule.F1 ∷ row 3 1 5 rule.F1 ∷ row 3 1 6 rule.F1 ∷ [])
+    -- Lanes of a link of 4 bytes.
+    × (found (fragment 3 1 (a 10 0 0 1 0 0x1006 0x0c ∷ a 20 0 0 0 1 0x1005 0x02 ∷ [])) ≡ [])
+    -- Atomics and Intent aren't spoken on TL-UL.
+    × (found (fragment 2 1 (a 10 2 0 3 0 0x1000 0xff ∷ a 11 3 0 3 0 0x1000 0xff ∷ a 12 5 0 3 0 0x1000 0xff ∷ []))
+    ≡ row 2 1 2 rule.F1 ∷ row 2 1 3 rule.F1 ∷ row 2 1 4 rule.F1 ∷ [])
+    -- Opcodes without a message on C and D.
+    × (found (fragment 0 1 (c 10 3 0 3 0 0x1000 ∷ d 20 3 0 3 0 0 false ∷ d 21 7 0 3 0 0 false ∷ []))
+    ≡ row 0 1 2 rule.F1 ∷ row 0 1 3 rule.F1 ∷ row 0 1 4 rule.F1 ∷ [])
 
 -- What the regions of the manager permit.
 abbrev pub RegionRows : Type 0
@@ -79,6 +97,11 @@ RegionRows =
     -- The last bytes of a region, and the next.
     × (found_with (gets ∷ []) (fragment 2 1 (a 10 4 0 3 0 0x1ff8 0xff ∷ d 20 1 0 3 0 0 false ∷ a 30 4 0 3 0 0x2000 0xff ∷ d 40 1 0 3 0 0 false ∷ []))
     ≡ row 2 1 4 rule.F10 ∷ [])
+    -- Two regions hold the bytes together, and neither by itself; and what each holds.
+    × (found_with (record gets { last = 0x1ffb } ∷ record gets { first = 0x1ffc } ∷ []) (fragment 2 1 (a 10 4 0 3 0 0x1ff8 0xff ∷ d 20 1 0 3 0 0 false ∷
+    a 30 4 0 2 0 0x1ff8 0x0f ∷ d 40 1 0 2 0 0 false ∷ a 50 4 0 2 0 0x1ffc 0xf0 ∷ [])) ≡ row 2 1 2 rule.F10 ∷ [])
+    -- The bytes of an address off its size begin at the address rounded down.
+    × (found_with (gets ∷ []) (fragment 2 1 (a 10 4 0 3 0 0x1ffc 0xff ∷ [])) ≡ row 2 1 2 rule.F3 ∷ [])
     -- A region that holds the bytes permits another kind.
     × (found_with (gets ∷ []) (fragment 2 1 (a 10 0 0 3 0 0x1000 0xff ∷ d 20 0 0 3 0 0 false ∷ [])) ≡ row 2 1 2 rule.F10 ∷ [])
     -- The first bytes of a region, and those before.
@@ -158,7 +181,7 @@ FlowRows =
     × (found (fragment 0 1 (c 10 6 5 6 0 0x1000 ∷ c 20 6 5 6 0 0x1040 ∷ d 30 6 0 5 0 0 false ∷ d 40 6 0 6 0 0 false ∷ []))
     ≡ row 0 1 3 rule.S6 ∷ row 0 1 4 rule.F8 ∷ row 0 1 4 rule.S7 ∷ row 0 1 5 rule.S5 ∷ [])
     -- Two Grants on one sink.
-    × (found (fragment 0 1 (a 10 7 0 6 0 0x1000 0xff ∷ a 11 7 0 6 1 0x1040 0xff ∷ d 20 4 1 6 0 1 false ∷ d 30 4 1 6 1 1 false ∷ e 40 1 ∷ e 50 1 ∷ []))
+    × (found (fragment 0 1 (a 10 7 0 6 0 0x1000 0xff ∷ a 11 7 0 6 1 0x1040 0xff ∷ d 20 4 1 6 0 3 false ∷ d 30 4 1 6 1 3 false ∷ e 40 3 ∷ e 50 3 ∷ []))
     ≡ row 0 1 5 rule.S8 ∷ row 0 1 7 rule.S9 ∷ [])
     -- A Grant in two fragments of one link, beside another link.
     × (found (fragment 0 1 (a 4000 6 0 6 0 0x1000 0xff ∷ []) ++ fragment 0 2 (grant 4092 1 3 ++ e 4100 3 ∷ [])
@@ -231,6 +254,8 @@ ConcurrencyRows =
     × (found (fragment 0 1 (c 10 4 5 6 0 0x1000 ∷ [])) ≡ row 0 1 2 rule.P3 ∷ [])
     -- An answer that keeps more than the Probe allows.
     × (found (fragment 0 1 (owned ++ b 40 6 2 6 0 0x1000 0xff ∷ c 50 4 4 6 0 0x1000 ∷ [])) ≡ row 0 1 13 rule.P4 ∷ [])
+    -- A Release that keeps more than an open Probe allows, and an Acquire of more: neither answers it.
+    × (found (fragment 0 1 (owned ++ b 40 6 2 6 0 0x1000 0xff ∷ c 42 6 0 6 1 0x1000 ∷ d 50 6 0 6 1 0 false ∷ a 60 6 1 6 0 0x1000 0xff ∷ [])) ≡ [])
     -- Two Probes of one block.
     × (found (fragment 0 1 (owned ++ b 40 6 2 6 0 0x1000 0xff ∷ b 41 6 2 6 0 0x1000 0xff ∷ c 50 4 1 6 0 0x1000 ∷ [])) ≡ row 0 1 13 rule.P5 ∷ [])
     -- Two Acquires of one block.
@@ -267,6 +292,9 @@ ManagerRows =
     -- In one cycle, where the lower link's Grant is the first.
     × (found (fragment 0 1 (a 10 6 1 6 0 0x1000 0xff ∷ d 20 4 0 6 0 1 false ∷ []) ++ fragment 1 1 (a 10 6 1 6 0 0x1000 0xff ∷ d 20 4 0 6 0 1 false ∷ []))
     ≡ row 1 1 3 rule.M1 ∷ [])
+    -- In the cycle of the other client's ProbeAck, which comes before it.
+    × (found (fragment 0 1 (a 100 6 1 6 0 0x1000 0xff ∷ d 120 4 0 6 0 1 false ∷ [])
+    ++ fragment 1 1 (owned ++ b 110 6 2 6 0 0x1000 0xff ∷ c 120 4 1 6 0 0x1000 ∷ [])) ≡ [])
     -- With a Probe of the first between.
     × (found (fragment 0 1 owned ++ fragment 1 1 (a 100 6 1 6 0 0x1000 0xff ∷ grant 200 0 2 ++ e 210 2 ∷ [])
     ++ fragment 0 2 (b 110 6 2 6 0 0x1000 0xff ∷ c 120 4 1 6 0 0x1000 ∷ [])) ≡ [])
@@ -274,6 +302,8 @@ ManagerRows =
     × (found (fragment 1 1 shared
     ++ fragment 0 1 (a 100 7 0 6 0 0x1000 0xff ∷ d 110 4 1 6 0 1 false ∷ e 120 1 ∷ a 130 7 2 6 0 0x1000 0xff ∷ d 140 4 0 6 0 1 false ∷ e 150 1 ∷ []))
     ≡ row 0 1 6 rule.M1 ∷ [])
+    -- An Acquire that claims to share beside a writer is no Grant.
+    × (found (fragment 1 1 owned ++ fragment 0 1 (a 100 7 2 6 0 0x1000 0xff ∷ [])) ≡ row 0 1 2 rule.P1 ∷ [])
     -- A Grant toN beside a writer.
     × (found (fragment 1 1 owned ++ fragment 0 1 (a 100 7 1 6 0 0x1000 0xff ∷ d 110 4 2 6 0 1 false ∷ e 120 1 ∷ [])) ≡ [])
     -- A Grant of a block that is being probed.
@@ -289,5 +319,6 @@ ManagerRows =
     ++ fragment 1 1 (b 15 6 2 6 0 0x1000 0xff ∷ c 22 4 5 6 0 0x1000 ∷ b 25 6 2 6 0 0x1000 0xff ∷ [])) ≡ row 0 1 3 rule.M2 ∷ row 1 1 4 rule.M3 ∷ [])
     -- A Probe and a Grant of different blocks.
     × (found (fragment 0 1 (a 10 7 1 6 0 0x1000 0xff ∷ b 15 6 2 6 0 0x1040 0xff ∷ d 20 4 0 6 0 1 false ∷ b 25 6 2 6 0 0x1080 0xff ∷ [])) ≡ [])
-    -- A Grant that answers a Get has no block.
-    × (found (fragment 1 1 owned ++ fragment 0 1 (a 100 4 0 6 0 0x1000 0xff ∷ d 110 4 0 6 0 1 false ∷ [])) ≡ row 0 1 3 rule.S3 ∷ [])
+    -- A Grant that answers a Get has no block, so a Probe doesn't meet it.
+    × (found (fragment 1 1 owned ++ fragment 0 1 (a 100 4 0 6 0 0x1000 0xff ∷ d 110 4 0 6 0 1 false ∷ b 120 6 2 6 0 0x1000 0xff ∷ []))
+    ≡ row 0 1 3 rule.S3 ∷ [])

@@ -60,15 +60,19 @@ burst (suc n) cycle beat = beat cycle ∷ burst n (cycle + 1) beat
 abbrev pub fragment : ℕ → ℕ → List Beat → List Placed
 fragment link number beats = placed_beats (record { link = link; number = number; first = 0; last = 99999; beats = beats })
 
--- One manager of 64-byte blocks without regions, with two links of level TL-C, numbers 0 and 1, and one of TL-UL, number 2.
+-- One manager of 64-byte blocks without regions, with two links of level TL-C, numbers 0 and 1, one of TL-UL, number 2, and
+-- a narrow one of TL-UH, number 3.
 abbrev pub cached : LinkDecl
-cached = record { name = []; manager = 0; level = level.C; width = 8; max_size = 6; sources = 4 }
+cached = record { name = []; manager = 0; level = level.C; width = 8; max_size = 7; sources = 4 }
 
 abbrev pub uncached : LinkDecl
 uncached = record { name = []; manager = 0; level = level.Ul; width = 8; max_size = 3; sources = 2 }
 
+abbrev pub narrow : LinkDecl
+narrow = record { name = []; manager = 0; level = level.Uh; width = 4; max_size = 6; sources = 2 }
+
 abbrev pub decls : List LinkDecl
-decls = cached ∷ cached ∷ uncached ∷ []
+decls = cached ∷ cached ∷ uncached ∷ narrow ∷ []
 
 abbrev pub with_regions : List Area → Manager
 with_regions regions = record { links = links_of decls; clients = clients_of 0 decls; exponent = 6; regions = regions }

@@ -272,8 +272,8 @@ ConcurrencyRows =
     × (found (fragment 0 1 (owned ++ b 40 6 3 6 0 0x1000 0xff ∷ c 50 4 3 6 0 0x1000 ∷ [])) ≡ row 0 1 12 rule.F2 ∷ [])
     -- A Get of the block is no Acquire of it.
     × (found (fragment 0 1 (a 10 4 0 6 0 0x1000 0xff ∷ a 11 6 1 6 1 0x1000 0xff ∷ c 12 6 5 6 0 0x1040 ∷ [])) ≡ [])
-    -- Two ProbePerms of one block.
-    × (found (fragment 0 1 (b 10 7 2 6 0 0x1000 0xff ∷ b 11 7 2 6 0 0x1000 0xff ∷ [])) ≡ row 0 1 3 rule.P5 ∷ [])
+    -- Two ProbePerms of one block, and one of another.
+    × (found (fragment 0 1 (b 10 7 2 6 0 0x1000 0xff ∷ b 11 7 2 6 0 0x1000 0xff ∷ b 12 7 2 6 0 0x1040 0xff ∷ [])) ≡ row 0 1 3 rule.P5 ∷ [])
     -- A ProbeAckData answers its Probe and leaves what it says.
     × (found (fragment 0 1 (owned ++ b 40 6 1 6 0 0x1000 0xff ∷ burst 8 50 (λ cycle. c cycle 5 0 6 0 0x1000) ++ b 70 6 2 6 0 0x1000 0xff ∷ c 80 4 1 6 0 0x1000 ∷ []))
     ≡ row 0 1 22 rule.P2 ∷ [])

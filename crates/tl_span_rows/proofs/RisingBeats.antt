@@ -22,4 +22,4 @@ strict_none R = tt
 -- What lies behind the last of beats in order lies behind them all.
 pub before_last : (beats : List Placed) (last p : Placed) → AllByRecursion (λ q. IsBefore q last) beats → IsBefore last p → AllByRecursion (λ q. IsBefore q p) (beats ++ last ∷ [])
 before_last [] last p below next = (next, tt)
-before_last (q ∷ beats) last p below next = (positions_are_ordered.trans q last p below.0 next, before_last beats last p below.1 next)
+before_last (q ∷ beats) last p below next = (positions_are_ordered.total.trans q last p below.0 next, before_last beats last p below.1 next)

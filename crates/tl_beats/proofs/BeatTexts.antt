@@ -2,7 +2,7 @@
 use Rattle.std.proofs.Common.{◌≡◌, ℕ, ◌-◌, ◌^◌, ◌<◌, ◌≤◌, Bool, true, false, cond, eqb, List, [], ◌∷◌, Option, Some, None, refl, sym, ap, subst, ◌∙◌, arith}
 use Rattle.std.proofs.lemmas.Option.{none-some, same_Some}
 use Rattle.std.proofs.lemmas.Bool.{eqb-true}
-use Rattle.tl_text.specs.Words.{◌>>=◌}
+use Rattle.tl_text.specs.Words.{◌>>=◌, ◌␣◌}
 use Rattle.tl_text.specs.Numbers.{numeral}
 use Rattle.tl_text.specs.Names.{bit}
 use Rattle.tl_text.proofs.Cuts.{is_free, word_again}
@@ -14,7 +14,7 @@ use Rattle.tl_beats.specs.declared.Beat.{Beat}
 use Rattle.tl_beats.specs.declared.beat_line.Message.{Message}
 use Rattle.tl_beats.specs.Beats.{IsWellFormed, LacksOther, HasMask}
 use Rattle.tl_beats.specs.Reading.{message_at, access_at, release_at, reply_at, grant_ack_at, fields_at, beat_at}
-use Rattle.tl_beats.specs.Text.{◌␣◌, chan_text, fields_text, beat_text}
+use Rattle.tl_beats.specs.Text.{chan_text, fields_text, beat_text}
 use Rattle.tl_beats.proofs.Lacking.{access_lacks}
 
 -- ---- what channels A to D begin with

@@ -9,7 +9,7 @@ use Rattle.std.proofs.lemmas.List.{append-nil, take_at}
 use Rattle.std.proofs.lemmas.Slice.Eq.{bytes_eq-Decides}
 use Rattle.std.proofs.Math.ListN.{get_or-append}
 use Rattle.std.proofs.Math.Seq.{get_or-append_seam}
-use Rattle.tl_text.specs.Words.{◌>>=◌, word_at, lines_of}
+use Rattle.tl_text.specs.Words.{◌>>=◌, word_at, lines_of, ◌␣◌, ended}
 use Rattle.tl_text.specs.Numbers.{numeral}
 use Rattle.tl_text.specs.Names.{is_name}
 use Rattle.tl_text.specs.Readings.{◌>>>◌, or_fault, Gives}
@@ -25,7 +25,7 @@ use Rattle.tl_beats.specs.Beats.{IsWellFormed, rises}
 use Rattle.tl_beats.specs.Faults.{is_memory, is_outside}
 use Rattle.tl_beats.specs.Fragments.{Frag, AreBeats, IsFragment}
 use Rattle.tl_beats.specs.Reading.{beat_at, range_at, header_at, rises_behind, placed_at, next_at, beats_from, fragment_behind, fragment_in, whole_fragment_in, is_end}
-use Rattle.tl_beats.specs.Text.{◌␣◌, ended, beat_text, header_text, fragment_lines, fragment_text}
+use Rattle.tl_beats.specs.Text.{beat_text, header_text, fragment_lines, fragment_text}
 use Rattle.tl_beats.proofs.Growing.{IsNext, passed}
 use Rattle.tl_beats.proofs.BeatTexts.{beat_takes, beat_again, beat_line}
 

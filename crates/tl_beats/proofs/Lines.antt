@@ -4,6 +4,7 @@ use Rattle.std.specs.Prelude.{codes}
 use Rattle.std.specs.Str.{bytes_eq}
 use Rattle.std.proofs.lemmas.Option.{none-some, same_Some}
 use Rattle.tl_text.specs.Words.{first_line}
+use Rattle.tl_text.proofs.Cuts.{Line, first_is}
 use Rattle.tl_text.specs.Readings.{Fails}
 use Rattle.tl_beats.specs.declared.Beat.{Beat}
 use Rattle.tl_beats.specs.declared.fault.FragmentFault.{FragmentFault}
@@ -17,19 +18,12 @@ no_line first last n before [] e = refl
 no_line first last n before (line ∷ []) e = refl
 no_line first last n before (line ∷ next ∷ lines) e = absurd (none-some _ (sym e))
 
--- a line and those behind it
-abbrev Line : Type 0
-Line = List ℕ × List (List ℕ)
-
-ended : (lines : List (List ℕ)) (line : List ℕ) (after : List (List ℕ)) (x next : List ℕ) → first_line (x ∷ next ∷ lines) ≡ Some (line, after) → ◌≡◌ {A = Line} (x, next ∷ lines) (line, after)
-ended lines line after x next e = same_Some _ _ e
-
 pub ends : (first last n : ℕ) (before : List Beat) (lines : List (List ℕ)) (line : List ℕ) (after : List (List ℕ)) → first_line lines ≡ Some (line, after) → bytes_eq line (codes "end") ≡ true → beats_from first last n before lines ≡ Ok (before, after)
 unfolding beats_from
 ends first last n before [] line after e is = absurd (none-some _ e)
 ends first last n before (x ∷ []) line after e is = absurd (none-some _ e)
 ends first last n before (x ∷ next ∷ lines) line after e is =
-    let p = ended lines line after x next e in
+    let p = first_is lines line after x next e in
     let here : bytes_eq x (codes "end") ≡ true = ap (λ (q : Line). bytes_eq q.0 (codes "end")) p ∙ is in
     let one : beats_from first last n before (x ∷ next ∷ lines) ≡ Ok (before, next ∷ lines) = rw here refl in
     one ∙ ap (λ (q : Line). Ok (before, q.1)) p
@@ -40,7 +34,7 @@ unfolding beats_from
 goes_on first last n before [] line after beat e is read = absurd (none-some _ e)
 goes_on first last n before (x ∷ []) line after beat e is read = absurd (none-some _ e)
 goes_on first last n before (x ∷ next ∷ lines) line after beat e is read =
-    let p = ended lines line after x next e in
+    let p = first_is lines line after x next e in
     let here : bytes_eq x (codes "end") ≡ false = ap (λ (q : Line). bytes_eq q.0 (codes "end")) p ∙ is in
     let good : next_at first last n before x ≡ Ok beat = ap (λ (q : Line). next_at first last n before q.0) p ∙ read in
     let one : beats_from first last n before (x ∷ next ∷ lines) ≡ beats_from first last (n + 1) (before ++ beat ∷ []) (next ∷ lines) = rw (here, good) refl in
@@ -52,7 +46,7 @@ unfolding beats_from
 fails first last n before [] line after found e is read here = absurd (none-some _ e)
 fails first last n before (x ∷ []) line after found e is read here = absurd (none-some _ e)
 fails first last n before (x ∷ next ∷ lines) line after found e is read here =
-    let p = ended lines line after x next e in
+    let p = first_is lines line after x next e in
     let other : bytes_eq x (codes "end") ≡ false = ap (λ (q : Line). bytes_eq q.0 (codes "end")) p ∙ is in
     let bad : next_at first last n before x ≡ Err found = ap (λ (q : Line). next_at first last n before q.0) p ∙ read here in
     rw (other, bad) refl

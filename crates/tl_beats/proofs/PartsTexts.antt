@@ -4,7 +4,7 @@ use Rattle.std.specs.Prelude.{codes, slice_get}
 use Rattle.std.specs.List.{All, flat_map}
 use Rattle.std.proofs.lemmas.Bool.{and_from}
 use Rattle.std.proofs.lemmas.Option.{none-some, same_Some, get_or_from_slice_get, slice_get_within}
-use Rattle.tl_text.specs.Words.{lines_of}
+use Rattle.tl_text.specs.Words.{lines_of, ended}
 use Rattle.tl_text.specs.Names.{is_name}
 use Rattle.tl_text.specs.Readings.{◌>>>◌}
 use Rattle.tl_text.proofs.Spelling.{all_free, lines_again}
@@ -15,7 +15,7 @@ use Rattle.tl_beats.specs.Beats.{IsWellFormed}
 use Rattle.tl_beats.specs.Fragments.{Frag, AreBeats, IsFragment}
 use Rattle.tl_beats.specs.Parts.{IsFirstFault, IsAnswerTo}
 use Rattle.tl_beats.specs.Reading.{placed_at, next_at, beats_from, header_at, fragment_behind, fragment_in, whole_fragment_in}
-use Rattle.tl_beats.specs.Text.{ended, beat_text, header_text, fragment_lines, fragment_text}
+use Rattle.tl_beats.specs.Text.{beat_text, header_text, fragment_lines, fragment_text}
 use Rattle.tl_beats.proofs.BeatTexts.{beat_again, beat_line}
 use Rattle.tl_beats.proofs.FragmentTexts.{at_seam, end_is_no_beat, placed_again, header_line, header_again, header_none, whole_again}
 

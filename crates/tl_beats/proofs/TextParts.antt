@@ -6,9 +6,10 @@ use Rattle.std.proofs.lemmas.List.Concat.{flat_map-cons, flat_map-append}
 use Rattle.tl_text.specs.Spelled.{line_text}
 use Rattle.tl_text.specs.declared.writing.Word.TheVariants.{Decimal}
 use Rattle.tl_text.specs.Numbers.{numeral}
+use Rattle.tl_text.specs.Words.{◌␣◌, ended}
 use Rattle.tl_beats.specs.declared.Beat.{Beat}
 use Rattle.tl_beats.specs.Fragments.{Frag}
-use Rattle.tl_beats.specs.Text.{◌␣◌, ended, beat_text, header_text, fragment_text}
+use Rattle.tl_beats.specs.Text.{beat_text, header_text, fragment_text}
 
 pub header_parts : (f : Frag) → ended (header_text f) ≡ codes "fragment " ++ (f.link ++ (codes " " ++ line_text (Decimal f.number ∷ Decimal f.first ∷ Decimal f.last ∷ [])))
 unfolding header_text

@@ -3,19 +3,11 @@ use Rattle.std.specs.Prelude.{ℕ, List, [], ◌∷◌, ◌++◌, map, codes}
 use Rattle.std.specs.List.{flat_map}
 use Rattle.tl_text.specs.Numbers.{numeral}
 use Rattle.tl_text.specs.Names.{bit}
+use Rattle.tl_text.specs.Words.{◌␣◌, ended}
 use Rattle.tl_tables.specs.declared.Chan.{Chan}
 use Rattle.tl_tables.specs.declared.Chan.TheVariants as chan
 use Rattle.tl_beats.specs.declared.Beat.{Beat}
 use Rattle.tl_beats.specs.Fragments.{Frag}
-
--- a word, a space, and what follows
-infixr 20 ◌␣◌
-abbrev pub ◌␣◌ : List ℕ → List ℕ → List ℕ
-word ␣ rest = word ++ 32 ∷ rest
-
--- a line with its newline
-abbrev pub ended : List ℕ → List ℕ
-ended line = line ++ 10 ∷ []
 
 abbrev pub chan_text : Chan → List ℕ
 chan_text chan.A = codes "A"

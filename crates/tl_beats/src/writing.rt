@@ -6,7 +6,8 @@ ghost use Rattle.std.specs.Result.{IsErrOf};
 ghost use Rattle.std.specs.Io.KnownBytes.{Appends};
 ghost use Rattle.tl_text.specs.Written.{Writes};
 ghost use Rattle.tl_text.specs.Numbers.{numeral};
-ghost use Rattle.tl_beats.specs.Text.{◌␣◌, ended, fields_text, beat_text, header_text, fragment_text};
+ghost use Rattle.tl_text.specs.Words.{◌␣◌, ended};
+ghost use Rattle.tl_beats.specs.Text.{fields_text, beat_text, header_text, fragment_text};
 
 use crate::Beat;
 use crate::fault::FragmentFault;

@@ -6,6 +6,13 @@ use Rattle.std.proofs.lemmas.Bool.{eqb-true, eq-eqb, cases_lt, lt-ltb, le-ltb, a
 use Rattle.std.proofs.lemmas.Option.{none-some, same_Some}
 use Rattle.tl_text.specs.Words.{cut, before_stop, word_at, lines_of, first_line, IsBehind}
 
+-- a line and those behind it
+abbrev pub Line : Type 0
+Line = List ℕ × List (List ℕ)
+
+pub first_is : (lines : List (List ℕ)) (line : List ℕ) (after : List (List ℕ)) (x next : List ℕ) → first_line (x ∷ next ∷ lines) ≡ Some (line, after) → ◌≡◌ {A = Line} (x, next ∷ lines) (line, after)
+first_is lines line after x next e = same_Some _ _ e
+
 -- what a search for the stop says of the cut
 abbrev pub cut_by : List ℕ → Option ℕ → List ℕ × Option (List ℕ)
 cut_by bytes (Some at) = (take at bytes, Some (drop (at + 1) bytes))

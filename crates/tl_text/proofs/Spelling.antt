@@ -7,7 +7,7 @@ use Rattle.std.proofs.lemmas.Option.{none-some, same_Some}
 use Rattle.std.proofs.lemmas.List.Splits.{join_with_byte-slice_split}
 use Rattle.std.proofs.lemmas.List.Folds.{list_all-append}
 use Rattle.std.proofs.lemmas.List.Concat.{flat_map-cons}
-use Rattle.tl_text.specs.Words.{◌>>=◌, word_at, lines_of, cut}
+use Rattle.tl_text.specs.Words.{◌>>=◌, word_at, lines_of, cut, ended}
 use Rattle.tl_text.specs.Numbers.{number_at, numeral}
 use Rattle.tl_text.specs.Names.{bit, bit_at, is_lower, is_name_byte, is_name}
 use Rattle.tl_text.proofs.Cuts.{is_free, cut_again, lines_cut, lines_by, word_again, word_takes}
@@ -113,10 +113,6 @@ number_line base n two small fits = numeral_free base n 10 two small fits (omega
 abbrev pub all_free : List (List ℕ) → Bool
 all_free [] = true
 all_free (line ∷ lines) = is_free 10 line && all_free lines
-
--- a line with its newline
-abbrev pub ended : List ℕ → List ℕ
-ended line = line ++ 10 ∷ []
 
 lines_ended : (line bytes : List ℕ) → is_free 10 line ≡ true → lines_of (line ++ 10 ∷ bytes) ≡ line ∷ lines_of bytes
 lines_ended line bytes free = lines_cut (line ++ 10 ∷ bytes) ∙ ap lines_by (cut_again 10 line bytes free)

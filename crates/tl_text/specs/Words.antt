@@ -34,6 +34,15 @@ first_line [] = None
 first_line (line ∷ []) = None
 first_line (line ∷ next ∷ lines) = Some (line, next ∷ lines)
 
+-- a word, a space (32), and what follows
+infixr 20 ◌␣◌
+abbrev pub ◌␣◌ : List ℕ → List ℕ → List ℕ
+word ␣ rest = word ++ 32 ∷ rest
+
+-- a line with its newline (10)
+abbrev pub ended : List ℕ → List ℕ
+ended line = line ++ 10 ∷ []
+
 -- the second stands at the end of the first
 abbrev pub IsBehind : List ℕ → List ℕ → Type 0
 IsBehind bytes rest = (front : List ℕ) × (bytes ≡ front ++ rest)

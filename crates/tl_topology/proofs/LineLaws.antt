@@ -5,7 +5,7 @@ use Rattle.std.specs.Str.{bytes_eq}
 use Rattle.std.proofs.lemmas.Option.{none-some, same_Some}
 use Rattle.std.proofs.lemmas.Bool.{ne_eqb}
 use Rattle.std.proofs.lemmas.Slice.Eq.{bytes_eq-Decides}
-use Rattle.tl_text.specs.Words.{◌>>=◌, word_at}
+use Rattle.tl_text.specs.Words.{◌>>=◌, ◌␣◌, word_at}
 use Rattle.tl_text.specs.Numbers.{number_at, numeral}
 use Rattle.tl_text.specs.Names.{is_name}
 use Rattle.tl_text.proofs.Cuts.{is_free, word_again, word_takes}
@@ -17,7 +17,7 @@ use Rattle.tl_topology.specs.declared.reading.ManagerLine.{ManagerLine}
 use Rattle.tl_topology.specs.declared.reading.LinkLine.{LinkLine}
 use Rattle.tl_topology.specs.Naming.{name_at}
 use Rattle.tl_topology.specs.Reading.{level_at, manager_at, limits_at, link_at}
-use Rattle.tl_topology.specs.Text.{Declaration, a_manager, a_link, ◌␣◌, level_text, manager_text, link_text, declaration_text, IsManagerLine, IsLinkLine, IsSpelled}
+use Rattle.tl_topology.specs.Text.{Declaration, a_manager, a_link, level_text, manager_text, link_text, declaration_text, IsManagerLine, IsLinkLine, IsSpelled}
 
 pub same_text : (a b : List ℕ) → bytes_eq a b ≡ true → a ≡ b
 same_text a b e = (bytes_eq-Decides a b).0 e

@@ -4,6 +4,7 @@ use Rattle.std.specs.Prelude.{codes}
 use Rattle.std.specs.Str.{bytes_eq}
 use Rattle.std.proofs.lemmas.Option.{none-some, same_Some}
 use Rattle.tl_text.specs.Words.{first_line}
+use Rattle.tl_text.proofs.Cuts.{Line, first_is}
 use Rattle.tl_text.specs.Readings.{Fails}
 use Rattle.tl_topology.specs.declared.fault.TopoFault.{TopoFault}
 use Rattle.tl_topology.specs.declared.fault.TopoFault.TheVariants as fault
@@ -17,19 +18,12 @@ no_line topo n [] e = refl
 no_line topo n (line ∷ []) e = refl
 no_line topo n (line ∷ next ∷ lines) e = absurd (none-some _ (sym e))
 
--- the words for a line and those behind it
-abbrev Line : Type 0
-Line = List ℕ × List (List ℕ)
-
-ended : (lines : List (List ℕ)) (line : List ℕ) (after : List (List ℕ)) (x next : List ℕ) → first_line (x ∷ next ∷ lines) ≡ Some (line, after) → ◌≡◌ {A = Line} (x, next ∷ lines) (line, after)
-ended lines line after x next e = same_Some _ _ e
-
 pub ends : (topo : Topology) (n : ℕ) (lines : List (List ℕ)) (line : List ℕ) (after : List (List ℕ)) → first_line lines ≡ Some (line, after) → bytes_eq line (codes "end") ≡ true → topology_from topo n lines ≡ Ok (topo, after)
 unfolding topology_from
 ends topo n [] line after e is = absurd (none-some _ e)
 ends topo n (x ∷ []) line after e is = absurd (none-some _ e)
 ends topo n (x ∷ next ∷ lines) line after e is =
-    let p = ended lines line after x next e in
+    let p = first_is lines line after x next e in
     let here : bytes_eq x (codes "end") ≡ true = ap (λ (q : Line). bytes_eq q.0 (codes "end")) p ∙ is in
     let first : topology_from topo n (x ∷ next ∷ lines) ≡ Ok (topo, next ∷ lines) = rw here refl in
     first ∙ ap (λ (q : Line). Ok (topo, q.1)) p
@@ -40,7 +34,7 @@ unfolding topology_from
 goes_on topo n [] line after more e is read = absurd (none-some _ e)
 goes_on topo n (x ∷ []) line after more e is read = absurd (none-some _ e)
 goes_on topo n (x ∷ next ∷ lines) line after more e is read =
-    let p = ended lines line after x next e in
+    let p = first_is lines line after x next e in
     let here : bytes_eq x (codes "end") ≡ false = ap (λ (q : Line). bytes_eq q.0 (codes "end")) p ∙ is in
     let one : declared topo x n ≡ Ok more = ap (λ (q : Line). declared topo q.0 n) p ∙ read in
     let first : topology_from topo n (x ∷ next ∷ lines) ≡ topology_from more (n + 1) (next ∷ lines) = rw (here, one) refl in
@@ -52,7 +46,7 @@ unfolding topology_from
 fails topo n [] line after found e is read here = absurd (none-some _ e)
 fails topo n (x ∷ []) line after found e is read here = absurd (none-some _ e)
 fails topo n (x ∷ next ∷ lines) line after found e is read here =
-    let p = ended lines line after x next e in
+    let p = first_is lines line after x next e in
     let other : bytes_eq x (codes "end") ≡ false = ap (λ (q : Line). bytes_eq q.0 (codes "end")) p ∙ is in
     let one : declared topo x n ≡ Err found = ap (λ (q : Line). declared topo q.0 n) p ∙ read here in
     rw (other, one) refl
@@ -67,7 +61,7 @@ unfolding topology_in
 reads_first [] line after e is = absurd (none-some _ e)
 reads_first (x ∷ []) line after e is = absurd (none-some _ e)
 reads_first (x ∷ next ∷ lines) line after e is =
-    let p = ended lines line after x next e in
+    let p = first_is lines line after x next e in
     let here : bytes_eq x (codes "topo 1") ≡ true = ap (λ (q : Line). bytes_eq q.0 (codes "topo 1")) p ∙ is in
     let first : topology_in (x ∷ next ∷ lines) ≡ topology_from (record { managers = []; links = [] }) 2 (next ∷ lines) = rw here refl in
     sym (first ∙ ap (λ (q : Line). topology_from (record { managers = []; links = [] }) 2 q.1) p)

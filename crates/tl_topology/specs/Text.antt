@@ -3,6 +3,7 @@ use Rattle.std.specs.Prelude.{◌≡◌, ℕ, ◌≤◌, true, List, [], ◌∷�
 use Rattle.std.specs.List.{flat_map}
 use Rattle.tl_text.specs.Numbers.{numeral}
 use Rattle.tl_text.specs.Names.{is_name}
+use Rattle.tl_text.specs.Words.{◌␣◌, ended}
 use Rattle.tl_tables.specs.declared.Level.{Level}
 use Rattle.tl_tables.specs.declared.Level.TheVariants as level
 use Rattle.tl_topology.specs.declared.reading.ManagerLine.{ManagerLine}
@@ -11,11 +12,6 @@ use Rattle.tl_topology.specs.declared.reading.LinkLine.{LinkLine}
 pub data Declaration : Type 0 where
   a_manager : ManagerLine → Declaration
   a_link : LinkLine → Declaration
-
--- a word, one space, and what follows
-infixr 20 ◌␣◌
-abbrev pub ◌␣◌ : List ℕ → List ℕ → List ℕ
-word ␣ rest = word ++ 32 ∷ rest
 
 abbrev pub level_text : Level → List ℕ
 level_text level.Ul = codes "ul"
@@ -34,15 +30,11 @@ unfoldable pub declaration_text : Declaration → List ℕ
 declaration_text (a_manager manager) = codes "manager" ␣ manager_text manager
 declaration_text (a_link link) = codes "link" ␣ link_text link
 
--- the lines, each ended by a newline
-abbrev pub ended : List (List ℕ) → List ℕ
-ended lines = flat_map (λ line. line ++ 10 ∷ []) lines
-
 abbrev pub topology_lines : List Declaration → List (List ℕ)
 topology_lines declarations = codes "topo 1" ∷ (map declaration_text declarations ++ codes "end" ∷ [])
 
 unfoldable pub topology_text : List Declaration → List ℕ
-topology_text declarations = ended (topology_lines declarations)
+topology_text declarations = flat_map ended (topology_lines declarations)
 
 -- ---- what has a spelling
 

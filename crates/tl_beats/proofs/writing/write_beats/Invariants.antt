@@ -1,7 +1,8 @@
 use Rattle.std.proofs.Common.{◌≡◌, map, take}
 use Rattle.std.specs.List.{flat_map}
 use Rattle.std.specs.Io.KnownBytes.{Appends}
-use Rattle.tl_beats.specs.Text.{ended, beat_text}
+use Rattle.tl_text.specs.Words.{ended}
+use Rattle.tl_beats.specs.Text.{beat_text}
 use Rattle.tl_beats.proofs.writing.write_beats.Given as goal
 
 abbrev pub invariant-loop-beat : goal.invariant-loop-beat

@@ -2,8 +2,9 @@ use Rattle.std.proofs.Common.{◌≡◌, [], ◌++◌, ap, subst, ◌∙◌}
 use Rattle.std.specs.Prelude.{codes}
 use Rattle.tl_text.specs.Written.{Writes}
 use Rattle.tl_text.proofs.Writes.{nothing, more, fell, ends}
+use Rattle.tl_text.specs.Words.{ended}
 use Rattle.tl_beats.specs.Fragments.{Frag}
-use Rattle.tl_beats.specs.Text.{ended, header_text}
+use Rattle.tl_beats.specs.Text.{header_text}
 use Rattle.tl_beats.proofs.TextParts.{header_parts, header_ends}
 use Rattle.tl_beats.proofs.writing.write_header.Goals as goal
 

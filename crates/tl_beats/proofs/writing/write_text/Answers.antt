@@ -1,7 +1,8 @@
 use Rattle.std.proofs.Common.{[], ◌++◌}
 use Rattle.std.specs.Prelude.{codes}
 use Rattle.tl_text.proofs.Writes.{nothing, more, fell, ends, writes_all}
-use Rattle.tl_beats.specs.Text.{ended, header_text}
+use Rattle.tl_text.specs.Words.{ended}
+use Rattle.tl_beats.specs.Text.{header_text}
 use Rattle.tl_beats.proofs.TextParts.{beats_text, fragment_parts, fragment_ends}
 use Rattle.tl_beats.proofs.writing.write_text.Goals as goal
 

@@ -203,7 +203,7 @@ ReplyRows =
     × (found (answered 2 2 2 2 2 1 2 2)
     ≡ row 0 2 2 rule.S3 ∷ row 0 2 3 rule.S3 ∷ row 0 2 4 rule.S3 ∷ row 0 2 5 rule.S3 ∷ row 1 2 2 rule.S3 ∷ row 1 2 3 rule.S3 ∷ row 1 2 4 rule.S3 ∷
     row 1 2 5 rule.S3 ∷ [])
-    -- Grant to all; those of accesses aren't of a block.
+    -- Grant to all; to an access it has another size than the block, too.
     × (found (answered 4 4 4 4 4 4 4 4)
     ≡ row 0 2 2 rule.F8 ∷ row 0 2 2 rule.S3 ∷ row 0 2 3 rule.F8 ∷ row 0 2 3 rule.S3 ∷ row 0 2 4 rule.F8 ∷ row 0 2 4 rule.S3 ∷ row 0 2 5 rule.F8 ∷
     row 0 2 5 rule.S3 ∷ row 1 2 2 rule.F8 ∷ row 1 2 2 rule.S3 ∷ row 1 2 3 rule.F8 ∷ row 1 2 3 rule.S3 ∷ [])
@@ -254,7 +254,7 @@ ConcurrencyRows =
     × (found (fragment 0 1 (c 10 4 5 6 0 0x1000 ∷ [])) ≡ row 0 1 2 rule.P3 ∷ [])
     -- An answer that keeps more than the Probe allows.
     × (found (fragment 0 1 (owned ++ b 40 6 2 6 0 0x1000 0xff ∷ c 50 4 4 6 0 0x1000 ∷ [])) ≡ row 0 1 13 rule.P4 ∷ [])
-    -- A Release that keeps more than an open Probe allows, and an Acquire of more: neither answers it.
+    -- A Release keeps more than an open Probe allows, and an Acquire asks for more; neither answers it.
     × (found (fragment 0 1 (owned ++ b 40 6 2 6 0 0x1000 0xff ∷ c 42 6 0 6 1 0x1000 ∷ d 50 6 0 6 1 0 false ∷ a 60 6 1 6 0 0x1000 0xff ∷ [])) ≡ [])
     -- Two Probes of one block.
     × (found (fragment 0 1 (owned ++ b 40 6 2 6 0 0x1000 0xff ∷ b 41 6 2 6 0 0x1000 0xff ∷ c 50 4 1 6 0 0x1000 ∷ [])) ≡ row 0 1 13 rule.P5 ∷ [])
@@ -289,20 +289,20 @@ ManagerRows =
     ≡ row 0 2 2 rule.S2 ∷ [])
     -- A block is granted to write to two clients.
     × (found (fragment 0 1 owned ++ fragment 1 1 (a 100 6 1 6 0 0x1000 0xff ∷ grant 200 0 2 ++ e 210 2 ∷ [])) ≡ row 1 1 3 rule.M1 ∷ [])
-    -- In one cycle, where the lower link's Grant is the first.
+    -- The same in one cycle, where the lower link's Grant comes first.
     × (found (fragment 0 1 (a 10 6 1 6 0 0x1000 0xff ∷ d 20 4 0 6 0 1 false ∷ []) ++ fragment 1 1 (a 10 6 1 6 0 0x1000 0xff ∷ d 20 4 0 6 0 1 false ∷ []))
     ≡ row 1 1 3 rule.M1 ∷ [])
-    -- In the cycle of the other client's ProbeAck, which comes before it.
+    -- A Grant in the cycle of the other client's ProbeAck, which comes first: C before D.
     × (found (fragment 0 1 (a 100 6 1 6 0 0x1000 0xff ∷ d 120 4 0 6 0 1 false ∷ [])
     ++ fragment 1 1 (owned ++ b 110 6 2 6 0 0x1000 0xff ∷ c 120 4 1 6 0 0x1000 ∷ [])) ≡ [])
-    -- With a Probe of the first between.
+    -- A block is granted to write to two clients, with a Probe of the first between.
     × (found (fragment 0 1 owned ++ fragment 1 1 (a 100 6 1 6 0 0x1000 0xff ∷ grant 200 0 2 ++ e 210 2 ∷ [])
     ++ fragment 0 2 (b 110 6 2 6 0 0x1000 0xff ∷ c 120 4 1 6 0 0x1000 ∷ [])) ≡ [])
     -- Two readers, then a writer.
     × (found (fragment 1 1 shared
     ++ fragment 0 1 (a 100 7 0 6 0 0x1000 0xff ∷ d 110 4 1 6 0 1 false ∷ e 120 1 ∷ a 130 7 2 6 0 0x1000 0xff ∷ d 140 4 0 6 0 1 false ∷ e 150 1 ∷ []))
     ≡ row 0 1 6 rule.M1 ∷ [])
-    -- An Acquire that claims to share beside a writer is no Grant.
+    -- An Acquire that claims B beside a writer.
     × (found (fragment 1 1 owned ++ fragment 0 1 (a 100 7 2 6 0 0x1000 0xff ∷ [])) ≡ row 0 1 2 rule.P1 ∷ [])
     -- A Grant toN beside a writer.
     × (found (fragment 1 1 owned ++ fragment 0 1 (a 100 7 1 6 0 0x1000 0xff ∷ d 110 4 2 6 0 1 false ∷ e 120 1 ∷ [])) ≡ [])

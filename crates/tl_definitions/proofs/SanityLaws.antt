@@ -94,7 +94,7 @@ pub blocks_hold_their_addresses : BlocksHoldTheirAddresses
 blocks_hold_their_addresses exponent address = (div-mul-le_self address (2 ^ exponent), lt-div-mul-add {a = address} {b = 2 ^ exponent} (pow_pos exponent))
 
 -- Rules that don't pass are not among those kept.
-none_of : (kept f : Rule → Bool) (xs : List Rule) → list_any kept xs ≡ false → filter kept (filter f xs) ≡ []
+pub none_of : (kept f : Rule → Bool) (xs : List Rule) → list_any kept xs ≡ false → filter kept (filter f xs) ≡ []
 none_of kept f [] h = refl
 none_of kept f (x ∷ xs) h =
     elim (kept x) as (λ t. kept x ≡ t → (t || list_any kept xs) ≡ false → filter kept (cond (f x) (x ∷ filter f xs) (filter f xs)) ≡ []) [
@@ -106,7 +106,7 @@ none_of kept f (x ∷ xs) h =
     ] refl h
 
 -- The first of two lists, where nothing of the second is kept.
-first_kept : (kept : Rule → Bool) (xs ys : List Rule) → filter kept ys ≡ [] → filter kept (xs ++ ys) ≡ filter kept xs
+pub first_kept : (kept : Rule → Bool) (xs ys : List Rule) → filter kept ys ≡ [] → filter kept (xs ++ ys) ≡ filter kept xs
 first_kept kept xs ys none = kept_of_both kept xs ys ∙ ap (λ zs. filter kept xs ++ zs) none ∙ append-nil (filter kept xs)
 
 format_of : (kept : Rule → Bool) (m : Manager) (before : List Placed) (p : Placed) (found : Option Op) → list_any kept flow_order ≡ false → list_any kept permission_order ≡ false → list_any kept manager_order ≡ false

@@ -17,17 +17,9 @@ use Rattle.tl_definitions.specs.Judging.{past_with}
 use Rattle.tl_definitions.proofs.JudgingLaws.{message_next}
 use Rattle.tl_flow_rules.specs.Flow.{flow_rules, answered}
 use Rattle.tl_perm_rules.specs.Client.{client_view, answered_in}
+use Rattle.tl_perm_rules.proofs.ClientLaws.{past_law}
 use Rattle.tl_manager_rules.specs.declared.manager.ManagerState.{ManagerState}
 use Rattle.tl_manager_rules.specs.Manager.{Shows, StandsFor, rules_in, pasts_with}
-
--- The request that a head answers, read from a past.
-pub answer_law : (exponent : ℕ) (before : List Message) (head : Beat) (found : Option Op) → answered before head found ≡ answered_in (past_of exponent before) head found
-answer_law exponent before head None = refl
-answer_law exponent before head (Some o) = refl
-
-past_law : (exponent : ℕ) (before : List Message) (head : Beat) (found : Option Op) → past_with exponent (past_of exponent before) head found ≡ past_of exponent (with_message head found before)
-past_law exponent before head None = refl
-past_law exponent before head (Some o) = message_next exponent before (message_at before head o)
 
 -- The pasts after a head are those of the beats with it.
 pasts_law : (m : Manager) (before : List Placed) (p : Placed) (decl : LinkDecl) → m.links p.link ≡ decl → at_head m.links before p ≡ true → (n : ℕ)

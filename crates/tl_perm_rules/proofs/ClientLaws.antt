@@ -140,11 +140,13 @@ next_law (Ok x) exponent old new past head request found is answer next = record
 }
 next_law (Err e) exponent old new past head request found is answer next = tt
 
-answer_law : (exponent : ℕ) (before : List Message) (head : Beat) (found : Option Op) → answered before head found ≡ answered_in (past_of exponent before) head found
+-- The request that a head answers, read from a past.
+pub answer_law : (exponent : ℕ) (before : List Message) (head : Beat) (found : Option Op) → answered before head found ≡ answered_in (past_of exponent before) head found
 answer_law exponent before head None = refl
 answer_law exponent before head (Some o) = refl
 
-past_law : (exponent : ℕ) (before : List Message) (head : Beat) (found : Option Op) → past_with exponent (past_of exponent before) head found ≡ past_of exponent (with_message head found before)
+-- The past after a head.
+pub past_law : (exponent : ℕ) (before : List Message) (head : Beat) (found : Option Op) → past_with exponent (past_of exponent before) head found ≡ past_of exponent (with_message head found before)
 past_law exponent before head None = refl
 past_law exponent before head (Some o) = message_next exponent before (message_at before head o)
 

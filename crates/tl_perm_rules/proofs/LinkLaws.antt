@@ -13,26 +13,11 @@ use Rattle.tl_definitions.specs.Past.{LinkPast, pasts_of}
 use Rattle.tl_definitions.specs.Rules.{Manager, breaks_format, breaks_flow, breaks_permission, breaks_manager, format_order, flow_order, permission_order, manager_order, format_rules}
 use Rattle.tl_definitions.specs.Breaks.{head_rules, later_rules}
 use Rattle.tl_definitions.proofs.Lists.{kept_of_both, kept_order}
+use Rattle.tl_definitions.proofs.SanityLaws.{none_of, first_kept}
 use Rattle.tl_flow_rules.specs.Flow.{flow_rules}
 use Rattle.tl_flow_rules.proofs.LinkLaws.{heads_are_messages, later_beats_are_no_messages}
 use Rattle.tl_perm_rules.specs.Client.{StandsFor, permission_rules}
 use Rattle.tl_perm_rules.specs.Laws.{PermissionsNeedTheirLinkAlone, HeadsAreStoodFor, LaterBeatsAreStoodFor, FoundRulesAreBroken}
-
--- Rules that don't pass are not among those kept.
-none_of : (kept f : Rule → Bool) (xs : List Rule) → list_any kept xs ≡ false → filter kept (filter f xs) ≡ []
-none_of kept f [] h = refl
-none_of kept f (x ∷ xs) h =
-    elim (kept x) as (λ t. kept x ≡ t → (t || list_any kept xs) ≡ false → filter kept (cond (f x) (x ∷ filter f xs) (filter f xs)) ≡ []) [
-      | true ↦ λ e g. cc
-      | false ↦ λ e g. elim (f x) as (λ t. filter kept (cond t (x ∷ filter f xs) (filter f xs)) ≡ []) [
-        | true ↦ ap (λ t. cond t (x ∷ filter kept (filter f xs)) (filter kept (filter f xs))) e ∙ none_of kept f xs g
-        | false ↦ none_of kept f xs g
-      ]
-    ] refl h
-
--- The first of two lists, where nothing of the second is kept.
-first_kept : (kept : Rule → Bool) (xs ys : List Rule) → filter kept ys ≡ [] → filter kept (xs ++ ys) ≡ filter kept xs
-first_kept kept xs ys none = kept_of_both kept xs ys ∙ ap (λ zs. filter kept xs ++ zs) none ∙ append-nil (filter kept xs)
 
 permissions_of : (kept : Rule → Bool) (m : Manager) (before : List Placed) (p : Placed) (found : Option Op) → list_any kept manager_order ≡ false
     → filter kept flow_order ≡ flow_order → filter kept permission_order ≡ permission_order → filter kept (head_rules m before p found)

@@ -10,7 +10,7 @@ use Rattle.tl_text.specs.Numbers.{number_at, numeral}
 use Rattle.tl_text.specs.Names.{is_name}
 use Rattle.tl_text.proofs.Cuts.{is_free, word_again, word_takes}
 use Rattle.tl_text.proofs.Numerals.{bind_some, number_takes, number_again, numeral_free}
-use Rattle.tl_text.proofs.Spelling.{name_free, decimal_line, name_line, spaced_free}
+use Rattle.tl_text.proofs.Spelling.{name_free, decimal_line, name_line, spaced_free, word_step}
 use Rattle.tl_tables.specs.declared.Level.{Level}
 use Rattle.tl_tables.specs.declared.Level.TheVariants as level
 use Rattle.tl_topology.specs.declared.reading.ManagerLine.{ManagerLine}
@@ -23,11 +23,6 @@ pub same_text : (a b : List ℕ) → bytes_eq a b ≡ true → a ≡ b
 same_text a b e = (bytes_eq-Decides a b).0 e
 
 -- ---- a step of a reading that found something, handed on
-
-word_step : {B : Type 0} (line : List ℕ) (f : List ℕ × List ℕ → Option B) (y : B) (P : Type 0) → (word_at line >>= f) ≡ Some y → ((word rest : List ℕ) → line ≡ word ++ 32 ∷ rest → f (word, rest) ≡ Some y → P) → P
-word_step line f y P e k =
-    let w = bind_some (word_at line) f y e in
-    k w.0.0 w.0.1 (word_takes line w.0.0 w.0.1 w.1) w.2
 
 number_step : {B : Type 0} (word : List ℕ) (f : ℕ → Option B) (y : B) (P : Type 0) → (number_at 10 65536 word >>= f) ≡ Some y → ((n : ℕ) → word ≡ numeral 10 n → n ≤ 65536 → f n ≡ Some y → P) → P
 number_step word f y P e k =

@@ -3,7 +3,8 @@ use Rattle.tl_beats.specs.declared.Placed.{Placed}
 use Rattle.tl_definitions.specs.Heads.{message_of}
 use Rattle.tl_definitions.specs.Messages.{messages_on}
 use Rattle.tl_definitions.specs.Past.{pasts_of}
-use Rattle.tl_manager_rules.proofs.StandLaws.{answer_law, stands_law, broken_law}
+use Rattle.tl_perm_rules.proofs.ClientLaws.{answer_law}
+use Rattle.tl_manager_rules.proofs.StandLaws.{stands_law, broken_law}
 use Rattle.tl_manager_rules.proofs.manager.ManagerState.step.Goals as goal
 
 pub returns-clause-broken : goal.returns-clause-broken

@@ -253,9 +253,6 @@ header_takes line h e =
     range_step r2 _ h P k4 (λ n f l range k5.
     header_from line word r1 link r2 n f l h e1 (same_text word (codes "fragment") is) e2 named range k5)))))
 
-pub header_named : (line : List ℕ) (h : Header) → header_at line ≡ Some h → (is_name h.link ≡ true) × (h.number < 2 ^ 32) × (h.last < 2 ^ 64)
-header_named line h e = let is = header_takes line h e in (is.named, is.number, is.last)
-
 pub header_again : (link : List ℕ) (n f l : ℕ) → is_name link ≡ true → n < 2 ^ 32 → f ≤ l → l < 2 ^ 64
     → header_at (codes "fragment" ␣ link ␣ range_text n f l) ≡ Some (record { link = link; number = n; first = f; last = l })
 unfolding header_at name_at

@@ -101,6 +101,3 @@ pub more_kept : (first last n i : ℕ) (beats : List Beat) (d placed : Beat) →
 more_kept first last n i beats d placed lt kept is formed =
     let next = placed_here first last n (take i beats) (get_or beats i d) placed is in
     rw (add-one, take-suc beats i d lt) (joined first last (take i beats) (get_or beats i d) kept next formed)
-
-pub room_for : (first last n : ℕ) (before : List Beat) (line : List ℕ) (beat : Beat) → next_at first last n before line ≡ Ok beat → length before < 65536
-room_for first last n before line beat read = (next_is first last n before line beat read).room

@@ -1,5 +1,5 @@
 -- One line of a fragment after another.
-use Rattle.std.proofs.Common.{◌≡◌, ℕ, suc, ◌+◌, true, false, List, [], ◌∷◌, ◌++◌, length, length-append, Some, None, Ok, Err, refl, sym, ap, ◌∙◌}
+use Rattle.std.proofs.Common.{◌≡◌, ℕ, ◌+◌, true, false, List, [], ◌∷◌, ◌++◌, Some, None, Ok, Err, refl, sym, ap, ◌∙◌}
 use Rattle.std.specs.Prelude.{codes}
 use Rattle.std.specs.Str.{bytes_eq}
 use Rattle.std.proofs.lemmas.Option.{none-some, same_Some}
@@ -56,7 +56,3 @@ fails first last n before (x ∷ next ∷ lines) line after found e is read here
     let other : bytes_eq x (codes "end") ≡ false = ap (λ (q : Line). bytes_eq q.0 (codes "end")) p ∙ is in
     let bad : next_at first last n before x ≡ Err found = ap (λ (q : Line). next_at first last n before q.0) p ∙ read here in
     rw (other, bad) refl
-
--- what a line leaves is shorter
-pub shorter : (bytes line after : List ℕ) → bytes ≡ line ++ 10 ∷ after → length bytes ≡ length line + suc (length after)
-shorter bytes line after e = ap (λ (l : List ℕ). length l) e ∙ length-append line (10 ∷ after)

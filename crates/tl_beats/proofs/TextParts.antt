@@ -1,5 +1,5 @@
 -- The parts of a fragment's text, in the order in which they are written.
-use Rattle.std.proofs.Common.{◌≡◌, ℕ, zero, suc, ◌+◌, ◌<◌, List, [], ◌∷◌, ◌++◌, length, get_or, map, take, drop, sym, ap, ◌∙◌, append_assoc, append-nil, arith}
+use Rattle.std.proofs.Common.{◌≡◌, ℕ, zero, suc, ◌<◌, List, [], ◌∷◌, ◌++◌, length, get_or, map, take, drop, sym, ap, ◌∙◌, append_assoc, arith}
 use Rattle.std.specs.Prelude.{codes}
 use Rattle.std.specs.List.{flat_map}
 use Rattle.std.proofs.lemmas.List.Concat.{flat_map-cons, flat_map-append}
@@ -35,14 +35,3 @@ beats_parts (suc i) (b ∷ beats) d lt =
     flat_map-cons ended (beat_text b) (map beat_text beats) ∙ ap (λ (l : List ℕ). ended (beat_text b) ++ l) (beats_parts i beats d (omega arith))
     ∙ sym (append_assoc (ended (beat_text b)) (beats_text (take i beats)) (ended (beat_text (get_or beats i d)) ++ beats_text (drop (suc i) beats)))
     ∙ ap (λ (l : List ℕ). l ++ (ended (beat_text (get_or beats i d)) ++ beats_text (drop (suc i) beats))) (sym (flat_map-cons ended (beat_text b) (map beat_text (take i beats))))
-
--- one line more
-pub beats_more : (i : ℕ) (beats : List Beat) (d : Beat) → i < length beats → beats_text (take i beats) ++ ended (beat_text (get_or beats i d)) ≡ beats_text (take (i + 1) beats)
-beats_more i [] d lt = absurd (omega arith)
-beats_more zero (b ∷ beats) d lt = sym (append-nil (ended (beat_text b)))
-beats_more (suc i) (b ∷ beats) d lt =
-    let at : suc i + 1 ≡ suc (i + 1) = omega arith in
-    ap (λ (l : List ℕ). l ++ ended (beat_text (get_or beats i d))) (flat_map-cons ended (beat_text b) (map beat_text (take i beats)))
-    ∙ append_assoc (ended (beat_text b)) (beats_text (take i beats)) (ended (beat_text (get_or beats i d)))
-    ∙ ap (λ (l : List ℕ). ended (beat_text b) ++ l) (beats_more i beats d (omega arith))
-    ∙ sym (flat_map-cons ended (beat_text b) (map beat_text (take (i + 1) beats))) ∙ ap (λ (n : ℕ). beats_text (take n (b ∷ beats))) (sym at)

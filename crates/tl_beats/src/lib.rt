@@ -26,6 +26,7 @@ pub use writing::write_fragment;
 pub struct Beat {
     /// The cycle of the manager's counter.
     pub cycle: u64,
+    /// The channel that it was accepted on.
     pub chan: Chan,
     /// 0 to 7; 0 on E.
     pub opcode: u8,
@@ -33,8 +34,9 @@ pub struct Beat {
     pub param: u8,
     /// The exponent of the message's bytes, 0 to 15.
     pub size: u8,
+    /// 0 to 65,535; on A to D.
     pub source: u16,
-    /// On D and E.
+    /// 0 to 65,535; on D and E.
     pub sink: u16,
     /// In bytes; on A, B and C.
     pub address: u64,
@@ -55,16 +57,22 @@ pub struct Placed {
     pub fragment: u32,
     /// The line in the fragment's text; the header is line 1.
     pub line: u32,
+    /// The beat.
     pub beat: Beat,
 }
 
 /// What a reply is compared with: the fields of the request that it answers.
 #[derive(Clone, Copy, Debug, PartialEq, Eq)]
 pub struct Request {
+    /// The message of the request.
     pub op: Op,
+    /// 0 to 7.
     pub param: u8,
+    /// The exponent of the message's bytes, 0 to 15.
     pub size: u8,
+    /// 0 to 65,535.
     pub source: u16,
+    /// In bytes.
     pub address: u64,
 }
 
@@ -73,8 +81,11 @@ pub struct Request {
 pub struct Row {
     /// The number of the link.
     pub link: u16,
+    /// The cycle of the beat.
     pub cycle: u64,
+    /// The channel of the beat.
     pub chan: Chan,
+    /// The rule that the beat breaks.
     pub rule: Rule,
     /// The monitor of an X1.
     pub monitor: Option<u32>,

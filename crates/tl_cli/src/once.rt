@@ -24,9 +24,14 @@ const UNKNOWN_LINK: u8 = 21;
 /// Why a fragment has no report.
 #[derive(Clone, Copy, Debug, Drop, Error, PartialEq, Eq)]
 pub enum OnceFault {
-    /// The fragment is refused, with the number of the refusal.
+    /// The fragment is refused.
     #[error("refused with {code}")]
-    Refused { code: u8, number: Option<u64> },
+    Refused {
+        /// The number of the refusal: 21 for a link that the topology lacks, and no other.
+        code: u8,
+        /// What the refusal names besides: nothing, for an unknown link.
+        number: Option<u64>,
+    },
     /// A growth was refused; nothing was written.
     #[error("out of memory")]
     Memory,
@@ -97,8 +102,8 @@ fn rows_once(
 
 /// Writes the report of a topology with this fragment alone, version 1 after edit 1, and answers the number of its rows:
 /// all rules of the definitions but those of monitors, F1 to F10, U1, S1 to S9, P1 to P8 and M1 to M3, without regions. Where
-/// no row is of P1, P2 or M1, each block had one writer or many readers throughout. Refused with 21 where the topology has no
-/// such link.
+/// no row is of P1, P2 or M1, each block had one writer or many readers throughout; with beats of one client alone it always
+/// has. Refused with 21 where the topology has no such link, Memory where memory is refused, WriteFault where a write fails.
 pub fn run_once<O: ByteOut>(
     alloc: Global,
     topo: &Topo,

@@ -10,7 +10,7 @@ use std::fs;
 use std::rt::Files;
 use tl_beats::{ByteIn, ByteOut, Fragment, parse_whole_fragment, read_fragment};
 use tl_text::{CountedReader, read_text, write_all};
-use tl_topology::{Topo, read_topo};
+use tl_topology::{Topo, TopoFault, read_topo};
 
 /// The most bytes of a topology's file.
 const MOST_TOPOLOGY: u64 = 1_048_576;
@@ -34,10 +34,7 @@ fn topology_of<R: Files + AllocGlobal>(rt: &R, path: &str) -> Result<Topo, Fault
     if used == text.len() {
         Ok(topo)
     } else {
-        Err(Fault {
-            code: 1,
-            number: Some(line_after(&text[..used])),
-        })
+        Err(TopoFault::BadLine(line_after(&text[..used])).into())
     }
 }
 
@@ -124,7 +121,8 @@ fn tell_words<O: ByteOut, E: ByteOut>(
 }
 
 /// Does what the words ask for, the first of which is the program's own, and answers the exit status: 0 where the report
-/// has no rows, 1 where it has some, 2 for a fault, which is told in one line on `err`. `input` stands for standard input.
+/// has no rows or help was asked for, 1 where it has some rows, 2 for a fault, which is told in one line on `err`, and for words
+/// that are refused, of which `clap` tells on `err` in lines of its own. `input` stands for standard input.
 pub fn run_words<R: Files + AllocGlobal, I: ByteIn, O: ByteOut, E: ByteOut>(
     rt: &R,
     words: &[String],

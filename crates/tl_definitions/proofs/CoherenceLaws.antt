@@ -19,7 +19,7 @@ use Rattle.tl_definitions.specs.Messages.{Message, message_at, with_message, at_
 use Rattle.tl_definitions.specs.Past.{LinkPast, ClientPast, pasts_of}
 use Rattle.tl_definitions.specs.Rules.{Manager, breaks_format, breaks_flow, breaks_permission, breaks_manager, format_order, flow_order, permission_order, manager_order, rules_of_message, conflicts_with_other}
 use Rattle.tl_definitions.specs.Breaks.{head_rules, later_rules, rules_at, row_of, rows_after, rows_in}
-use Rattle.tl_definitions.specs.Coherence.{guards_bounds, IsGuarded, is_client, OneWriter, exceeds, GuardedCapturesAreCoherent, ReportedCapturesAreCoherent}
+use Rattle.tl_definitions.specs.Coherence.{guards_bounds, is_client, OneWriter, exceeds, GuardedCapturesAreCoherent, ReportedCapturesAreCoherent}
 use Rattle.tl_definitions.proofs.Lists.{onto, onto_reverse, contains_none, contains_kept, none_kept}
 use Rattle.tl_definitions.proofs.ReportLaws.{rows_are_breaks}
 
@@ -223,6 +223,11 @@ moves m before p clean client other block member ne h =
 
 stays : (m : Manager) (before : List Placed) (p : Placed) (client block : ℕ) → (p.link == client) ≡ false → bound_at m client (p ∷ before) block ≡ bound_at m client before block
 stays m before p client block ne = ap (next_bound m before p block client) ne
+
+-- No beat so far breaks a rule on bounds.
+abbrev IsGuarded : Manager → List Placed → Type 0
+IsGuarded m [] = Unit {0}
+IsGuarded m (p ∷ before) = (filter guards_bounds (rules_at m before p) ≡ []) × IsGuarded m before
 
 coherent : (m : Manager) (before : List Placed) → IsGuarded m before → (a b block : ℕ) → is_client m a ≡ true → is_client m b ≡ true → (a == b) ≡ false
     → conflicts (bound_at m a before block) (bound_at m b before block) ≡ false

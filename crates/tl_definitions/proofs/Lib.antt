@@ -1,4 +1,5 @@
 pub mod Lists
+pub mod OrderLaws
 pub mod RowLaws
 pub mod HeadLaws
 pub mod TableLaws

@@ -1,5 +1,5 @@
 -- Passes: judged rows in the order of reports.
-use Rattle.std.proofs.Common.{◌≡◌, List, [], ◌∷◌, ◌++◌, inl, inr, refl, sym, ap, subst, ◌∙◌}
+use Rattle.std.proofs.Common.{◌≡◌, List, [], ◌∷◌, inl, inr, refl, sym, ap, subst, ◌∙◌}
 use Rattle.std.specs.Prelude.{map}
 use Rattle.std.specs.declared.cmp.Ordering.TheVariants.{Equal}
 use Rattle.std.specs.List.{Contains}
@@ -11,9 +11,9 @@ use Rattle.tl_definitions.specs.Positions.{position_order}
 use Rattle.tl_definitions.specs.Rules.{Manager}
 use Rattle.tl_definitions.specs.Breaks.{row_of, rows_in, Breaks}
 use Rattle.tl_definitions.specs.Report.{key_order, Capture}
-use Rattle.tl_definitions.specs.Judging.{Snapshot, snapshot, judged_rules, judged_next, all_judged, Pass, SortedRowsAreAPass, FirstPassesAreReports}
+use Rattle.tl_definitions.specs.Judging.{Snapshot, judged_rules, judged_next, all_judged, SortedRowsAreAPass, FirstPassesAreReports}
 use Rattle.tl_definitions.proofs.Lists.{contains_none, contains_here, contains_there, contains_cases, mapped_from}
-use Rattle.tl_definitions.proofs.PositionLaws.{positions_are_ordered}
+use Rattle.tl_definitions.proofs.PositionLaws.{position_total}
 use Rattle.tl_definitions.proofs.ReportLaws.{rises_by_key, same_position, rows_are_breaks}
 use Rattle.tl_definitions.proofs.RisingLaws.{tied_members}
 use Rattle.tl_definitions.proofs.JudgingLaws.{all_exact}
@@ -32,7 +32,7 @@ sorted_rows_are_a_pass m s beats rows up sorted same = record {
       let one = judged_from m s beats x ((same x).0 h) in
       let two = judged_from m s beats y ((same y).0 g) in
       let tied : key_order (row_of one.0 one.1) (row_of two.0 two.1) ≡ Equal = ap (λ z. key_order z (row_of two.0 two.1)) one.3 ∙ ap (key_order x) two.3 ∙ tie in
-      let is : one.0 ≡ two.0 = tied_members position_order positions_are_ordered beats up one.0 two.0 one.2 two.2 (same_position one.0 two.0 one.1 two.1 tied) in (
+      let is : one.0 ≡ two.0 = tied_members position_order position_total beats up one.0 two.0 one.2 two.2 (same_position one.0 two.0 one.1 two.1 tied) in (
         sym (ap (λ (z : Row). z.fragment) one.3) ∙ ap (λ (q : Placed). q.fragment) is ∙ ap (λ (z : Row). z.fragment) two.3,
         sym (ap (λ (z : Row). z.line) one.3) ∙ ap (λ (q : Placed). q.line) is ∙ ap (λ (z : Row). z.line) two.3,
       )) sorted;

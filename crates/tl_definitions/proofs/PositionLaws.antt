@@ -4,7 +4,9 @@ use Rattle.std.specs.Prelude.{filter, nat_lt, slice_get}
 use Rattle.std.specs.Option.{option_map}
 use Rattle.std.specs.declared.cmp.Ordering.{Ordering}
 use Rattle.std.specs.declared.cmp.Ordering.TheVariants.{Less, Equal, Greater}
-use Rattle.std.specs.Ordering.{is_lt}
+use Rattle.std.specs.Ordering.{nat_cmp, ordering_then, is_lt}
+use Rattle.std.specs.Cmp.{IsTotalOrder}
+use Rattle.std.specs.FinMap.{nat_cmp-IsAntisymmetric}
 use Rattle.std.specs.List.{list_any, Contains}
 use Rattle.std.proofs.lemmas.Cmp.{then_total, on_total, nat_cmp_total, tied_itself}
 use Rattle.std.proofs.lemmas.Bool.Decides.{nat_tests}
@@ -14,9 +16,47 @@ use Rattle.tl_beats.specs.declared.Beat.{Beat}
 use Rattle.tl_beats.specs.declared.Placed.{Placed}
 use Rattle.tl_definitions.specs.Positions.{position_order, lies_before, Recorded, placed_from, placed_beats, insert_by_range, by_range, all_placed, insert_in_order, in_order, PositionsAreOrdered, LinesAreIndexes, AreByRange, RangesRise, BeatsAreOfFragments, AreInOrder, BeatsAreInOrder}
 use Rattle.tl_definitions.proofs.Lists.{contains_none, contains_here, contains_there, contains_cases, contains_kept, kept_from, all_of, all_by}
+use Rattle.tl_definitions.proofs.OrderLaws.{tie_first, tie_rest, both_tie, then_less, tie_then_less, tied, below, one_chan}
+
+pub position_total : IsTotalOrder position_order
+position_total = then_total (on_total (λ (p : Placed). p.beat.cycle) nat_cmp_total) (then_total (on_total (λ (p : Placed). chan_number p.beat.chan) nat_cmp_total) (on_total (λ (p : Placed). p.link) nat_cmp_total))
+
+-- The three parts of the order.
+abbrev cycle_order : Placed → Placed → Ordering
+cycle_order p q = nat_cmp p.beat.cycle q.beat.cycle
+
+abbrev channel_order : Placed → Placed → Ordering
+channel_order p q = nat_cmp (chan_number p.beat.chan) (chan_number q.beat.chan)
+
+abbrev link_order : Placed → Placed → Ordering
+link_order p q = nat_cmp p.link q.link
+
+abbrev IsOnePosition : Placed → Placed → Type 0
+IsOnePosition p q = (p.beat.cycle ≡ q.beat.cycle) × (p.beat.chan ≡ q.beat.chan) × (p.link ≡ q.link)
+
+one_position : (p q : Placed) → position_order p q ≡ Equal → IsOnePosition p q
+one_position p q tie =
+    let rest = tie_rest (cycle_order p q) (ordering_then (channel_order p q) (link_order p q)) tie in (
+      nat_cmp-IsAntisymmetric p.beat.cycle q.beat.cycle (tie_first (cycle_order p q) (ordering_then (channel_order p q) (link_order p q)) tie),
+      one_chan p.beat.chan q.beat.chan (nat_cmp-IsAntisymmetric (chan_number p.beat.chan) (chan_number q.beat.chan) (tie_first (channel_order p q) (link_order p q) rest)),
+      nat_cmp-IsAntisymmetric p.link q.link (tie_rest (channel_order p q) (link_order p q) rest),
+    )
+
+tied_there : (p q : Placed) → IsOnePosition p q → position_order p q ≡ Equal
+tied_there p q same =
+    both_tie (cycle_order p q) (ordering_then (channel_order p q) (link_order p q)) (tied p.beat.cycle q.beat.cycle same.0)
+    (both_tie (channel_order p q) (link_order p q) (tied (chan_number p.beat.chan) (chan_number q.beat.chan) (ap chan_number same.1)) (tied p.link q.link same.2))
 
 pub positions_are_ordered : PositionsAreOrdered
-positions_are_ordered = then_total (on_total (λ (p : Placed). p.beat.cycle) nat_cmp_total) (then_total (on_total (λ (p : Placed). chan_number p.beat.chan) nat_cmp_total) (on_total (λ (p : Placed). p.link) nat_cmp_total))
+positions_are_ordered = record {
+  total = position_total;
+  ties = λ p q. (one_position p q, tied_there p q);
+  by_cycle = λ p q h. then_less (cycle_order p q) (ordering_then (channel_order p q) (link_order p q)) (below p.beat.cycle q.beat.cycle h);
+  by_channel = λ p q e h. tie_then_less (cycle_order p q) (ordering_then (channel_order p q) (link_order p q)) (tied p.beat.cycle q.beat.cycle e)
+      (then_less (channel_order p q) (link_order p q) (below (chan_number p.beat.chan) (chan_number q.beat.chan) h));
+  by_link = λ p q e c h. tie_then_less (cycle_order p q) (ordering_then (channel_order p q) (link_order p q)) (tied p.beat.cycle q.beat.cycle e)
+      (tie_then_less (channel_order p q) (link_order p q) (tied (chan_number p.beat.chan) (chan_number q.beat.chan) (ap chan_number c)) (below p.link q.link h));
+}
 
 lines_from : (link number line k : ℕ) (beats : List Beat) → slice_get (placed_from link number line beats) k
     ≡ option_map (λ beat. record { link = link; fragment = number; line = line + k; beat = beat }) (slice_get beats k)
@@ -119,7 +159,7 @@ less_from Greater h = cc
 
 not_after : (p q r : Placed) → lies_before p q ≡ true → lies_before r q ≡ false → lies_before r p ≡ false
 not_after p q r h g = elim (lies_before r p) as (λ t. lies_before r p ≡ t → t ≡ false) [
-  | true ↦ λ e. let less = positions_are_ordered.trans r p q (less_from (position_order r p) e) (less_from (position_order p q) h) in
+  | true ↦ λ e. let less = position_total.trans r p q (less_from (position_order r p) e) (less_from (position_order p q) h) in
       let wrong : true ≡ false = sym (ap is_lt less) ∙ g in cc
   | false ↦ λ e. refl
 ] refl
@@ -147,7 +187,7 @@ ordered_has p (q ∷ qs) x h = elim (lies_before p q) as (λ b. Contains (cond b
 ordered_rises : (p : Placed) (qs : List Placed) → AreInOrder qs → AreInOrder (insert_in_order p qs)
 ordered_rises p [] s = (tt, tt)
 ordered_rises p (q ∷ qs) s = elim (lies_before p q) as (λ b. lies_before p q ≡ b → AreInOrder (cond b (p ∷ q ∷ qs) (q ∷ insert_in_order p qs))) [
-  | true ↦ λ e. let itself : lies_before q q ≡ false = ap is_lt (tied_itself positions_are_ordered q) in
+  | true ↦ λ e. let itself : lies_before q q ≡ false = ap is_lt (tied_itself position_total q) in
       ((not_after p q q e itself, all_by (λ r. lies_before r p ≡ false) qs (λ r h. not_after p q r e (all_of (λ y. lies_before y q ≡ false) qs s.0 r h))), s)
   | false ↦ λ e. (
     all_by (λ r. lies_before r q ≡ false) (insert_in_order p qs) (λ r h. elim (ordered_from p qs r h) [

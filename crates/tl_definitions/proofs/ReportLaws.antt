@@ -10,11 +10,8 @@ use Rattle.std.specs.FinMap.{nat_cmp-IsAntisymmetric}
 use Rattle.std.specs.Cmp.Lexicographic.{options_total}
 use Rattle.std.specs.List.{Contains, AllByRecursion}
 use Rattle.std.specs.List.Sorted.{IsStrictlySortedBy}
-use Rattle.std.proofs.lemmas.Cmp.{then_total, on_total, nat_cmp_total, tied_itself}
-use Rattle.std.proofs.lemmas.List.Kept.{IsStrictlySortedBy-filter}
+use Rattle.std.proofs.lemmas.Cmp.{then_total, on_total, nat_cmp_total}
 use Rattle.std.proofs.lemmas.List.Elements.{Contains-append_left, Contains-append_right, Contains-append_cases}
-use Rattle.tl_tables.specs.declared.Chan.{Chan}
-use Rattle.tl_tables.specs.declared.Chan.TheVariants as chan
 use Rattle.tl_tables.specs.declared.Rule.{Rule}
 use Rattle.tl_tables.specs.declared.Rule.TheVariants as rule
 use Rattle.tl_tables.specs.Messages.{chan_number}
@@ -24,8 +21,9 @@ use Rattle.tl_definitions.specs.Positions.{position_order}
 use Rattle.tl_definitions.specs.Rules.{Manager}
 use Rattle.tl_definitions.specs.Breaks.{rules_at, row_of, Breaks, rows_after, rows_in}
 use Rattle.tl_tables.specs.Rules.{rule_number}
-use Rattle.tl_definitions.specs.Report.{key_order, row_order, Capture, BreaksIn, all_rows, insert_row, sorted_rows, report_of, HasOnePlace, RowsAreBreaks, OneReport, SortedRowsAreTheReport, SortedRowsAreTheirReport, OneReportOf, PartsOfReports, ReportsAreComputed}
-use Rattle.tl_definitions.proofs.Lists.{contains_none, contains_here, contains_there, contains_cases, contains_mapped, mapped_from, contains_kept, kept_from, all_of, all_by, onto, onto_reverse}
+use Rattle.tl_definitions.specs.Report.{key_order, row_order, Capture, BreaksIn, all_rows, insert_row, sorted_rows, report_of, HasOnePlace, RowsAreBreaks, OneReport, SortedRowsAreTheReport, ReportsAreComputed}
+use Rattle.tl_definitions.proofs.OrderLaws.{tie_first, tie_rest, both_tie, tied, one_chan}
+use Rattle.tl_definitions.proofs.Lists.{contains_none, contains_here, contains_there, contains_cases, contains_mapped, mapped_from, all_of, all_by, onto, onto_reverse}
 
 -- Rows and the rules that are broken.
 abbrev BreaksAfter : Manager → List Placed → List Placed → Row → Type 0
@@ -125,22 +123,7 @@ pub one_report : OneReport
 one_report captures one two first second = strict_one key_order key_total one two first.rises second.rises
     (λ row. ((λ h. (second.members row).1 ((first.members row).0 h)), (λ h. (first.members row).1 ((second.members row).0 h))))
 
--- The parts of orders that tie.
-tie_first : (o p : Ordering) → ordering_then o p ≡ Equal → o ≡ Equal
-tie_first Less p h = cc
-tie_first Equal p h = refl
-tie_first Greater p h = cc
-
-tie_rest : (o p : Ordering) → ordering_then o p ≡ Equal → p ≡ Equal
-tie_rest Less p h = cc
-tie_rest Equal p h = h
-tie_rest Greater p h = cc
-
-both_tie : (o p : Ordering) → o ≡ Equal → p ≡ Equal → ordering_then o p ≡ Equal
-both_tie Less p h g = cc
-both_tie Equal p h g = g
-both_tie Greater p h g = cc
-
+-- Orders of more parts.
 two : (d e p : Ordering) → ordering_then (ordering_then d e) p ≡ ordering_then d (ordering_then e p)
 two Less e p = refl
 two Equal e p = refl
@@ -156,9 +139,6 @@ first_less : (o p : Ordering) → ordering_then o p ≡ Less → (o ≡ Equal �
 first_less Less p h tie = refl
 first_less Equal p h tie = let e = tie refl in cc
 first_less Greater p h tie = cc
-
-tied : (m n : ℕ) → m ≡ n → nat_cmp m n ≡ Equal
-tied m n e = ap (nat_cmp m) (sym e) ∙ tied_itself nat_cmp_total m
 
 -- Where beats are written.
 abbrev place_order : Row → Row → Ordering
@@ -211,40 +191,7 @@ sorted_rows_are_the_report captures rows place rises same = record {
   members = λ row. ((λ h. in_captures captures row ((same row).0 h)), (λ r. (same row).1 (from_captures captures row r)));
 }
 
-pub sorted_rows_are_their_report : SortedRowsAreTheirReport
-sorted_rows_are_their_report kept captures rows place rises same = record {
-  rises = rises_by_key rows (λ x y h g. one_place captures place x y
-      (in_captures captures x (kept_from (λ r. kept r.rule) (all_rows captures) x ((same x).0 h)).0) (in_captures captures y (kept_from (λ r. kept r.rule) (all_rows captures) y ((same y).0 g)).0)) rises;
-  members = λ row. (
-    (λ h. let found = kept_from (λ r. kept r.rule) (all_rows captures) row ((same row).0 h) in (found.1, in_captures captures row found.0)),
-    (λ r. (same row).1 (contains_kept (λ r. kept r.rule) (all_rows captures) row (from_captures captures row r.1) r.0)),
-  );
-}
-
-pub one_report_of : OneReportOf
-one_report_of kept captures one two first second = strict_one key_order key_total one two first.rises second.rises
-    (λ row. ((λ h. (second.members row).1 ((first.members row).0 h)), (λ h. (first.members row).1 ((second.members row).0 h))))
-
-pub parts_of_reports : PartsOfReports
-parts_of_reports kept captures rows report = record {
-  rises = IsStrictlySortedBy-filter key_order (λ r. kept r.rule) rows report.rises;
-  members = λ row. (
-    (λ h. let found = kept_from (λ r. kept r.rule) rows row h in (found.1, (report.members row).0 found.0)),
-    (λ r. contains_kept (λ r. kept r.rule) rows row ((report.members row).1 r.1) r.0),
-  );
-}
-
 -- Rows that tie are one row.
-abbrev all_chans : List Chan
-all_chans = chan.A ∷ chan.B ∷ chan.C ∷ chan.D ∷ chan.E ∷ []
-
-chan_at : (c : Chan) → slice_get all_chans (chan_number c) ≡ Some c
-chan_at chan.A = refl
-chan_at chan.B = refl
-chan_at chan.C = refl
-chan_at chan.D = refl
-chan_at chan.E = refl
-
 -- The rules by their numbers; the first stands in for number 0.
 abbrev all_rules : List Rule
 all_rules = rule.F1 ∷ rule.F1 ∷ rule.F2 ∷ rule.F3 ∷ rule.F4 ∷ rule.F5 ∷ rule.F6 ∷ rule.F7 ∷ rule.F8 ∷ rule.F9 ∷ rule.F10 ∷ rule.U1 ∷ rule.S1 ∷ rule.S2 ∷ rule.S3 ∷ rule.S4 ∷ rule.S5 ∷ rule.S6 ∷ rule.S7 ∷ rule.S8 ∷ rule.S9 ∷ rule.P1 ∷ rule.P2 ∷ rule.P3 ∷ rule.P4 ∷ rule.P5 ∷ rule.P6 ∷ rule.P7 ∷ rule.P8 ∷ rule.M1 ∷ rule.M2 ∷ rule.M3 ∷ rule.X1 ∷ []
@@ -282,9 +229,6 @@ rule_at rule.M1 = refl
 rule_at rule.M2 = refl
 rule_at rule.M3 = refl
 rule_at rule.X1 = refl
-
-one_chan : (x y : Chan) → chan_number x ≡ chan_number y → x ≡ y
-one_chan x y e = let same : Some x ≡ Some y = sym (chan_at x) ∙ ap (slice_get all_chans) e ∙ chan_at y in cc
 
 one_rule : (x y : Rule) → rule_number x ≡ rule_number y → x ≡ y
 one_rule x y e = let same : Some x ≡ Some y = sym (rule_at x) ∙ ap (slice_get all_rules) e ∙ rule_at y in cc

@@ -1,11 +1,10 @@
 -- Lists in strict order: beats that rise, and rows that do.
-use Rattle.std.proofs.Common.{◌≡◌, ℕ, inl, inr, Bool, true, false, cond, List, [], ◌∷◌, ◌++◌, refl, sym, ap, subst, ◌∙◌}
-use Rattle.std.specs.Prelude.{map, filter}
+use Rattle.std.proofs.Common.{◌≡◌, ℕ, inl, inr, List, [], ◌∷◌, ◌++◌, refl, sym, ap, subst, ◌∙◌}
+use Rattle.std.specs.Prelude.{map}
 use Rattle.std.specs.declared.cmp.Ordering.{Ordering}
 use Rattle.std.specs.declared.cmp.Ordering.TheVariants.{Less, Equal, Greater}
 use Rattle.std.specs.Ordering.{nat_cmp, ordering_then, ordering_reverse}
 use Rattle.std.specs.Cmp.{IsTotalOrder}
-use Rattle.std.specs.FinMap.{nat_cmp-IsAntisymmetric}
 use Rattle.std.specs.List.{Contains}
 use Rattle.std.specs.List.Sorted.{IsStrictlySortedBy}
 use Rattle.std.proofs.lemmas.Cmp.{nat_cmp_total, tied_itself}
@@ -13,13 +12,13 @@ use Rattle.std.proofs.lemmas.List.Elements.{Contains-append_cases}
 use Rattle.tl_tables.specs.declared.Rule.{Rule}
 use Rattle.tl_tables.specs.Messages.{chan_number}
 use Rattle.tl_beats.specs.declared.Placed.{Placed}
-use Rattle.tl_beats.specs.declared.Row.{Row}
 use Rattle.tl_definitions.specs.Positions.{position_order}
 use Rattle.tl_definitions.specs.Rules.{format_order}
 use Rattle.tl_definitions.specs.Breaks.{row_of}
 use Rattle.tl_definitions.specs.Report.{by_number, key_order, RisingBeatsHaveOnePlace}
 use Rattle.tl_definitions.proofs.Lists.{contains_none, contains_here, contains_there, contains_cases, mapped_from, all_of, all_by}
-use Rattle.tl_definitions.proofs.PositionLaws.{positions_are_ordered}
+use Rattle.tl_definitions.proofs.OrderLaws.{then_less, tie_then_less}
+use Rattle.tl_definitions.proofs.PositionLaws.{position_total, positions_are_ordered}
 
 module _ {X : Type 0} (R : X → X → Ordering) (total : IsTotalOrder R) where
   -- Members of a strict list that tie are one.
@@ -47,41 +46,13 @@ module _ {X : Type 0} (R : X → X → Ordering) (total : IsTotalOrder R) where
     strict_both xs ys s.1 t (λ z y h g. above z y (contains_there x xs z h) g),
   )
 
-tie_of_rest : (o p : Ordering) → ordering_then o p ≡ Equal → p ≡ Equal
-tie_of_rest Less p h = cc
-tie_of_rest Equal p h = h
-tie_of_rest Greater p h = cc
-
-one_link : (p q : Placed) → position_order p q ≡ Equal → p.link ≡ q.link
-one_link p q tie =
-    let channel : Ordering = nat_cmp (chan_number p.beat.chan) (chan_number q.beat.chan) in
-    nat_cmp-IsAntisymmetric p.link q.link (tie_of_rest channel (nat_cmp p.link q.link) (tie_of_rest (nat_cmp p.beat.cycle q.beat.cycle) (ordering_then channel (nat_cmp p.link q.link)) tie))
-
 pub rising_beats_have_one_place : RisingBeatsHaveOnePlace
 rising_beats_have_one_place captures rises apart here there p q at_here at_there h g tie =
-    let same : here.beats ≡ there.beats = apart here there p q at_here at_there h g (one_link p q tie) in
-    let is : p ≡ q = tied_members position_order positions_are_ordered here.beats (rises here at_here) p q h (subst (λ ps. Contains ps q) (sym same) g) tie in
+    let same : here.beats ≡ there.beats = apart here there p q at_here at_there h g (((positions_are_ordered.ties p q).0 tie).2) in
+    let is : p ≡ q = tied_members position_order position_total here.beats (rises here at_here) p q h (subst (λ ps. Contains ps q) (sym same) g) tie in
     (ap (λ (x : Placed). x.fragment) is, ap (λ (x : Placed). x.line) is)
 
-pub kept_rows : (kept : Rule → Bool) (p : Placed) (rules : List Rule) → filter (λ (r : Row). kept r.rule) (map (row_of p) rules) ≡ map (row_of p) (filter kept rules)
-kept_rows kept p [] = refl
-kept_rows kept p (r ∷ rules) =
-    elim (kept r) as (λ t. cond t (row_of p r ∷ filter (λ (x : Row). kept x.rule) (map (row_of p) rules)) (filter (λ (x : Row). kept x.rule) (map (row_of p) rules)) ≡ map (row_of p) (cond t (r ∷ filter kept rules) (filter kept rules))) [
-      | true ↦ ap (λ rows. row_of p r ∷ rows) (kept_rows kept p rules)
-      | false ↦ kept_rows kept p rules
-    ]
-
 -- Rows in the order of a report.
-
-then_less : (o p : Ordering) → o ≡ Less → ordering_then o p ≡ Less
-then_less Less p h = refl
-then_less Equal p h = cc
-then_less Greater p h = cc
-
-tie_then_less : (o p : Ordering) → o ≡ Equal → p ≡ Less → ordering_then o p ≡ Less
-tie_then_less Less p h g = cc
-tie_then_less Equal p h g = g
-tie_then_less Greater p h g = cc
 
 -- A later cycle or channel decides, whatever comes after these.
 other_rest : (cycle channel link rest : Ordering) → ordering_then cycle (ordering_then channel link) ≡ Less → link ≡ Equal → ordering_then cycle (ordering_then channel rest) ≡ Less

@@ -34,8 +34,8 @@ abbrev pub is_alike : Beat → Beat → Bool
 is_alike head beat = if same_chan head.chan chan.D then same_reply head beat else same_request head beat
 
 -- Rules of a later beat, by its head and the message of that.
--- F5: its mask isn't in the lanes of its head. [byte lanes]
--- F7: it is denied and not corrupt, in a reply with data. [denied and corrupt fields]
+-- F5: on A and B its mask isn't the active lanes of its head; of a PutPartialData, isn't within them. [byte lanes]
+-- F7: it is denied and not corrupt, in a reply with data. [denied and corrupt fields; own profile: for a denied Grant]
 -- U1: it differs from its head in a field that all beats of a burst share. [serialization]
 abbrev pub breaks_later : LinkDecl → Op → Beat → Beat → Rule → Bool
 breaks_later link o head beat rule.F5 = breaks_mask link o head beat

@@ -1,5 +1,5 @@
 -- One writer or many readers: what the rules on bounds secure for each block. [TileLink 1.8: coherence]
-use Rattle.std.specs.Prelude.{◌≡◌, ℕ, ◌==◌, Bool, true, false, List, [], ◌∷◌, ◌++◌, filter, reverse}
+use Rattle.std.specs.Prelude.{◌≡◌, ℕ, ◌==◌, Bool, true, false, List, [], ◌++◌, filter, reverse}
 use Rattle.std.specs.List.{list_any, Contains}
 use Rattle.tl_tables.specs.declared.Perm.TheVariants as perm
 use Rattle.tl_tables.specs.declared.Rule.{Rule}
@@ -8,7 +8,7 @@ use Rattle.tl_beats.specs.declared.Placed.{Placed}
 use Rattle.tl_beats.specs.declared.Row.{Row}
 use Rattle.tl_definitions.specs.Past.{pasts_of}
 use Rattle.tl_definitions.specs.Rules.{Manager}
-use Rattle.tl_definitions.specs.Breaks.{rules_at, rows_in}
+use Rattle.tl_definitions.specs.Breaks.{rows_in}
 use Rattle.tl_definitions.specs.Report.{Capture, IsReport}
 
 -- The rules against claiming or granting beyond a bound.
@@ -17,11 +17,6 @@ guards_bounds rule.P1 = true
 guards_bounds rule.P2 = true
 guards_bounds rule.M1 = true
 guards_bounds _ = false
-
--- No beat so far breaks one of them.
-abbrev pub IsGuarded : Manager → List Placed → Type 0
-IsGuarded m [] = Unit {0}
-IsGuarded m (p ∷ before) = (filter guards_bounds (rules_at m before p) ≡ []) × IsGuarded m before
 
 abbrev pub is_client : Manager → ℕ → Bool
 is_client m link = list_any (λ client. client == link) m.clients

@@ -128,7 +128,7 @@ abbrev pub DeniedGivesNothing : Type 0
 DeniedGivesNothing = (exponent : ℕ) (message : Message) (before : List Message) (block : ℕ) → is_grant message.op ≡ true → message.beat.denied ≡ true
     → bound_of exponent (message ∷ before) block ≡ bound_of exponent before block
 
--- A ProbeAck or Release leaves its client what it says, and other blocks as they were.
+-- A ProbeAck or Release with a lawful param leaves its client what it says, and other blocks as they were.
 abbrev pub ReleaseLeaves : Type 0
 ReleaseLeaves = (exponent : ℕ) (message : Message) (before : List Message) (to : Perm) → (is_probe_ack message.op || is_release message.op) ≡ true
     → to_of message.op message.beat.param ≡ Some to

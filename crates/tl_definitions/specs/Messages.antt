@@ -48,19 +48,19 @@ is_request message = same_chan message.beat.chan chan.A
 abbrev pub is_reply : Message → Bool
 is_reply message = same_chan message.beat.chan chan.D && not (is_release_ack message.op)
 
--- The requests of channel A in flight, by source. [TileLink 1.8: source identifiers]
+-- The requests of channel A in flight, by source. [TileLink 1.8: source identifiers; own profile: key and ends]
 abbrev pub sources : Table Message
 sources = record { opens = is_request; closes = is_reply; key = λ message. message.beat.source }
 
--- The Releases in flight, by source. [TileLink 1.8: Release and ReleaseAck]
+-- The Releases in flight, by source. [TileLink 1.8: Release and ReleaseAck; own profile: key and ends]
 abbrev pub releases : Table Message
 releases = record { opens = λ message. is_release message.op; closes = λ message. is_release_ack message.op; key = λ message. message.beat.source }
 
--- The Grants without their GrantAck, by sink. [TileLink 1.8: sink identifiers]
+-- The Grants without their GrantAck, by sink. [TileLink 1.8: sink identifiers; own profile: key and ends]
 abbrev pub sinks : Table Message
 sinks = record { opens = λ message. is_grant message.op; closes = λ message. is_grant_ack message.op; key = λ message. message.beat.sink }
 
--- The Probes without their ProbeAck, by block. [TileLink 1.8: Probe and ProbeAck]
+-- The Probes without their ProbeAck, by block. [TileLink 1.8: Probe and ProbeAck; own profile: key and ends]
 abbrev pub probes : ℕ → Table Message
 probes exponent = record { opens = λ message. is_probe message.op; closes = λ message. is_probe_ack message.op; key = block_of exponent }
 

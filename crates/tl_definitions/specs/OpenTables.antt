@@ -1,5 +1,5 @@
 -- Tables that messages open and close, such as the requests in flight by source. `before` are the messages of a link so
--- far, the newest first. [TileLink 1.8: operations, transaction identifiers; own profile: which messages close]
+-- far, the newest first. [TileLink 1.8: operations, transaction identifiers; own profile: keys and ends]
 use Rattle.std.specs.Prelude.{◌≡◌, ℕ, ◌+◌, ◌-◌, ◌==◌, ◌&&◌, ◌||◌, not, Bool, true, false, List, [], ◌∷◌, ◌++◌, Option, Some, None, find, filter, if◌then◌else◌}
 use Rattle.std.specs.List.{AllByRecursion}
 use Rattle.std.specs.Option.{option_and_then, option_map, option_map_or}

@@ -1,9 +1,9 @@
 -- Positions: the beats of links, where they are written, and their order.
-use Rattle.std.specs.Prelude.{ℕ, ◌≡◌, ◌+◌, ◌≤◌, ◌==◌, ◌↔◌, Bool, true, false, List, [], ◌∷◌, ◌++◌, if◌then◌else◌, filter, nat_lt, slice_get, slice_index_or}
+use Rattle.std.specs.Prelude.{ℕ, ◌≡◌, ◌+◌, ◌<◌, ◌≤◌, ◌==◌, ◌↔◌, Bool, true, false, List, [], ◌∷◌, ◌++◌, if◌then◌else◌, filter, nat_lt, slice_get, slice_index_or}
 use Rattle.std.specs.Option.{option_map}
 use Rattle.std.specs.Cmp.{IsTotalOrder}
 use Rattle.std.specs.declared.cmp.Ordering.{Ordering}
-use Rattle.std.specs.declared.cmp.Ordering.TheVariants.{Less}
+use Rattle.std.specs.declared.cmp.Ordering.TheVariants.{Less, Equal}
 use Rattle.std.specs.Ordering.{nat_cmp, on, then_cmp, is_lt}
 use Rattle.std.specs.List.{list_any, Contains, AllByRecursion}
 use Rattle.tl_tables.specs.declared.Level.TheVariants as level
@@ -83,9 +83,14 @@ clients_from manager number (link ∷ links) = if link.manager == manager then n
 abbrev pub clients_of : ℕ → List LinkDecl → List ℕ
 clients_of manager decls = clients_from manager 0 decls
 
--- The order of positions is total, and two beats tie where cycle, channel and link are the same.
-abbrev pub PositionsAreOrdered : Type 0
-PositionsAreOrdered = IsTotalOrder position_order
+-- The order of positions is total, and two beats tie exactly where cycle, channel and link are the same. The lower cycle
+-- comes first, at one cycle the earlier channel, and at one cycle and channel the lower link.
+pub record PositionsAreOrdered : Type 0 where
+  pub total : IsTotalOrder position_order
+  pub ties : (p q : Placed) → (position_order p q ≡ Equal) ↔ ((p.beat.cycle ≡ q.beat.cycle) × (p.beat.chan ≡ q.beat.chan) × (p.link ≡ q.link))
+  pub by_cycle : (p q : Placed) → p.beat.cycle < q.beat.cycle → IsBefore p q
+  pub by_channel : (p q : Placed) → p.beat.cycle ≡ q.beat.cycle → chan_number p.beat.chan < chan_number q.beat.chan → IsBefore p q
+  pub by_link : (p q : Placed) → p.beat.cycle ≡ q.beat.cycle → p.beat.chan ≡ q.beat.chan → p.link < q.link → IsBefore p q
 
 -- The beat at index k of a fragment stands on line k + 2.
 abbrev pub LinesAreIndexes : Type 0

@@ -1,5 +1,5 @@
 -- The report: the rows of all broken rules, each once and in order.
-use Rattle.std.specs.Prelude.{◌≡◌, ◌↔◌, Bool, true, List, [], ◌∷◌, ◌++◌, filter}
+use Rattle.std.specs.Prelude.{◌≡◌, ◌↔◌, List, [], ◌∷◌, ◌++◌}
 use Rattle.std.specs.declared.cmp.Ordering.{Ordering}
 use Rattle.std.specs.declared.cmp.Ordering.TheVariants.{Equal}
 use Rattle.std.specs.Ordering.{nat_cmp, on, then_cmp, match_ordering}
@@ -49,11 +49,6 @@ pub record IsReport (captures : List Capture) (rows : List Row) : Type 0 where
   pub rises : IsStrictlySortedBy key_order rows
   pub members : (row : Row) → Contains rows row ↔ BreaksIn captures row
 
--- The same of some rules alone, as a checker of these reports them.
-pub record IsReportOf (kept : Rule → Bool) (captures : List Capture) (rows : List Row) : Type 0 where
-  pub rises : IsStrictlySortedBy key_order rows
-  pub members : (row : Row) → Contains rows row ↔ ((kept row.rule ≡ true) × BreaksIn captures row)
-
 -- All rows of the captures, one capture after the other.
 abbrev pub all_rows : List Capture → List Row
 all_rows [] = []
@@ -88,19 +83,6 @@ HasOnePlace captures = (here there : Capture) (p q : Placed) → Contains captur
 abbrev pub SortedRowsAreTheReport : Type 0
 SortedRowsAreTheReport = (captures : List Capture) (rows : List Row) → HasOnePlace captures → IsStrictlySortedBy row_order rows
     → ((row : Row) → Contains rows row ↔ Contains (all_rows captures) row) → IsReport captures rows
-
--- The same of some rules alone.
-abbrev pub SortedRowsAreTheirReport : Type 0
-SortedRowsAreTheirReport = (kept : Rule → Bool) (captures : List Capture) (rows : List Row) → HasOnePlace captures → IsStrictlySortedBy row_order rows
-    → ((row : Row) → Contains rows row ↔ Contains (filter (λ r. kept r.rule) (all_rows captures)) row) → IsReportOf kept captures rows
-
--- There is at most one report of some rules, and it is the part of the report that has them.
-abbrev pub OneReportOf : Type 0
-OneReportOf = (kept : Rule → Bool) (captures : List Capture) (one two : List Row) → IsReportOf kept captures one → IsReportOf kept captures two → one ≡ two
-
-abbrev pub PartsOfReports : Type 0
-PartsOfReports = (kept : Rule → Bool) (captures : List Capture) (rows : List Row) → IsReport captures rows
-    → IsReportOf kept captures (filter (λ r. kept r.rule) rows)
 
 -- So there is one, and it can be computed.
 abbrev pub ReportsAreComputed : Type 0

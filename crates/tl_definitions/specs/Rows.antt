@@ -1,7 +1,7 @@
 -- Captures with all that is found in them, and nothing else. Each expected line was worked out by hand from the rules.
 use Rattle.std.specs.Prelude.{◌≡◌, true, false, [], ◌∷◌, ◌++◌}
 use Rattle.tl_tables.specs.declared.Rule.TheVariants as rule
-use Rattle.tl_definitions.specs.Written.{a, b, c, d, e, burst, grant, fragment, found, found_with, gets, puts, only, each_kind, corrupt, row, owned}
+use Rattle.tl_definitions.specs.Written.{a, b, c, d, e, burst, grant, fragment, found, found_with, gets, puts, only, each_kind, answered, corrupt, row, shared, owned}
 
 -- What the format rules find.
 abbrev pub FormatRows : Type 0
@@ -18,6 +18,9 @@ FormatRows =
     × (found (fragment 2 1 (a 10 0 0 4 0 0x1000 0xff ∷ a 11 0 0 4 0 0x1000 0xff ∷ [])) ≡ row 2 1 2 rule.F4 ∷ [])
     -- Lanes beside the active ones, where only a partial put may have fewer.
     × (found (fragment 0 1 (a 10 1 0 1 0 0x1006 0x80 ∷ a 20 0 0 1 1 0x1006 0x80 ∷ [])) ≡ row 0 1 3 rule.F5 ∷ [])
+    -- Lanes of a partial put that aren't active, and of a later beat of one.
+    × (found (fragment 0 1 (a 10 1 0 1 0 0x1006 0xa0 ∷ a 20 1 0 4 1 0x1000 0xff ∷ a 21 1 0 4 1 0x1000 0x1ff ∷ []))
+    ≡ row 0 1 2 rule.F5 ∷ row 0 1 4 rule.F5 ∷ [])
     -- A Probe that leaves out a lane.
     × (found (fragment 0 1 (b 10 6 2 6 0 0x1000 0x7f ∷ [])) ≡ row 0 1 2 rule.F5 ∷ [])
     -- Lanes of an address off its size are those of the address rounded down.
@@ -39,8 +42,26 @@ FormatRows =
     -- Rows stand by link first, though the other link broke a rule before.
     × (found (fragment 0 1 (a 20 4 0 3 0 0x1004 0xff ∷ []) ++ fragment 1 1 (a 10 4 0 3 0 0x1004 0xff ∷ []))
     ≡ row 0 1 2 rule.F3 ∷ row 1 1 2 rule.F3 ∷ [])
+    -- Then by cycle, and in one cycle by channel before rule.
+    × (found (fragment 0 1 (a 10 4 0 3 4 0x1000 0xff ∷ d 10 4 3 6 0 1 false ∷ []))
+    ≡ row 0 1 2 rule.F9 ∷ row 0 1 3 rule.F2 ∷ row 0 1 3 rule.S2 ∷ [])
+    -- Param 1 where 0 is the only lawful one: Puts, Get, a Release that is sound, AccessAcks, AccessAckData, ReleaseAck.
+    × (found (fragment 0 1 (a 10 0 1 3 0 0x1000 0xff ∷ a 11 1 1 3 1 0x1000 0xff ∷ a 12 4 1 3 2 0x1000 0xff ∷ c 13 6 5 6 0 0x1000 ∷
+    d 20 0 1 3 0 0 false ∷ d 21 0 1 3 1 0 false ∷ d 22 1 1 3 2 0 false ∷ d 23 6 1 6 0 0 false ∷ []))
+    ≡ row 0 1 2 rule.F2 ∷ row 0 1 3 rule.F2 ∷ row 0 1 4 rule.F2 ∷ row 0 1 6 rule.F2 ∷ row 0 1 7 rule.F2 ∷ row 0 1 8 rule.F2 ∷ row 0 1 9 rule.F2 ∷ [])
+    -- The last lawful params of channel A: both atomics, Intent, both Acquires, which claim what was never held.
+    × (found (fragment 0 1 (a 10 2 4 3 0 0x1000 0xff ∷ a 11 3 3 3 1 0x1000 0xff ∷ a 12 5 1 3 2 0x1000 0xff ∷ a 13 6 2 6 3 0x1000 0xff ∷ [])
+    ++ fragment 1 1 (a 10 7 2 6 0 0x1000 0xff ∷ [])) ≡ row 0 1 5 rule.P1 ∷ row 1 1 2 rule.P1 ∷ [])
+    -- The next params of the same messages.
+    × (found (fragment 0 1 (a 10 2 5 3 0 0x1000 0xff ∷ a 11 3 4 3 1 0x1000 0xff ∷ a 12 5 2 3 2 0x1000 0xff ∷ a 13 6 3 6 3 0x1000 0xff ∷ [])
+    ++ fragment 1 1 (a 10 7 3 6 0 0x1000 0xff ∷ []))
+    ≡ row 0 1 2 rule.F2 ∷ row 0 1 3 rule.F2 ∷ row 0 1 4 rule.F2 ∷ row 0 1 5 rule.F2 ∷ row 1 1 2 rule.F2 ∷ [])
+    -- The first unlawful params of ProbePerm, ProbeAck, Release, ProbeAckData and ReleaseData.
+    × (found (fragment 0 1 (b 10 7 3 6 0 0x2000 0xff ∷ c 20 4 6 6 0 0x1000 ∷ c 21 6 6 6 0 0x1040 ∷
+    burst 8 22 (λ cycle. c cycle 5 6 6 0 0x1080) ++ burst 8 30 (λ cycle. c cycle 7 6 6 1 0x10c0)))
+    ≡ row 0 1 2 rule.F2 ∷ row 0 1 3 rule.F2 ∷ row 0 1 3 rule.P3 ∷ row 0 1 4 rule.F2 ∷ row 0 1 5 rule.F2 ∷ row 0 1 5 rule.P3 ∷ row 0 1 13 rule.F2 ∷ [])
     -- Sizes over the limit on C, D and B.
-    × (found (fragment 0 1 (c 10 6 5 7 0 0x1000 ∷ d 20 1 0 7 0 0 false ∷ b 30 4 0 7 0 0x1000 0xff ∷ []))
+    × (found (fragment 0 1 (c 10 6 5 8 0 0x1000 ∷ d 20 1 0 8 0 0 false ∷ b 30 4 0 8 0 0x1000 0xff ∷ []))
     ≡ row 0 1 2 rule.F4 ∷ row 0 1 2 rule.F8 ∷ row 0 1 3 rule.F4 ∷ row 0 1 3 rule.S2 ∷ row 0 1 4 rule.F4 ∷ [])
     -- Corrupt messages without data on C and D.
     × (found (fragment 0 1 (corrupt (c 10 6 5 6 0 0x1000) ∷ corrupt (d 20 6 0 6 0 0 false) ∷ [])) ≡ row 0 1 2 rule.F6 ∷ row 0 1 3 rule.F6 ∷ [])
@@ -48,18 +69,39 @@ FormatRows =
     × (found (fragment 0 1 (c 10 6 5 6 4 0x1000 ∷ d 20 6 0 6 4 0 false ∷ b 30 6 2 6 4 0x2000 0xff ∷ []))
     ≡ row 0 1 2 rule.F9 ∷ row 0 1 3 rule.F9 ∷ row 0 1 4 rule.F9 ∷ [])
 
+-- What links of each level and width speak.
+abbrev pub LevelRows : Type 0
+LevelRows =
+    -- On TL-UH atomics and Intent are spoken, and on a link of 4 bytes 8 bytes have two beats.
+    (found (fragment 3 1 (a 10 2 0 3 0 0x1000 0x0f ∷ a 11 2 0 3 0 0x1000 0x0f ∷ d 20 1 0 3 0 0 false ∷ d 21 1 0 3 0 0 false ∷ a 30 5 0 3 1 0x1000 0x0f ∷
+    d 40 2 0 3 1 0 false ∷ [])) ≡ [])
+    -- Acquire, Probe, Release, Grant and GrantAck aren't spoken there.
+    × (found (fragment 3 1 (a 10 6 0 6 0 0x1000 0x0f ∷ b 11 6 2 6 0 0x1000 0x0f ∷ c 12 6 5 6 0 0x1000 ∷ d 13 4 0 6 0 0 false ∷ e 14 0 ∷ []))
+    ≡ row 3 1 2 rule.F1 ∷ row 3 1 3 rule.F1 ∷ row 3 1 4 rule.F1 ∷ row 3 1 5 rule.F1 ∷ row 3 1 6 rule.F1 ∷ [])
+    -- Lanes of a link of 4 bytes.
+    × (found (fragment 3 1 (a 10 0 0 1 0 0x1006 0x0c ∷ a 20 0 0 0 1 0x1005 0x02 ∷ [])) ≡ [])
+    -- Atomics and Intent aren't spoken on TL-UL.
+    × (found (fragment 2 1 (a 10 2 0 3 0 0x1000 0xff ∷ a 11 3 0 3 0 0x1000 0xff ∷ a 12 5 0 3 0 0x1000 0xff ∷ []))
+    ≡ row 2 1 2 rule.F1 ∷ row 2 1 3 rule.F1 ∷ row 2 1 4 rule.F1 ∷ [])
+    -- Opcodes without a message on C and D.
+    × (found (fragment 0 1 (c 10 3 0 3 0 0x1000 ∷ d 20 3 0 3 0 0 false ∷ d 21 7 0 3 0 0 false ∷ []))
+    ≡ row 0 1 2 rule.F1 ∷ row 0 1 3 rule.F1 ∷ row 0 1 4 rule.F1 ∷ [])
+
 -- What the regions of the manager permit.
 abbrev pub RegionRows : Type 0
 RegionRows =
-    -- A Get with its reply in one cycle, without regions.
-    (found_with [] (fragment 2 1 (a 10 4 0 3 0 0x1000 0xff ∷ d 10 1 0 3 0 0 false ∷ [])) ≡ [])
     -- A region that permits the kind holds the bytes.
-    × (found_with (gets ∷ puts ∷ []) (fragment 2 1 (a 10 4 0 3 0 0x1000 0xff ∷ d 10 1 0 3 0 0 false ∷ [])) ≡ [])
+    (found_with (gets ∷ puts ∷ []) (fragment 2 1 (a 10 4 0 3 0 0x1000 0xff ∷ d 10 1 0 3 0 0 false ∷ [])) ≡ [])
     -- No region that permits the kind holds the bytes.
     × (found_with (puts ∷ []) (fragment 2 1 (a 10 4 0 3 0 0x1000 0xff ∷ d 10 1 0 3 0 0 false ∷ [])) ≡ row 2 1 2 rule.F10 ∷ [])
     -- The last bytes of a region, and the next.
     × (found_with (gets ∷ []) (fragment 2 1 (a 10 4 0 3 0 0x1ff8 0xff ∷ d 20 1 0 3 0 0 false ∷ a 30 4 0 3 0 0x2000 0xff ∷ d 40 1 0 3 0 0 false ∷ []))
     ≡ row 2 1 4 rule.F10 ∷ [])
+    -- Two regions hold the bytes together, and neither by itself; and what each holds.
+    × (found_with (record gets { last = 0x1ffb } ∷ record gets { first = 0x1ffc } ∷ []) (fragment 2 1 (a 10 4 0 3 0 0x1ff8 0xff ∷ d 20 1 0 3 0 0 false ∷
+    a 30 4 0 2 0 0x1ff8 0x0f ∷ d 40 1 0 2 0 0 false ∷ a 50 4 0 2 0 0x1ffc 0xf0 ∷ [])) ≡ row 2 1 2 rule.F10 ∷ [])
+    -- The bytes of an address off its size begin at the address rounded down.
+    × (found_with (gets ∷ []) (fragment 2 1 (a 10 4 0 3 0 0x1ffc 0xff ∷ [])) ≡ row 2 1 2 rule.F3 ∷ [])
     -- A region that holds the bytes permits another kind.
     × (found_with (gets ∷ []) (fragment 2 1 (a 10 0 0 3 0 0x1000 0xff ∷ d 20 0 0 3 0 0 false ∷ [])) ≡ row 2 1 2 rule.F10 ∷ [])
     -- The first bytes of a region, and those before.
@@ -99,6 +141,11 @@ BurstRows =
     d 24 5 0 6 1 1 false ∷ d 25 5 0 6 0 2 false ∷ d 26 5 0 6 0 1 true ∷ []))
     ≡ row 0 1 4 rule.U1 ∷ row 0 1 5 rule.U1 ∷ row 0 1 6 rule.U1 ∷ row 0 1 7 rule.U1 ∷ row 0 1 8 rule.U1 ∷ row 0 1 9 rule.F7 ∷ row 0 1 9 rule.U1 ∷
     [])
+    -- Later beats on C and on B with another address.
+    × (found (fragment 0 1 (c 10 7 5 6 0 0x1000 ∷ c 11 7 5 6 0 0x1000 ∷ c 12 7 5 6 0 0x1040 ∷ burst 5 13 (λ cycle. c cycle 7 5 6 0 0x1000)))
+    ≡ row 0 1 4 rule.U1 ∷ [])
+    × (found (fragment 0 1 (b 10 0 0 6 0 0x1000 0xff ∷ b 11 0 0 6 0 0x1000 0xff ∷ b 12 0 0 6 0 0x1040 0xff ∷ burst 5 13 (λ cycle. b cycle 0 0 6 0 0x1000 0xff)))
+    ≡ row 0 1 4 rule.U1 ∷ [])
     -- A later beat of data is denied and has another opcode.
     × (found (fragment 0 1 (a 10 4 0 6 0 0x1000 0xff ∷ d 20 1 0 6 0 0 false ∷ d 21 0 0 6 0 0 true ∷ burst 6 22 (λ cycle. d cycle 1 0 6 0 0 false)))
     ≡ row 0 1 4 rule.F7 ∷ row 0 1 4 rule.U1 ∷ [])
@@ -134,7 +181,7 @@ FlowRows =
     × (found (fragment 0 1 (c 10 6 5 6 0 0x1000 ∷ c 20 6 5 6 0 0x1040 ∷ d 30 6 0 5 0 0 false ∷ d 40 6 0 6 0 0 false ∷ []))
     ≡ row 0 1 3 rule.S6 ∷ row 0 1 4 rule.F8 ∷ row 0 1 4 rule.S7 ∷ row 0 1 5 rule.S5 ∷ [])
     -- Two Grants on one sink.
-    × (found (fragment 0 1 (a 10 7 0 6 0 0x1000 0xff ∷ a 11 7 0 6 1 0x1040 0xff ∷ d 20 4 1 6 0 1 false ∷ d 30 4 1 6 1 1 false ∷ e 40 1 ∷ e 50 1 ∷ []))
+    × (found (fragment 0 1 (a 10 7 0 6 0 0x1000 0xff ∷ a 11 7 0 6 1 0x1040 0xff ∷ d 20 4 1 6 0 3 false ∷ d 30 4 1 6 1 3 false ∷ e 40 3 ∷ e 50 3 ∷ []))
     ≡ row 0 1 5 rule.S8 ∷ row 0 1 7 rule.S9 ∷ [])
     -- A Grant in two fragments of one link, beside another link.
     × (found (fragment 0 1 (a 4000 6 0 6 0 0x1000 0xff ∷ []) ++ fragment 0 2 (grant 4092 1 3 ++ e 4100 3 ∷ [])
@@ -143,19 +190,42 @@ FlowRows =
     × (found (fragment 0 2 (grant 4092 1 3 ++ e 4100 3 ∷ []) ++ fragment 2 1 (a 8200 4 0 3 0 0x1000 0xff ∷ d 8210 1 0 3 0 0 false ∷ []))
     ≡ row 0 2 2 rule.S2 ∷ [])
 
+-- What is found in replies to requests of each kind: Get, both Puts and Arithmetic; Logical, Intent, both Acquires.
+abbrev pub ReplyRows : Type 0
+ReplyRows =
+    -- Each has its own reply.
+    (found (answered 1 0 0 1 1 2 4 4) ≡ [])
+    -- AccessAck to all but the Puts, and AccessAckData to these.
+    × (found (answered 0 1 1 0 0 0 0 0)
+    ≡ row 0 2 2 rule.S3 ∷ row 0 2 3 rule.S3 ∷ row 0 2 4 rule.S3 ∷ row 0 2 5 rule.S3 ∷ row 1 2 2 rule.S3 ∷ row 1 2 3 rule.S3 ∷ row 1 2 4 rule.S3 ∷
+    row 1 2 5 rule.S3 ∷ [])
+    -- HintAck to all but Intent, and AccessAckData to this.
+    × (found (answered 2 2 2 2 2 1 2 2)
+    ≡ row 0 2 2 rule.S3 ∷ row 0 2 3 rule.S3 ∷ row 0 2 4 rule.S3 ∷ row 0 2 5 rule.S3 ∷ row 1 2 2 rule.S3 ∷ row 1 2 3 rule.S3 ∷ row 1 2 4 rule.S3 ∷
+    row 1 2 5 rule.S3 ∷ [])
+    -- Grant to all; those of accesses aren't of a block.
+    × (found (answered 4 4 4 4 4 4 4 4)
+    ≡ row 0 2 2 rule.F8 ∷ row 0 2 2 rule.S3 ∷ row 0 2 3 rule.F8 ∷ row 0 2 3 rule.S3 ∷ row 0 2 4 rule.F8 ∷ row 0 2 4 rule.S3 ∷ row 0 2 5 rule.F8 ∷
+    row 0 2 5 rule.S3 ∷ row 1 2 2 rule.F8 ∷ row 1 2 2 rule.S3 ∷ row 1 2 3 rule.F8 ∷ row 1 2 3 rule.S3 ∷ [])
+
 -- What is found in claims beyond a bound.
 abbrev pub BoundRows : Type 0
 BoundRows =
     -- A whole Acquire.
     (found (fragment 0 1 (a 4000 6 0 6 0 0x1000 0xff ∷ grant 4092 1 3 ++ e 4100 3 ∷ [])) ≡ [])
     -- A reader becomes the writer.
-    × (found (fragment 0 1 (a 10 7 0 6 0 0x1000 0xff ∷ d 20 4 1 6 0 1 false ∷ e 30 1 ∷ a 40 7 2 6 0 0x1000 0xff ∷ d 50 4 0 6 0 1 false ∷ e 60 1 ∷ [])) ≡ [])
+    × (found (fragment 0 1 (shared ++ a 40 7 2 6 0 0x1000 0xff ∷ d 50 4 0 6 0 1 false ∷ e 60 1 ∷ [])) ≡ [])
     -- Claiming less than was granted is lawful, and a denied Grant gives nothing.
     × (found (fragment 0 1 (owned ++ a 40 6 0 6 0 0x1000 0xff ∷ d 50 4 1 6 0 1 true ∷ e 60 1 ∷ a 70 7 2 6 0 0x1000 0xff ∷ [])) ≡ row 0 1 15 rule.P1 ∷ [])
     -- A Release of what was never held.
     × (found (fragment 0 1 (c 10 6 1 6 0 0x1000 ∷ [])) ≡ row 0 1 2 rule.P2 ∷ [])
     -- A reader releases as a writer.
-    × (found (fragment 0 1 (a 10 7 0 6 0 0x1000 0xff ∷ d 20 4 1 6 0 1 false ∷ e 30 1 ∷ c 40 6 3 6 0 0x1000 ∷ [])) ≡ row 0 1 5 rule.P2 ∷ [])
+    × (found (fragment 0 1 (shared ++ c 40 6 3 6 0 0x1000 ∷ [])) ≡ row 0 1 5 rule.P2 ∷ [])
+    -- A reader releases from B to N, and has nothing left to release.
+    × (found (fragment 0 1 (shared ++ c 40 6 2 6 0 0x1000 ∷ d 50 6 0 6 0 0 false ∷ c 60 6 2 6 0 0x1000 ∷ [])) ≡ row 0 1 7 rule.P2 ∷ [])
+    -- A reader answers a Probe from B to N, and then another.
+    × (found (fragment 0 1 (shared ++ b 40 6 2 6 0 0x1000 0xff ∷ c 50 4 2 6 0 0x1000 ∷ b 60 6 2 6 0 0x1000 0xff ∷ c 70 4 2 6 0 0x1000 ∷ []))
+    ≡ row 0 1 8 rule.P2 ∷ [])
     -- A Grant that is no reply to its Acquire sets the bound.
     × (found (fragment 0 1 (a 10 7 1 6 0 0x1000 0xff ∷ grant 20 0 1 ++ e 30 1 ∷ c 40 6 1 6 0 0x1000 ∷ [])) ≡ row 0 1 3 rule.S3 ∷ [])
     -- An Acquire with an unlawful param claims nothing and has a block.
@@ -184,6 +254,8 @@ ConcurrencyRows =
     × (found (fragment 0 1 (c 10 4 5 6 0 0x1000 ∷ [])) ≡ row 0 1 2 rule.P3 ∷ [])
     -- An answer that keeps more than the Probe allows.
     × (found (fragment 0 1 (owned ++ b 40 6 2 6 0 0x1000 0xff ∷ c 50 4 4 6 0 0x1000 ∷ [])) ≡ row 0 1 13 rule.P4 ∷ [])
+    -- A Release that keeps more than an open Probe allows, and an Acquire of more: neither answers it.
+    × (found (fragment 0 1 (owned ++ b 40 6 2 6 0 0x1000 0xff ∷ c 42 6 0 6 1 0x1000 ∷ d 50 6 0 6 1 0 false ∷ a 60 6 1 6 0 0x1000 0xff ∷ [])) ≡ [])
     -- Two Probes of one block.
     × (found (fragment 0 1 (owned ++ b 40 6 2 6 0 0x1000 0xff ∷ b 41 6 2 6 0 0x1000 0xff ∷ c 50 4 1 6 0 0x1000 ∷ [])) ≡ row 0 1 13 rule.P5 ∷ [])
     -- Two Acquires of one block.
@@ -200,8 +272,8 @@ ConcurrencyRows =
     × (found (fragment 0 1 (owned ++ b 40 6 3 6 0 0x1000 0xff ∷ c 50 4 3 6 0 0x1000 ∷ [])) ≡ row 0 1 12 rule.F2 ∷ [])
     -- A Get of the block is no Acquire of it.
     × (found (fragment 0 1 (a 10 4 0 6 0 0x1000 0xff ∷ a 11 6 1 6 1 0x1000 0xff ∷ c 12 6 5 6 0 0x1040 ∷ [])) ≡ [])
-    -- Two ProbePerms of one block.
-    × (found (fragment 0 1 (b 10 7 2 6 0 0x1000 0xff ∷ b 11 7 2 6 0 0x1000 0xff ∷ [])) ≡ row 0 1 3 rule.P5 ∷ [])
+    -- Two ProbePerms of one block, and one of another.
+    × (found (fragment 0 1 (b 10 7 2 6 0 0x1000 0xff ∷ b 11 7 2 6 0 0x1000 0xff ∷ b 12 7 2 6 0 0x1040 0xff ∷ [])) ≡ row 0 1 3 rule.P5 ∷ [])
     -- A ProbeAckData answers its Probe and leaves what it says.
     × (found (fragment 0 1 (owned ++ b 40 6 1 6 0 0x1000 0xff ∷ burst 8 50 (λ cycle. c cycle 5 0 6 0 0x1000) ++ b 70 6 2 6 0 0x1000 0xff ∷ c 80 4 1 6 0 0x1000 ∷ []))
     ≡ row 0 1 22 rule.P2 ∷ [])
@@ -217,13 +289,21 @@ ManagerRows =
     ≡ row 0 2 2 rule.S2 ∷ [])
     -- A block is granted to write to two clients.
     × (found (fragment 0 1 owned ++ fragment 1 1 (a 100 6 1 6 0 0x1000 0xff ∷ grant 200 0 2 ++ e 210 2 ∷ [])) ≡ row 1 1 3 rule.M1 ∷ [])
-    -- The same with a Probe of the first between.
+    -- In one cycle, where the lower link's Grant is the first.
+    × (found (fragment 0 1 (a 10 6 1 6 0 0x1000 0xff ∷ d 20 4 0 6 0 1 false ∷ []) ++ fragment 1 1 (a 10 6 1 6 0 0x1000 0xff ∷ d 20 4 0 6 0 1 false ∷ []))
+    ≡ row 1 1 3 rule.M1 ∷ [])
+    -- In the cycle of the other client's ProbeAck, which comes before it.
+    × (found (fragment 0 1 (a 100 6 1 6 0 0x1000 0xff ∷ d 120 4 0 6 0 1 false ∷ [])
+    ++ fragment 1 1 (owned ++ b 110 6 2 6 0 0x1000 0xff ∷ c 120 4 1 6 0 0x1000 ∷ [])) ≡ [])
+    -- With a Probe of the first between.
     × (found (fragment 0 1 owned ++ fragment 1 1 (a 100 6 1 6 0 0x1000 0xff ∷ grant 200 0 2 ++ e 210 2 ∷ [])
     ++ fragment 0 2 (b 110 6 2 6 0 0x1000 0xff ∷ c 120 4 1 6 0 0x1000 ∷ [])) ≡ [])
     -- Two readers, then a writer.
-    × (found (fragment 1 1 (a 10 7 0 6 0 0x1000 0xff ∷ d 20 4 1 6 0 1 false ∷ e 30 1 ∷ [])
+    × (found (fragment 1 1 shared
     ++ fragment 0 1 (a 100 7 0 6 0 0x1000 0xff ∷ d 110 4 1 6 0 1 false ∷ e 120 1 ∷ a 130 7 2 6 0 0x1000 0xff ∷ d 140 4 0 6 0 1 false ∷ e 150 1 ∷ []))
     ≡ row 0 1 6 rule.M1 ∷ [])
+    -- An Acquire that claims to share beside a writer is no Grant.
+    × (found (fragment 1 1 owned ++ fragment 0 1 (a 100 7 2 6 0 0x1000 0xff ∷ [])) ≡ row 0 1 2 rule.P1 ∷ [])
     -- A Grant toN beside a writer.
     × (found (fragment 1 1 owned ++ fragment 0 1 (a 100 7 1 6 0 0x1000 0xff ∷ d 110 4 2 6 0 1 false ∷ e 120 1 ∷ [])) ≡ [])
     -- A Grant of a block that is being probed.
@@ -239,5 +319,6 @@ ManagerRows =
     ++ fragment 1 1 (b 15 6 2 6 0 0x1000 0xff ∷ c 22 4 5 6 0 0x1000 ∷ b 25 6 2 6 0 0x1000 0xff ∷ [])) ≡ row 0 1 3 rule.M2 ∷ row 1 1 4 rule.M3 ∷ [])
     -- A Probe and a Grant of different blocks.
     × (found (fragment 0 1 (a 10 7 1 6 0 0x1000 0xff ∷ b 15 6 2 6 0 0x1040 0xff ∷ d 20 4 0 6 0 1 false ∷ b 25 6 2 6 0 0x1080 0xff ∷ [])) ≡ [])
-    -- A Grant that answers a Get has no block.
-    × (found (fragment 1 1 owned ++ fragment 0 1 (a 100 4 0 6 0 0x1000 0xff ∷ d 110 4 0 6 0 1 false ∷ [])) ≡ row 0 1 3 rule.S3 ∷ [])
+    -- A Grant that answers a Get has no block, so a Probe doesn't meet it.
+    × (found (fragment 1 1 owned ++ fragment 0 1 (a 100 4 0 6 0 0x1000 0xff ∷ d 110 4 0 6 0 1 false ∷ b 120 6 2 6 0 0x1000 0xff ∷ []))
+    ≡ row 0 1 3 rule.S3 ∷ [])

@@ -68,7 +68,7 @@ breaks_denied o head beat = same_chan head.chan chan.D && carries_data_of o && b
 -- F4: on A to D the size is above the link's largest. [size field; own profile: the link's largest]
 -- F5: on A and B the mask isn't the active lanes; of a PutPartialData, isn't within them. [byte lanes]
 -- F6: on A to D corrupt is high on a message without data. [corrupt field]
--- F7: on D data is denied and not corrupt. [denied and corrupt fields]
+-- F7: on D data is denied and not corrupt. [denied and corrupt fields; own profile: for a denied Grant]
 -- F8: a message of a block has another size than the manager's block. [transfer operations; own profile: one block size]
 -- F9: on A to D the source isn't below the link's number of sources. [source field]
 -- F10: on A the manager has regions, and none permits the kind of access to all its bytes. [own profile]
@@ -162,7 +162,8 @@ abbrev pub conflicts_with_other : List ℕ → (ℕ → ClientPast) → ℕ → 
 conflicts_with_other clients pasts link (block, set) = list_any (λ client. not (client == link) && conflicts set ((pasts client).bound block)) clients
 
 -- Manager rules of a head on a link, by the pasts of all the manager's links, with or without beats nearby.
--- M1: a Grant gives what another client's bound forbids: T where that isn't N, or B where it is T. [coherence]
+-- M1: a Grant gives what another client's bound forbids: T where that isn't N, or B where it is T. [coherence; own profile:
+-- over all clients of the manager]
 -- M2: a Grant while a client has an open Probe on the block. [own profile, after the concurrency rules]
 -- M3: a Probe while a client has an open Grant on the block. [own profile, after the concurrency rules]
 abbrev pub breaks_manager : List ℕ → ℕ → (ℕ → ClientPast) → ℕ → Message → Rule → Bool

@@ -60,15 +60,19 @@ burst (suc n) cycle beat = beat cycle ∷ burst n (cycle + 1) beat
 abbrev pub fragment : ℕ → ℕ → List Beat → List Placed
 fragment link number beats = placed_beats (record { link = link; number = number; first = 0; last = 99999; beats = beats })
 
--- One manager of 64-byte blocks without regions, with two links of level TL-C, numbers 0 and 1, and one of TL-UL, number 2.
+-- One manager of 64-byte blocks without regions, with two links of level TL-C, numbers 0 and 1, one of TL-UL, number 2, and
+-- a narrow one of TL-UH, number 3.
 abbrev pub cached : LinkDecl
-cached = record { name = []; manager = 0; level = level.C; width = 8; max_size = 6; sources = 4 }
+cached = record { name = []; manager = 0; level = level.C; width = 8; max_size = 7; sources = 4 }
 
 abbrev pub uncached : LinkDecl
 uncached = record { name = []; manager = 0; level = level.Ul; width = 8; max_size = 3; sources = 2 }
 
+abbrev pub narrow : LinkDecl
+narrow = record { name = []; manager = 0; level = level.Uh; width = 4; max_size = 6; sources = 2 }
+
 abbrev pub decls : List LinkDecl
-decls = cached ∷ cached ∷ uncached ∷ []
+decls = cached ∷ cached ∷ uncached ∷ narrow ∷ []
 
 abbrev pub with_regions : List Area → Manager
 with_regions regions = record { links = links_of decls; clients = clients_of 0 decls; exponent = 6; regions = regions }
@@ -89,6 +93,13 @@ abbrev pub each_kind : List Placed
 each_kind =
     fragment 0 1 (a 10 4 0 3 0 0x1000 0xff ∷ a 11 0 0 3 1 0x1000 0xff ∷ a 12 1 0 3 2 0x1000 0xff ∷ a 13 2 0 3 3 0x1000 0xff ∷ [])
     ++ fragment 1 1 (a 10 3 0 3 0 0x1000 0xff ∷ a 11 5 0 3 1 0x1000 0xff ∷ a 12 6 0 6 2 0x1000 0xff ∷ a 13 7 0 6 3 0x1040 0xff ∷ [])
+
+-- The same, and a reply of channel D to each in that order, with these opcodes, all other fields fitting.
+abbrev pub answered : ℕ → ℕ → ℕ → ℕ → ℕ → ℕ → ℕ → ℕ → List Placed
+answered get full partial arithmetic logical intent block perm =
+    each_kind
+    ++ fragment 0 2 (d 20 get 0 3 0 0 false ∷ d 21 full 0 3 1 1 false ∷ d 22 partial 0 3 2 2 false ∷ d 23 arithmetic 0 3 3 3 false ∷ [])
+    ++ fragment 1 2 (d 20 logical 0 3 0 0 false ∷ d 21 intent 0 3 1 1 false ∷ d 22 block 0 6 2 2 false ∷ d 23 perm 0 6 3 3 false ∷ [])
 
 -- A line of a report: link, fragment, line of the fragment's text, rule.
 pub record Line : Type 0 where
@@ -113,6 +124,10 @@ found beats = found_with [] beats
 -- The eight beats of a GrantData of a block of 64 bytes: from a cycle on, its cap, its sink.
 abbrev pub grant : ℕ → ℕ → ℕ → List Beat
 grant cycle cap sink = burst 8 cycle (λ at. d at 5 cap 6 0 sink false)
+
+-- An Acquire to B of the block 1000, its Grant of one beat, and its GrantAck.
+abbrev pub shared : List Beat
+shared = a 10 7 0 6 0 0x1000 0xff ∷ d 20 4 1 6 0 1 false ∷ e 30 1 ∷ []
 
 -- An Acquire to T of the block 1000, its Grant of eight beats, and its GrantAck.
 abbrev pub owned : List Beat

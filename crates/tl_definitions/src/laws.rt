@@ -2,7 +2,7 @@
 
 ghost use Rattle.tl_definitions.specs.Laws.{HeadsAreByBursts, LaterBeatsHaveAHead, OneBeatIsAll, OneBeatMessagesAreHeads, MessagesOwnTheirBeats, UnfinishedIsTheRest, EntriesAreOpen, OneEntry, CountsAreOfOpen, BlockCountsAreOfOpen, RequestsAreOpen, FittingRepliesAreSound, NoMessageBreaksF1Alone, FormatNeedsNoPast, BlocksHoldTheirAddresses, BoundsAreLastSet, DeniedGivesNothing, ReleaseLeaves, OnlyGrantsRaise};
 
-/// A beat is a head exactly where it is the first of its channel, or a head's beats end before it.
+/// A beat is a head exactly where it is the first of its channel, or a head's beats end right before it.
 #[tactic(auto, using(crate::proofs::HeadLaws::heads_by_bursts))]
 pub fn heads_are_by_bursts()
     ensures { HeadsAreByBursts }
@@ -96,7 +96,7 @@ pub fn denied_gives_nothing()
     ensures { DeniedGivesNothing }
 {}
 
-/// A ProbeAck or Release leaves its client what it says, and so nothing above that.
+/// A ProbeAck or Release with a lawful param leaves its client what it says, and so nothing above that.
 #[tactic(auto, using(crate::proofs::BoundLaws::release_leaves))]
 pub fn release_leaves()
     ensures { ReleaseLeaves }

@@ -14,6 +14,8 @@ use tl_beats::Beat;
 /// A burst with beats still to come: its head, and how many are missing.
 #[derive(Clone, Copy, Debug, PartialEq, Eq)]
 pub struct Unfinished {
+    /// The first beat of the message.
     pub head: Beat,
+    /// How many beats are still to come, 1 to 32,767.
     pub missing: u16,
 }

@@ -2,7 +2,7 @@
 
 ghost use Rattle.tl_definitions.specs.Positions.{PositionsAreOrdered, LinesAreIndexes, RangesRise, BeatsAreOfFragments, BeatsAreInOrder};
 
-/// Positions have a total order: by cycle, then channel, then link.
+/// Positions have a total order: by cycle, then channel, then link, and beats tie only where all three are the same.
 pub fn positions_are_ordered()
     ensures { PositionsAreOrdered }
 {}

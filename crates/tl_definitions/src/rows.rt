@@ -1,11 +1,17 @@
 //! What is found in captures that are written out.
 
-ghost use Rattle.tl_definitions.specs.Rows.{FormatRows, RegionRows, BurstRows, FlowRows, BoundRows, ConcurrencyRows, ManagerRows};
+ghost use Rattle.tl_definitions.specs.Rows.{FormatRows, LevelRows, RegionRows, BurstRows, FlowRows, ReplyRows, BoundRows, ConcurrencyRows, ManagerRows};
 
 /// Opcodes, params, addresses, sizes, lanes and sources of heads.
 #[tactic(auto, using(crate::proofs::RowLaws::format_rows))]
 pub fn format_rows()
     ensures { FormatRows }
+{}
+
+/// Messages of links of each level and width.
+#[tactic(auto, using(crate::proofs::RowLaws::level_rows))]
+pub fn level_rows()
+    ensures { LevelRows }
 {}
 
 /// Accesses within and beside the regions of a manager.
@@ -24,6 +30,12 @@ pub fn burst_rows()
 #[tactic(auto, using(crate::proofs::RowLaws::flow_rows))]
 pub fn flow_rows()
     ensures { FlowRows }
+{}
+
+/// Requests of each kind with replies of other kinds.
+#[tactic(auto, using(crate::proofs::RowLaws::reply_rows))]
+pub fn reply_rows()
+    ensures { ReplyRows }
 {}
 
 /// Claims and what clients can hold.

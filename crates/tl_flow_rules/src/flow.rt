@@ -81,7 +81,7 @@ impl FlowState {
         }
     }
 
-    /// A state that shows the same.
+    /// A state that shows the same. AllocError where memory is refused.
     #[tactic(auto, using(crate::proofs::SameLaws::shown_by_entries))]
     pub fn copy(&self) -> Result<FlowState, AllocError>
         ensures { IfOk result (λ copy. SameFlow self.now copy) }
@@ -95,7 +95,7 @@ impl FlowState {
 
     /// The flow rules that the next head of the link breaks and the request that it answers, by what is open before it; then
     /// what it opens and closes. A head whose opcode is no message breaks none and changes nothing. A later beat is no
-    /// message: the state is not stepped by it. At want of memory nothing has changed.
+    /// message: the state is not stepped by it. AllocError where memory is refused: then nothing has changed.
     /// [TileLink 1.8: operations, source and sink identifiers]
     #[tactic(auto, using(crate::proofs::FlowLaws::rules_law, crate::proofs::FlowLaws::request_law))]
     pub fn step(

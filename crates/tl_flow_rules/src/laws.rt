@@ -2,7 +2,7 @@
 
 ghost use Rattle.tl_flow_rules.specs.Laws.{OpenedStaysOpen, RepliesCloseTheirSource, RepliesLeaveNoRequest, HeadsAreMessages, LaterBeatsAreNoMessages, LinksAreApart, FlowNeedsItsLinkAlone, HeadsAreStoodFor, LaterBeatsAreStoodFor, FoundRulesAreBroken};
 
-/// What is opened and not closed stays open: a request, a Release, a Grant.
+/// Where a key was opened and no newer message closed it, some opener of that key is open: a request, a Release, a Grant.
 #[tactic(auto, using(crate::proofs::OpenLaws::opened_stays_open))]
 pub fn opened_stays_open()
     ensures { OpenedStaysOpen }

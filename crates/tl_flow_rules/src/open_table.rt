@@ -28,8 +28,8 @@ impl<K: Ord + Drop, V: Drop> OpenTable<K, V> {
         }
     }
 
-    /// Opens the key, and answers the entry that was open on it, which this one replaces. Nothing has changed where there
-    /// is no memory for it.
+    /// Opens the key, and answers the entry that was open on it, which this one replaces. AllocError where memory is
+    /// refused: then nothing has changed.
     pub fn open(&mut self, key: K, value: V) -> Result<Option<V>, AllocError>
         ensures old { IfOk result (λ old. old ≡ entry_of K.cmp self.old key) }
         ensures ok { OnOk result (Updates K.cmp self.old.entries self.new.entries key (Some value)) }
@@ -53,7 +53,7 @@ impl<K: Ord + Drop, V: Drop> OpenTable<K, V> {
         self.entries.get(key)
     }
 
-    /// A table with the same entries.
+    /// A table with the same entries. AllocError where memory is refused.
     #[tactic(auto, using(crate::proofs::Tables::copied))]
     pub fn copy(&self) -> Result<Self, AllocError>
     where

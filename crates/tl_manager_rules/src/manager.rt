@@ -38,7 +38,7 @@ pub struct ManagerState {
     exponent: u8,
     /// The numbers of the manager's links: what is said of a client is said of its link.
     clients: Vec<u16>,
-    /// One for each link of the topology, by number; that of another manager's link stays empty.
+    /// One for each link of the topology, by number; that of another manager's link stays empty where no head of it comes.
     states: Vec<ClientState>,
 }
 
@@ -111,6 +111,7 @@ impl ManagerState {
     ghost use Rattle.tl_manager_rules.specs.Manager.{Shows, StandsFor, shown, client_at, past_at, rules_in, manager_rules, pasts_with};
 
     /// The state of the manager with this number, before all messages. Of a number that the topology lacks, it has no clients.
+    /// AllocError where memory is refused.
     pub fn new(alloc: Global, topo: &Topo, manager: u16) -> Result<ManagerState, AllocError>
         ensures opening { (regions : List Area) → IfOk result (λ state. StandsFor (manager_at topo.now manager regions) state []) }
         ensures count { IfOk result (λ state. (shown state).count ≡ length topo.now.links) }
@@ -245,7 +246,7 @@ impl ManagerState {
         }
     }
 
-    /// A state that shows the same.
+    /// A state that shows the same. AllocError where memory is refused.
     #[tactic(auto, using(crate::proofs::ManagerLaws::same_parts))]
     pub fn copy(&self, alloc: Global) -> Result<ManagerState, AllocError>
         ensures { IfOk result (λ copy. SameManager self.now copy) }
@@ -260,7 +261,7 @@ impl ManagerState {
     /// The permission and manager rules that the next head of a link breaks, by what is open and what the manager's clients can
     /// hold before it; then what it opens, closes and sets at its own client. The request is the one that the head answers, as
     /// the flow rules find it. A head whose opcode is no message breaks none and changes nothing. A later beat is no message: the
-    /// state is not stepped by it. At want of memory nothing has changed. [TileLink 1.8: coherence, permission transitions; own
+    /// state is not stepped by it. AllocError where memory is refused: then nothing has changed. [TileLink 1.8: coherence, permission transitions; own
     /// profile, after the concurrency rules]
     pub fn step(
         &mut self,

@@ -36,7 +36,7 @@ pub fn beat_count(link: &LinkDecl, beat: &Beat) -> u16
     }
 }
 
-/// The bursts of one link that still miss beats, one for each channel.
+/// The bursts of one link that still miss beats, one for each channel. [TileLink 1.8: serialization]
 #[derive(Clone, Copy, Debug, PartialEq, Eq)]
 pub struct BurstState {
     slots: [Option<Unfinished>; 5],
@@ -56,7 +56,8 @@ impl BurstState {
         BurstState { slots: [None; 5] }
     }
 
-    /// What the next beat of the link is, a head or a later beat of its head, and the state with it.
+    /// What the next beat of the link is, a head or a later beat of its head, and the state with it. [TileLink 1.8:
+    /// serialization]
     #[tactic(auto, using(crate::proofs::BurstLaws::stands_law, crate::proofs::BurstLaws::place_stands))]
     pub fn step(&mut self, link: &LinkDecl, beat: &Beat) -> Place
         requires link { IsSound link.now }

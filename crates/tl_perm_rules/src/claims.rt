@@ -34,7 +34,7 @@ pub fn acquired_block(exponent: u8, op: Op, address: u64) -> Option<u64>
     }
 }
 
-/// The block of a Grant: that of the Acquire that it answers, if it answers one.
+/// The block of a Grant: that of the Acquire that it answers, if it answers one. [own profile]
 pub fn granted_block(exponent: u8, request: Option<Request>) -> Option<u64>
     ensures { result ≡ option_and_then (acquired_block exponent) request }
 {

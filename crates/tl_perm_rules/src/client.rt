@@ -82,6 +82,7 @@ impl ClientState {
     }
 
     /// Whether a Probe of the block that begins at this address awaits its ProbeAck; never where no block begins there.
+    /// [TileLink 1.8: Probe]
     pub fn probe_open(&self, block: u64) -> bool
         ensures stands { (exponent : ℕ) (before : List Message) → StandsFor exponent self.now before → result ≡ is_some ((client_past exponent before).probe block) }
         ensures shown { result ≡ is_some ((shown self.now).past.probe block) }
@@ -90,6 +91,7 @@ impl ClientState {
     }
 
     /// Whether a Grant of the block that begins at this address awaits its GrantAck; never where no block begins there.
+    /// [TileLink 1.8: Grant and GrantAck]
     pub fn grant_open(&self, block: u64) -> bool
         ensures stands { (exponent : ℕ) (before : List Message) → StandsFor exponent self.now before → result ≡ nat_lt 0 ((client_past exponent before).grants block) }
         ensures shown { result ≡ nat_lt 0 ((shown self.now).past.grants block) }
@@ -153,7 +155,7 @@ impl ClientState {
         rules
     }
 
-    /// A state that shows the same.
+    /// A state that shows the same. AllocError where memory is refused.
     #[tactic(auto, using(crate::proofs::SameLaws::same_parts))]
     pub fn copy(&self) -> Result<ClientState, AllocError>
         ensures { IfOk result (λ copy. SameClient self.now copy) }
@@ -171,8 +173,8 @@ impl ClientState {
     /// The permission rules that the next head of the link breaks, by what is open and what the client can hold before it; then
     /// what it opens, closes and sets. The request is the one that the head answers, as the flow rules find it. A head whose
     /// opcode is no message breaks none and changes nothing; one whose param is not lawful claims nothing, and opens and
-    /// closes. A later beat is no message: the state is not stepped by it. At want of memory nothing has changed.
-    /// [TileLink 1.8: permission transitions; own profile, after the concurrency rules]
+    /// closes. A later beat is no message: the state is not stepped by it. AllocError where memory is refused: then nothing
+    /// has changed. [TileLink 1.8: permission transitions; own profile, after the concurrency rules]
     #[tactic(auto, using(crate::proofs::ClientLaws::standing_rules, crate::proofs::ClientLaws::shown_rules, crate::proofs::ClientLaws::few_rules))]
     pub fn step(
         &mut self,

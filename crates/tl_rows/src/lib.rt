@@ -1,6 +1,8 @@
-//! Tests that cross crates: worked captures, text forms with their faults, and each public call once.
+//! Tests that cross crates: worked captures, text forms with their faults, and public calls with ample memory.
 #![tactic(auto)]
 
+#[cfg(test)]
+mod blocks;
 #[cfg(test)]
 mod captures;
 #[cfg(test)]

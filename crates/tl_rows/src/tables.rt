@@ -2,8 +2,9 @@
 
 use std::test::Fail;
 use tl_tables::{
-    Chan, Level, Op, Perm, Rule, cap_of, carries_data, chan_index, from_of, op_of, param_ok,
-    replies, rule_text, to_of,
+    Chan, Level, Op, Perm, Rule, cap_of, carries_data, chan_index, from_of, is_above, is_acquire,
+    is_grant, is_grant_ack, is_of_block, is_probe, is_probe_ack, is_release, is_release_ack, op_of,
+    param_ok, replies, rule_text, to_of,
 };
 
 #[test]
@@ -35,4 +36,22 @@ fn messages_have_their_kinds(rt: HostRuntime) {
     assert!(rt; replies(Op::AcquirePerm, Op::Grant) && !replies(Op::AcquirePerm, Op::GrantData));
     assert!(rt; chan_index(Chan::D) == 3);
     assert!(rt; rule_text(Rule::F10) == "F10");
+}
+
+#[test]
+fn both_opcodes_of_a_kind_are_of_it(rt: HostRuntime) {
+    assert!(rt; is_acquire(Op::AcquirePerm) && !is_acquire(Op::Get));
+    assert!(rt; is_probe(Op::ProbePerm) && !is_probe(Op::ProbeAck));
+    assert!(rt; is_probe_ack(Op::ProbeAckData) && !is_probe_ack(Op::ProbeBlock));
+    assert!(rt; is_release(Op::ReleaseData) && !is_release(Op::ReleaseAck));
+    assert!(rt; is_release_ack(Op::ReleaseAck) && !is_release_ack(Op::Release));
+    assert!(rt; is_grant(Op::GrantData) && !is_grant(Op::GrantAck));
+    assert!(rt; is_grant_ack(Op::GrantAck) && !is_grant_ack(Op::Grant));
+    assert!(rt; is_of_block(Op::ReleaseAck) && !is_of_block(Op::GrantAck));
+}
+
+#[test]
+fn permissions_stand_above_each_other(rt: HostRuntime) {
+    assert!(rt; is_above(Perm::Trunk, Perm::Branch) && is_above(Perm::Branch, Perm::Nothing));
+    assert!(rt; !is_above(Perm::Branch, Perm::Branch) && !is_above(Perm::Nothing, Perm::Trunk));
 }

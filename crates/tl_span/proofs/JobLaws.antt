@@ -1,17 +1,13 @@
 -- Jobs and their results.
 use Rattle.std.proofs.Common.{◌≡◌, ℕ, ◌+◌, ◌≤◌, List, ◌++◌, length, drop, Some, sym, ap, subst, ◌∙◌, append_assoc}
-use Rattle.std.specs.Prelude.{map, slice_get, slice_index, ◌↔◌}
+use Rattle.std.specs.Prelude.{map, slice_get, ◌↔◌}
 use Rattle.std.proofs.Math.ListN.{drop_of_length-le}
 use Rattle.std.proofs.lemmas.List.{append-nil}
 use Rattle.std.specs.List.{Contains}
 use Rattle.std.specs.List.Sorted.{IsStrictlySortedBy}
-use Rattle.tl_topology.specs.Regions.{Area}
-use Rattle.tl_topology.specs.Topology.{Topology}
 use Rattle.tl_topology.specs.declared.LinkDecl.{LinkDecl}
 use Rattle.tl_beats.specs.declared.Placed.{Placed}
 use Rattle.tl_beats.specs.declared.Row.{Row}
-use Rattle.tl_definitions.specs.Managers.{declared_links, manager_at}
-use Rattle.tl_definitions.specs.Positions.{links_of}
 use Rattle.tl_definitions.specs.Report.{row_order}
 use Rattle.tl_definitions.specs.Breaks.{row_of}
 use Rattle.tl_definitions.specs.Rules.{Manager}
@@ -21,11 +17,6 @@ use Rattle.tl_span.specs.declared.state.SpanState.{SpanState}
 use Rattle.tl_span.specs.States.{shown, IsOf}
 use Rattle.tl_span.proofs.ListLaws.{drop_more}
 use Rattle.tl_span.specs.Jobs.{Job, IsJob, IsResult, manager_from, manager_of}
-
-pub manager_is : (topo : Topology) (manager exponent : ℕ) (links : List LinkDecl) (areas : List Area) (entry : SpanState) → links ≡ declared_links topo
-    → exponent ≡ slice_index (map (λ p. p.1) topo.managers) manager → IsOf (manager_at topo manager areas) (length topo.links) entry
-    → manager_from links exponent areas entry ≡ manager_at topo manager areas
-manager_is topo manager exponent links areas entry same block of = λ i. record { links = links_of (same i); clients = of.clients.clients i; exponent = block i; regions = areas }
 
 pub is_result : (job : Job) (exit : SpanState) (rows : List Row) → IsJob job → IsOf (manager_of job) (length job.links) exit
     → shown exit ≡ all_next (manager_of job) (shown job.entry) job.beats → IsStrictlySortedBy row_order rows

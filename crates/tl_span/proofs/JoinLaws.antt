@@ -1,5 +1,5 @@
 -- Results of windows, joined.
-use Rattle.std.proofs.Common.{◌≡◌, List, [], ◌∷◌, ◌++◌, refl, sym, ap, subst, ◌∙◌}
+use Rattle.std.proofs.Common.{◌≡◌, Bool, true, false, List, [], ◌∷◌, ◌++◌, refl, sym, ap, subst, ◌∙◌}
 use Rattle.std.specs.Prelude.{map, reverse}
 use Rattle.std.specs.List.{Contains}
 use Rattle.tl_definitions.specs.Rules.{Manager}
@@ -7,15 +7,23 @@ use Rattle.tl_definitions.specs.Breaks.{rows_in}
 use Rattle.tl_definitions.specs.Judging.{Snapshot, snapshot, Pass, IsPass, IsChain, pass_beats}
 use Rattle.tl_definitions.specs.Judging as chain
 use Rattle.tl_definitions.proofs.JudgingLaws.{chains_are_whole}
-use Rattle.tl_definitions.proofs.Lists.{contains_mapped, mapped_from}
+use Rattle.tl_definitions.specs.Coherence.{exceeds}
+use Rattle.tl_definitions.proofs.CoherenceLaws.{guarded_captures_are_coherent}
+use Rattle.tl_definitions.proofs.Lists.{contains_mapped, mapped_from, contains_none, contains_kept, none_kept}
 use Rattle.tl_span.specs.declared.state.SpanState.{SpanState}
 use Rattle.tl_span.specs.States.{shown}
 use Rattle.tl_span.specs.Jobs.{Checked, pass_of}
-use Rattle.tl_span.specs.Laws.{SameStatesShowTheSame, SameStatesStandForTheSame, AreJoined, all_beats, last_exit, JoinedResultsAreWhole}
+use Rattle.tl_span.specs.Laws.{SameStatesShowTheSame, SameStatesAreOfOneManager, StatesKnowNoRegions, SameStatesStandForTheSame, AreJoined, all_beats, last_exit, JoinedResultsAreWhole, CleanResultsAreCoherent}
 use Rattle.tl_span.proofs.StateLaws.{same_shown, same_is_of, shown_same}
 
 pub same_states_show_the_same : SameStatesShowTheSame
 same_states_show_the_same m count one two first second = (same_shown one two, shown_same m count one two first second)
+
+pub same_states_are_of_one_manager : SameStatesAreOfOneManager
+same_states_are_of_one_manager = same_is_of
+
+pub states_know_no_regions : StatesKnowNoRegions
+states_know_no_regions m areas count state of = record { clients = of.clients; links = of.links; states = of.states; formed = of.formed }
 
 pub same_states_stand_for_the_same : SameStatesStandForTheSame
 same_states_stand_for_the_same m count one two before stands same = record {
@@ -51,3 +59,13 @@ joined_results_are_whole m count opening results stands joined =
       )),
       exit_is (snapshot m []) opening results stands.shows ∙ whole.1 ∙ ap (λ ps. snapshot m (reverse ps)) beats,
     )
+
+pub clean_results_are_coherent : CleanResultsAreCoherent
+clean_results_are_coherent m count opening results stands joined clean =
+    guarded_captures_are_coherent m (all_beats results) (none_kept exceeds (rows_in m (all_beats results)) (λ row h.
+    let found = ((joined_results_are_whole m count opening results stands joined).0 row).1 h in
+    let unkept : (t : Bool) → exceeds row ≡ t → t ≡ false = λ t. elim t as (λ t. exceeds row ≡ t → t ≡ false) [
+      | true ↦ λ e. absurd (contains_none row (subst (λ rs. Contains rs row) (clean found.0 found.1) (contains_kept exceeds found.0.rows row found.2 e)))
+      | false ↦ λ e. refl
+    ] in
+    unkept (exceeds row) refl))

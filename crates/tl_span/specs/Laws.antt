@@ -1,11 +1,13 @@
 -- What follows for states and for results of windows.
-use Rattle.std.specs.Prelude.{◌≡◌, ◌↔◌, ℕ, List, [], ◌∷◌, ◌++◌, reverse}
+use Rattle.std.specs.Prelude.{◌≡◌, ◌↔◌, ℕ, List, [], ◌∷◌, ◌++◌, filter, reverse}
 use Rattle.std.specs.List.{Contains}
+use Rattle.tl_topology.specs.Regions.{Area}
 use Rattle.tl_beats.specs.declared.Placed.{Placed}
 use Rattle.tl_beats.specs.declared.Row.{Row}
 use Rattle.tl_definitions.specs.Rules.{Manager}
 use Rattle.tl_definitions.specs.Breaks.{rows_in}
 use Rattle.tl_definitions.specs.Judging.{snapshot}
+use Rattle.tl_definitions.specs.Coherence.{OneWriter, exceeds}
 use Rattle.tl_span.specs.declared.state.SpanState.{SpanState}
 use Rattle.tl_span.specs.States.{shown, IsOf, StandsFor, SameSpan}
 use Rattle.tl_span.specs.Jobs.{Checked, IsResult, manager_of}
@@ -13,6 +15,15 @@ use Rattle.tl_span.specs.Jobs.{Checked, IsResult, manager_of}
 -- Two states of one manager are the same exactly where they show the same.
 abbrev pub SameStatesShowTheSame : Type 0
 SameStatesShowTheSame = (m : Manager) (count : ℕ) (one two : SpanState) → IsOf m count one → IsOf m count two → SameSpan one two ↔ (shown one ≡ shown two)
+
+-- A state that is the same as one of a manager is one of that manager.
+abbrev pub SameStatesAreOfOneManager : Type 0
+SameStatesAreOfOneManager = (m : Manager) (count : ℕ) (one two : SpanState) → IsOf m count one → SameSpan one two → IsOf m count two
+
+-- A state says nothing of regions: one of a manager is one of the same manager with others.
+abbrev pub StatesKnowNoRegions : Type 0
+StatesKnowNoRegions = (m : Manager) (areas : List Area) (count : ℕ) (state : SpanState) → IsOf m count state
+    → IsOf (record { links = m.links; clients = m.clients; exponent = m.exponent; regions = areas }) count state
 
 -- A state that is the same as one that stands for beats stands for them.
 abbrev pub SameStatesStandForTheSame : Type 0
@@ -36,3 +47,10 @@ abbrev pub JoinedResultsAreWhole : Type 0
 JoinedResultsAreWhole = (m : Manager) (count : ℕ) (opening : SpanState) (results : List Checked) → StandsFor m count opening [] → AreJoined m opening results →
     ((row : Row) → ((result : Checked) × Contains results result × Contains result.rows row) ↔ Contains (rows_in m (all_beats results)) row)
     × ((shown (last_exit opening results)) ≡ snapshot m (reverse (all_beats results)))
+
+-- Where none of their rows is of P1, P2 or M1 besides, at every position of all their beats and for every block, while one
+-- client may hold the block to write, no other client may hold it at all. [TileLink 1.8: coherence]
+abbrev pub CleanResultsAreCoherent : Type 0
+CleanResultsAreCoherent = (m : Manager) (count : ℕ) (opening : SpanState) (results : List Checked) → StandsFor m count opening [] → AreJoined m opening results
+    → ((result : Checked) → Contains results result → filter exceeds result.rows ≡ [])
+    → (earlier later : List Placed) → all_beats results ≡ earlier ++ later → OneWriter m (reverse earlier)

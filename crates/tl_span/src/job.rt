@@ -64,6 +64,7 @@ impl SpanJob {
     ghost use Rattle.tl_span.specs.Jobs.{IsJob};
 
     /// The window with these beats of a manager, judged with these regions from the given state, which is one for this manager.
+    /// AllocError where memory is refused: then the beats and the state are lost.
     pub fn new(
         alloc: Global,
         topo: &Topo,

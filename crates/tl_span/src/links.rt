@@ -40,7 +40,8 @@ impl LinkState {
         }
     }
 
-    /// What the next beat of the link is, by what the state shows; the state then shows what is left with it.
+    /// What the next beat of the link is, by what the state shows; the state then shows what is left with it. AllocError where
+    /// memory is refused: then the state may have part of the beat.
     #[tactic(auto, using(crate::proofs::LinkLaws::head_is_free, crate::proofs::LinkLaws::later_is_taken))]
     pub fn step(&mut self, alloc: Global, decl: &LinkDecl, beat: &Beat) -> Result<Found, AllocError>
         requires decl { IsSound decl.now }
@@ -54,7 +55,7 @@ impl LinkState {
         }
     }
 
-    /// A state that shows the same.
+    /// A state that shows the same. AllocError where memory is refused.
     pub fn copy(&self) -> Result<LinkState, AllocError>
         ensures { IfOk result (SameLink self.now) }
     {

@@ -28,7 +28,7 @@ use tl_topology::{LinkDecl, RegionMap, Topo};
 /// the same.
 #[derive(Drop)]
 pub struct SpanState {
-    /// One for each link of the topology, by number; those of other managers stay empty.
+    /// One for each link of the topology, by number; that of another manager's link stays empty where no beat of it comes.
     links: Vec<LinkState>,
     clients: ManagerState,
 }
@@ -56,7 +56,7 @@ fn copied_links(alloc: Global, links: &[LinkState]) -> Result<Vec<LinkState>, Al
 }
 
 impl SpanState {
-    /// The state of a manager before all its beats.
+    /// The state of a manager before all its beats. AllocError where memory is refused.
     #[tactic(auto, using(crate::proofs::StateLaws::opening_stands))]
     pub fn opening(alloc: Global, topo: &Topo, manager: u16) -> Result<SpanState, AllocError>
         requires manager { manager < length topo.now.managers }
@@ -69,7 +69,8 @@ impl SpanState {
     }
 
     /// Judges the manager's next beat by what the state shows: puts the rows of what it breaks at the end, and the state then
-    /// shows what is left with it.
+    /// shows what is left with it. AllocError where memory is refused: then state and rows may have part of the beat, and are
+    /// for nothing more.
     pub(crate) fn step(
         &mut self,
         alloc: Global,
@@ -103,10 +104,11 @@ impl SpanState {
         }
     }
 
-    /// A state that shows the same.
+    /// A state that shows the same, and so is one for the same manager. AllocError where memory is refused.
     #[tactic(auto, using(crate::proofs::StateLaws::same_from_parts))]
     pub fn copy(&self, alloc: Global) -> Result<SpanState, AllocError>
-        ensures { IfOk result (SameSpan self.now) }
+        ensures same { IfOk result (SameSpan self.now) }
+        ensures kept { (m : Manager) (count : ℕ) → IsOf m count self.now → IfOk result (IsOf m count) }
     {
         Ok(SpanState {
             links: copied_links(alloc, &self.links)?,

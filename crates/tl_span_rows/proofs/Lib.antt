@@ -1,1 +1,2 @@
+pub mod EntryStates
 pub mod RisingBeats

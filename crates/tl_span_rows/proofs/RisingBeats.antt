@@ -1,11 +1,12 @@
 -- Beats in the order of positions.
-use Rattle.std.proofs.Common.{◌≡◌, subst, List, [], ◌∷◌, ◌++◌}
+use Rattle.std.proofs.Common.{◌≡◌, List, [], ◌∷◌, ◌++◌}
 use Rattle.std.specs.List.{AllByRecursion}
 use Rattle.std.specs.List.Sorted.{IsStrictlySortedBy}
 use Rattle.std.specs.declared.cmp.Ordering.{Ordering}
 use Rattle.std.specs.declared.cmp.Ordering.TheVariants.{Less}
 use Rattle.tl_beats.specs.declared.Placed.{Placed}
-use Rattle.tl_definitions.specs.Positions.{position_order, IsBefore}
+use Rattle.tl_definitions.specs.Positions.{IsBefore}
+use Rattle.tl_definitions.proofs.PositionLaws.{positions_are_ordered}
 use Rattle.tl_span.proofs.ListLaws.{all_more}
 
 -- A list in strict order, with one item more above all of it.
@@ -18,6 +19,7 @@ pub strict_none : {X : Type 0} (R : X → X → Ordering) → IsStrictlySortedBy
 unfolding IsStrictlySortedBy
 strict_none R = tt
 
--- A beat behind those that lie before it.
-pub beats_more : (beats same : List Placed) (p : Placed) → same ≡ beats → IsStrictlySortedBy position_order beats → AllByRecursion (λ q. IsBefore q p) same → IsStrictlySortedBy position_order (beats ++ p ∷ [])
-beats_more beats same p is rising below = strict_more position_order beats p rising (subst (AllByRecursion (λ q. IsBefore q p)) is below)
+-- What lies behind the last of beats in order lies behind them all.
+pub before_last : (beats : List Placed) (last p : Placed) → AllByRecursion (λ q. IsBefore q last) beats → IsBefore last p → AllByRecursion (λ q. IsBefore q p) (beats ++ last ∷ [])
+before_last [] last p below next = (next, tt)
+before_last (q ∷ beats) last p below next = (positions_are_ordered.total.trans q last p below.0 next, before_last beats last p below.1 next)

@@ -2,4 +2,12 @@
 #![tactic(auto)]
 
 #[cfg(test)]
+mod cuts;
+#[cfg(test)]
+mod managers;
+#[cfg(test)]
+mod states;
+#[cfg(test)]
+mod texts;
+#[cfg(test)]
 mod windows;

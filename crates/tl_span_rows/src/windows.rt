@@ -1,13 +1,14 @@
 //! Windows of a manager: the beats of its links in the order of positions, checked from what the beats before them leave.
 
-ghost use Rattle.std.specs.Prelude.{◌≡◌, ◌<◌, [], length, IfOk, IsTrue};
-ghost use Rattle.std.specs.List.{All, AllByRecursion};
+ghost use Rattle.std.specs.Prelude.{◌≡◌, ◌<◌, [], length, IfOk, IfSome, IsTrue};
+ghost use Rattle.std.specs.List.{All};
 ghost use Rattle.std.specs.List.Sorted.{IsStrictlySortedBy};
 ghost use Rattle.tl_beats.specs.Beats.{IsWellFormed};
 ghost use Rattle.tl_definitions.specs.Managers.{manager_at};
 ghost use Rattle.tl_definitions.specs.Positions.{position_order, IsBefore};
 ghost use Rattle.tl_span.specs.States.{IsOf};
 
+use crate::texts::{ACQUIRE_OF_B, GRANT_OF_B, HELD, HELD_LATER, SECOND, TAKEN, TOPOLOGY};
 use std::alloc::{AllocError, Global};
 use std::cmp::Ordering;
 use std::test::Fail;
@@ -17,11 +18,8 @@ use tl_span::{SpanJob, SpanResult, SpanState, span_check};
 use tl_tables::{chan_index, rule_text};
 use tl_topology::{Name, RegionMap, Topo, read_topo};
 
-const TOPOLOGY: &str =
-    "topo 1\nmanager m0 64\nlink cpu0 m0 c 8 6 4\nlink cpu1 m0 c 8 6 4\nlink dma0 m0 ul 8 3 2\nend\n";
-
 /// Puts the beats of a fragment behind others.
-fn place(
+pub(crate) fn place(
     alloc: Global,
     topo: &Topo,
     (link, number, lines): (&str, u32, &str),
@@ -44,7 +42,7 @@ fn place(
 }
 
 /// The beats of three fragments in the order of positions.
-fn merged(
+pub(crate) fn merged(
     alloc: Global,
     topo: &Topo,
     first: (&str, u32, &str),
@@ -68,25 +66,17 @@ fn order(here: &Placed, there: &Placed) -> Ordering
     cycle.then(channel.then(here.link.cmp(&there.link)))
 }
 
-/// Whether all beats lie before another.
-fn all_before(beats: &[Placed], at: &Placed) -> bool
-    ensures { IsTrue result → AllByRecursion (λ earlier. IsBefore earlier at.now) beats.now }
-{
-    for earlier in beats {
-        if order(earlier, at) != Ordering::Less {
-            return false;
-        }
-    }
-    true
-}
-
-/// Whether a beat can stand behind these in a window: well-formed, on a link of the topology, after all of them.
-fn fits(topo: &Topo, window: &[Placed], at: &Placed) -> bool
+/// Whether a beat can stand in a window behind its last: well-formed, on a link of the topology, after that one.
+fn fits(topo: &Topo, last: Option<Placed>, at: &Placed) -> bool
     ensures formed { IsTrue result → IsWellFormed at.now.beat }
     ensures within { IsTrue result → at.now.link < length topo.now.links }
-    ensures rises { IsTrue result → AllByRecursion (λ earlier. IsBefore earlier at.now) window.now }
+    ensures rises { IsTrue result → IfSome last (λ earlier. IsBefore earlier at.now) }
 {
-    at.beat.is_well_formed() && topo.link(at.link).is_some() && all_before(window, at)
+    let is_after = match last {
+        Some(earlier) => order(&earlier, at) == Ordering::Less,
+        None => true,
+    };
+    is_after && at.beat.is_well_formed() && topo.link(at.link).is_some()
 }
 
 /// The beats, where they can be those of a window.
@@ -96,13 +86,24 @@ fn window(alloc: Global, topo: &Topo, beats: &[Placed]) -> Result<Vec<Placed>, F
     ensures rises { IfOk result (λ window. IsStrictlySortedBy position_order window.items) }
 {
     let mut window = Vec::new(alloc);
+    let mut last = None;
     for at in beats {
-        if !fits(topo, &window, at) {
+        if !fits(topo, last, at) {
             return Err(Fail::new("no beats of a window"));
         }
         window.push(*at)?;
+        last = Some(*at);
     }
     Ok(window)
+}
+
+/// The number of a manager.
+pub(crate) fn manager_of(topo: &Topo, name: &str) -> Result<u16, Fail>
+    ensures { IfOk result (λ manager. manager < length topo.now.managers) }
+{
+    let name = Name::new(name.as_bytes()).ok_or("a name")?;
+    let manager = topo.manager_of(&name).ok_or("a manager")?;
+    Ok(manager)
 }
 
 /// The state of a manager before all its beats.
@@ -114,11 +115,12 @@ fn opening(alloc: Global, topo: &Topo, manager: u16) -> Result<SpanState, AllocE
     Ok(state)
 }
 
-/// A window of a manager without regions, checked from a state.
+/// A window of a manager, checked from a state; that is one for the manager whatever its regions are.
 fn checked(
     alloc: Global,
     topo: &Topo,
     manager: u16,
+    regions: &RegionMap,
     beats: &[Placed],
     entry: SpanState,
 ) -> Result<SpanResult, Fail>
@@ -127,15 +129,12 @@ fn checked(
     ensures { IfOk result (λ checked. IsOf (manager_at topo.now manager []) (length topo.now.links) checked.exit) }
 {
     let beats = window(alloc, topo, beats)?;
-    let regions = RegionMap::new(alloc);
-    let job = SpanJob::new(alloc, topo, manager, &regions, beats, entry)?;
-    match span_check(alloc, job) {
-        Ok(checked) => {
-            let _exit = checked.exit();
-            Ok(checked)
-        }
-        Err(_) => Err(Fail::new("out of memory")),
-    }
+    let job = SpanJob::new(alloc, topo, manager, regions, beats, entry)?;
+    let Ok(checked) = span_check(alloc, job) else {
+        return Err(Fail::new("out of memory"));
+    };
+    let _exit = checked.exit();
+    Ok(checked)
 }
 
 /// A copy of the state after a window, to check the next from.
@@ -152,8 +151,40 @@ fn after(
     Ok(state)
 }
 
+/// A window of a manager, checked from the opening state.
+pub(crate) fn first_window(
+    alloc: Global,
+    topo: &Topo,
+    manager: u16,
+    regions: &RegionMap,
+    beats: &[Placed],
+) -> Result<SpanResult, Fail>
+    requires manager { manager < length topo.now.managers }
+    ensures { IfOk result (λ checked. IsOf (manager_at topo.now manager []) (length topo.now.links) checked.exit) }
+{
+    let entry = opening(alloc, topo, manager)?;
+    checked(alloc, topo, manager, regions, beats, entry)
+}
+
+/// A window of a manager without regions, checked from what another leaves.
+pub(crate) fn next_window(
+    alloc: Global,
+    topo: &Topo,
+    manager: u16,
+    before: &SpanResult,
+    beats: &[Placed],
+) -> Result<SpanResult, Fail>
+    requires manager { manager < length topo.now.managers }
+    requires before { IsOf (manager_at topo.now manager []) (length topo.now.links) before.now.exit }
+    ensures { IfOk result (λ checked. IsOf (manager_at topo.now manager []) (length topo.now.links) checked.exit) }
+{
+    let entry = after(alloc, topo, manager, before)?;
+    let regions = RegionMap::new(alloc);
+    checked(alloc, topo, manager, &regions, beats, entry)
+}
+
 /// Rows as a report writes them.
-fn told(alloc: Global, topo: &Topo, rows: &[Row]) -> Result<String, Fail> {
+pub(crate) fn told(alloc: Global, topo: &Topo, rows: &[Row]) -> Result<String, Fail> {
     let mut text = String::new(alloc);
     for row in rows {
         let name = topo.link(row.link).ok_or("a link")?.name;
@@ -171,37 +202,17 @@ fn rows_of(
     third: (&str, u32, &str),
 ) -> Result<String, Fail> {
     let (topo, _) = read_topo(alloc, TOPOLOGY.as_bytes())?;
-    let name = Name::new(b"m0").ok_or("a name")?;
-    let manager = topo.manager_of(&name).ok_or("a manager")?;
+    let manager = manager_of(&topo, "m0")?;
     let beats = merged(alloc, &topo, first, second, third)?;
-    let entry = opening(alloc, &topo, manager)?;
-    let result = checked(alloc, &topo, manager, &beats, entry)?;
+    let regions = RegionMap::new(alloc);
+    let result = first_window(alloc, &topo, manager, &regions, &beats)?;
     told(alloc, &topo, result.rows())
 }
-
-/// An Acquire of T of the block 1000, its Grant in eight beats, and the GrantAck.
-const HELD: &str =
-    "10 A 6 1 6 0 1000 ff 0\n20 D 5 0 6 0 1 0 0\n21 D 5 0 6 0 1 0 0\n22 D 5 0 6 0 1 0 0\n23 D 5 0 6 0 1 0 0\n24 D 5 0 6 0 1 0 0\n25 D 5 0 6 0 1 0 0\n26 D 5 0 6 0 1 0 0\n27 D 5 0 6 0 1 0 0\n30 E 1\n";
-
-/// The same, later.
-const HELD_LATER: &str =
-    "100 A 6 1 6 0 1000 ff 0\n110 D 5 0 6 0 1 0 0\n111 D 5 0 6 0 1 0 0\n112 D 5 0 6 0 1 0 0\n113 D 5 0 6 0 1 0 0\n114 D 5 0 6 0 1 0 0\n115 D 5 0 6 0 1 0 0\n116 D 5 0 6 0 1 0 0\n117 D 5 0 6 0 1 0 0\n120 E 1\n";
-
-/// A Grant of B in eight beats, and the GrantAck, without the Acquire.
-const GRANT_OF_B: &str =
-    "4092 D 5 1 6 0 3 0 0\n4093 D 5 1 6 0 3 0 0\n4094 D 5 1 6 0 3 0 0\n4095 D 5 1 6 0 3 0 0\n4096 D 5 1 6 0 3 0 0\n4097 D 5 1 6 0 3 0 0\n4098 D 5 1 6 0 3 0 0\n4099 D 5 1 6 0 3 0 0\n4100 E 3\n";
-
-/// An Acquire of T, and its Grant while cpu0 may hold the block.
-const SECOND: &str =
-    "100 A 6 1 6 0 1000 ff 0\n200 D 5 0 6 0 2 0 0\n201 D 5 0 6 0 2 0 0\n202 D 5 0 6 0 2 0 0\n203 D 5 0 6 0 2 0 0\n204 D 5 0 6 0 2 0 0\n205 D 5 0 6 0 2 0 0\n206 D 5 0 6 0 2 0 0\n207 D 5 0 6 0 2 0 0\n210 E 2\n";
-
-/// A Probe that takes the block away, and its answer.
-const TAKEN: &str = "110 B 6 2 6 0 1000 ff 0\n120 C 4 1 6 0 1000 0\n";
 
 #[test]
 fn a_grant_beside_a_writer_is_found(rt: HostRuntime) -> Result<(), Fail> {
     // The block is held by cpu1, and granted to cpu0 by a burst that stands in another fragment than its Acquire.
-    let acquire = ("cpu0", 1, "4000 A 6 0 6 0 1000 ff 0\n");
+    let acquire = ("cpu0", 1, ACQUIRE_OF_B);
     let beside = rows_of(
         rt.alloc(),
         ("cpu0", 2, GRANT_OF_B),
@@ -244,9 +255,8 @@ fn a_probe_takes_the_block_away(rt: HostRuntime) -> Result<(), Fail> {
 #[test]
 fn a_result_keeps_its_job(rt: HostRuntime) -> Result<(), Fail> {
     let (topo, _) = read_topo(rt.alloc(), TOPOLOGY.as_bytes())?;
-    let name = Name::new(b"m0").ok_or("a name")?;
-    let manager = topo.manager_of(&name).ok_or("a manager")?;
-    let acquire = ("cpu0", 1, "4000 A 6 0 6 0 1000 ff 0\n");
+    let manager = manager_of(&topo, "m0")?;
+    let acquire = ("cpu0", 1, ACQUIRE_OF_B);
     let beats = merged(
         rt.alloc(),
         &topo,
@@ -257,7 +267,8 @@ fn a_result_keeps_its_job(rt: HostRuntime) -> Result<(), Fail> {
     let entry = opening(rt.alloc(), &topo, manager)?;
     let copy = entry.copy(rt.alloc())?;
     assert!(rt; entry.is_same(&copy) && copy.is_same(&entry));
-    let result = checked(rt.alloc(), &topo, manager, &beats, entry)?;
+    let regions = RegionMap::new(rt.alloc());
+    let result = checked(rt.alloc(), &topo, manager, &regions, &beats, entry)?;
     assert!(rt; result.job().beats() == beats.as_slice() && result.job().entry().is_same(&copy));
     assert!(rt; !result.exit().is_same(&copy) && !copy.is_same(result.exit()));
     let exit = after(rt.alloc(), &topo, manager, &result)?;

@@ -16,17 +16,22 @@ pub use kinds::{
 };
 
 /// A channel of a link. A, C and E run from client to manager, B and D from manager to client. Within one cycle the
-/// beats of a link stand in the order A to E.
+/// beats of a link stand in the order A to E. [TileLink 1.8: the five channels; their order in a cycle: own profile]
 #[derive(Clone, Copy, Debug, PartialEq, Eq)]
 pub enum Chan {
+    /// Requests of a client.
     A,
+    /// Probes of a manager.
     B,
+    /// ProbeAcks and Releases of a client.
     C,
+    /// Replies of a manager, Grants among them.
     D,
+    /// GrantAcks of a client.
     E,
 }
 
-/// How much of the protocol a link speaks.
+/// How much of the protocol a link speaks. [TileLink 1.8: conformance levels]
 #[derive(Clone, Copy, Debug, PartialEq, Eq)]
 pub enum Level {
     /// TL-UL: single-beat accesses.
@@ -37,7 +42,7 @@ pub enum Level {
     C,
 }
 
-/// What a client may do with a block, from least to most.
+/// What a client may do with a block, from least to most. [TileLink 1.8: coherence, permissions]
 #[derive(Clone, Copy, Debug, PartialEq, Eq)]
 pub enum Perm {
     /// Neither read nor write (N).
@@ -48,29 +53,50 @@ pub enum Perm {
     Trunk,
 }
 
-/// A message.
+/// A message. [TileLink 1.8: message opcodes]
 #[derive(Clone, Copy, Debug, PartialEq, Eq)]
 pub enum Op {
+    /// A write of all bytes of its size.
     PutFullData,
+    /// A write of the bytes in its mask.
     PutPartialData,
+    /// An atomic read, arithmetic and write.
     ArithmeticData,
+    /// An atomic read, logical operation and write.
     LogicalData,
+    /// A read.
     Get,
+    /// A hint of what the client will do.
     Intent,
+    /// A client asks for a block, with its data.
     AcquireBlock,
+    /// A client asks for permission on a block, without data.
     AcquirePerm,
+    /// A manager takes permission on a block back and asks for its data.
     ProbeBlock,
+    /// A manager takes permission on a block back.
     ProbePerm,
+    /// The reply to a write.
     AccessAck,
+    /// The reply to a read or an atomic, with data.
     AccessAckData,
+    /// The reply to a hint.
     HintAck,
+    /// The answer to a Probe.
     ProbeAck,
+    /// The answer to a Probe, with the block's data.
     ProbeAckData,
+    /// A client gives permission on a block back.
     Release,
+    /// A client gives permission on a block back, with its data.
     ReleaseData,
+    /// The reply to an Acquire: permission.
     Grant,
+    /// The reply to an Acquire: permission and the block's data.
     GrantData,
+    /// The reply to a Release.
     ReleaseAck,
+    /// A client has taken a Grant.
     GrantAck,
 }
 
@@ -78,69 +104,72 @@ pub enum Op {
 #[derive(Clone, Copy, Debug, Default, PartialEq, Eq)]
 pub enum Rule {
     #[default]
-    /// The opcode is no message of its channel at the link's level.
+    /// The opcode is no message of its channel at the link's level. [TileLink 1.8: message opcodes; levels: own profile]
     F1,
-    /// The param is not lawful for the message.
+    /// The param is not lawful for the message. [TileLink 1.8: param fields; which are lawful: own profile]
     F2,
-    /// The address is not a multiple of the size.
+    /// The address is not a multiple of the size. [TileLink 1.8: address alignment]
     F3,
-    /// The size is above the link's largest.
+    /// The size is above the link's largest. [TileLink 1.8: size field; the limit: own profile]
     F4,
     /// The mask is not that of the active lanes, or for PutPartialData not within it.
+    /// [TileLink 1.8: byte lanes; rounding a misaligned address: own profile]
     F5,
-    /// Corrupt is high on a message without data.
+    /// Corrupt is high on a message without data. [TileLink 1.8: corrupt field]
     F6,
-    /// Data is denied and not corrupt.
+    /// Data is denied and not corrupt. [TileLink 1.8: denied and corrupt fields]
     F7,
-    /// A message of a whole block has another size.
+    /// A message of a whole block has another size. [TileLink 1.8: transfer operations; one block size: own profile]
     F8,
-    /// The source is not below the link's number of sources.
+    /// The source is not below the link's number of sources. [TileLink 1.8: source field]
     F9,
-    /// No region of the manager permits the access to all its bytes.
+    /// No region of the manager permits the access to all its bytes. [own profile]
     F10,
-    /// A later beat of a burst differs from its head.
+    /// A later beat of a burst differs from its head. [TileLink 1.8: serialization]
     U1,
-    /// A request's source is already in flight.
+    /// A request's source is already in flight. [TileLink 1.8: source identifiers]
     S1,
-    /// A reply without an open request on its source.
+    /// A reply without an open request on its source. [TileLink 1.8: responses]
     S2,
-    /// A reply of a kind that its request doesn't have.
+    /// A reply of a kind that its request doesn't have. [TileLink 1.8: operations and their responses]
     S3,
-    /// A reply of another size than its request.
+    /// A reply of another size than its request. [TileLink 1.8: size of responses]
     S4,
-    /// A ReleaseAck without an open Release on its source.
+    /// A ReleaseAck without an open Release on its source. [TileLink 1.8: Release]
     S5,
-    /// A Release's source is already in flight.
+    /// A Release's source is already in flight. [TileLink 1.8: source identifiers]
     S6,
-    /// A ReleaseAck of another size than its Release.
+    /// A ReleaseAck of another size than its Release. [TileLink 1.8: size of responses]
     S7,
-    /// A Grant's sink is already in use.
+    /// A Grant's sink is already in use. [TileLink 1.8: sink identifiers]
     S8,
-    /// A GrantAck without an open Grant on its sink.
+    /// A GrantAck without an open Grant on its sink. [TileLink 1.8: Grant and GrantAck]
     S9,
-    /// An Acquire claims to hold more than its client can.
+    /// An Acquire claims to hold more than its client can. [TileLink 1.8: permission transitions]
     P1,
-    /// A ProbeAck or Release claims to hold more than its client can.
+    /// A ProbeAck or Release claims to hold more than its client can. [TileLink 1.8: permission transitions]
     P2,
-    /// A ProbeAck without an open Probe on its block.
+    /// A ProbeAck without an open Probe on its block. [TileLink 1.8: Probe]
     P3,
-    /// A ProbeAck keeps more than the open Probe allows.
+    /// A ProbeAck keeps more than the open Probe allows. [TileLink 1.8: Probe, cap]
     P4,
-    /// A Probe while one is open on its block at this client.
+    /// A Probe while one is open on its block at this client. [own profile, after the concurrency rules]
     P5,
-    /// An Acquire while this client has one open on the block.
+    /// An Acquire while this client has one open on the block. [own profile, after the concurrency rules]
     P6,
-    /// A Release while this client has an Acquire open on the block.
+    /// A Release while this client has an Acquire open on the block. [own profile, after the concurrency rules]
     P7,
     /// An Acquire, Release or ProbeAck while this client has a Release open on the block.
+    /// [own profile, after the concurrency rules]
     P8,
     /// A Grant gives what another client's hold forbids.
+    /// [TileLink 1.8: coherence; over all clients of a manager: own profile]
     M1,
-    /// A Grant while a client has an open Probe on the block.
+    /// A Grant while a client has an open Probe on the block. [own profile, after the concurrency rules]
     M2,
-    /// A Probe while a client has an open Grant on the block.
+    /// A Probe while a client has an open Grant on the block. [own profile, after the concurrency rules]
     M3,
-    /// A monitor's watch flags the beat.
+    /// A monitor's watch flags the beat. [own profile]
     X1,
 }
 
@@ -307,6 +336,7 @@ pub fn to_of(op: Op, param: u8) -> Option<Perm>
 }
 
 /// Whether the first permission allows more than the second: Trunk more than Branch, and Branch more than Nothing.
+/// [TileLink 1.8: coherence, permissions]
 pub fn is_above(perm: Perm, other: Perm) -> bool
     ensures { result ≡ is_above perm other }
 {

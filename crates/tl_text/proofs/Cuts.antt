@@ -1,9 +1,8 @@
 -- Cutting bytes at the first stop, and joining them again.
-use Rattle.std.proofs.Common.{◌≡◌, ℕ, suc, ◌+◌, ◌-◌, ◌≤◌, Bool, true, false, cond, eqb, ltb, not, List, [], ◌∷◌, ◌++◌, length, length-append, append_assoc, take, drop, Option, Some, None, refl, sym, ap, subst, ◌∙◌, arith, inl, inr}
+use Rattle.std.proofs.Common.{◌≡◌, ℕ, suc, ◌+◌, Bool, true, false, cond, eqb, ltb, not, List, [], ◌∷◌, ◌++◌, length, append_assoc, take, drop, Option, Some, None, refl, sym, ap, subst, ◌∙◌, arith, inl, inr}
 use Rattle.std.specs.Prelude.{◌==◌, option_map, IfSome}
 use Rattle.std.specs.List.{position, position_or_len, list_all, onto_first}
 use Rattle.std.proofs.lemmas.Bool.{eqb-true, eq-eqb, cases_lt, lt-ltb, le-ltb, and_parts, not-true}
-use Rattle.std.proofs.Math.Seq.{drop-append_seam}
 use Rattle.std.proofs.lemmas.Option.{none-some, same_Some}
 use Rattle.tl_text.specs.Words.{cut, before_stop, word_at, lines_of, first_line, IsBehind}
 
@@ -45,12 +44,6 @@ cut_again stop [] rest free = rw (eq-eqb stop stop refl) refl
 cut_again stop (b ∷ word) rest free =
     let parts = and_parts _ _ free in
     rw (not-true (eqb b stop) parts.0, cut_again stop word rest parts.1) refl
-
-pub cut_whole : (stop : ℕ) (word : List ℕ) → is_free stop word ≡ true → cut stop word ≡ (word, None)
-cut_whole stop [] free = refl
-cut_whole stop (b ∷ word) free =
-    let parts = and_parts _ _ free in
-    rw (not-true (eqb b stop) parts.0, cut_whole stop word parts.1) refl
 
 takes_at : (t : Bool) (b stop : ℕ) (bytes word rest : List ℕ) → (t ≡ true → b ≡ stop) → ((w : List ℕ) → cut stop bytes ≡ (w, Some rest) → bytes ≡ w ++ stop ∷ rest)
     → ◌≡◌ {A = List ℕ × Option (List ℕ)} (cond t ([], Some bytes) (b ∷ (cut stop bytes).0, (cut stop bytes).1)) (word, Some rest) → b ∷ bytes ≡ word ++ stop ∷ rest
@@ -148,15 +141,6 @@ behind_line bytes rest line after behind e =
     let one : bytes ≡ behind.0 ++ (line ++ 10 ∷ after) = behind.1 ∙ ap (λ (l : List ℕ). behind.0 ++ l) e in
     let two : line ++ 10 ∷ after ≡ (line ++ 10 ∷ []) ++ after = sym (append_assoc line (10 ∷ []) after) in
     (behind.0 ++ (line ++ 10 ∷ []), one ∙ ap (λ (l : List ℕ). behind.0 ++ l) two ∙ sym (append_assoc behind.0 (line ++ 10 ∷ []) after))
-
-pub behind_length : (bytes rest : List ℕ) → IsBehind bytes rest → length rest ≤ length bytes
-behind_length bytes rest behind = omega (arith, ap (λ (l : List ℕ). length l) behind.1, length-append behind.0 rest)
-
-pub behind_drop : (bytes rest : List ℕ) → IsBehind bytes rest → drop (length bytes - length rest) bytes ≡ rest
-behind_drop bytes rest behind =
-    let whole : length bytes ≡ length behind.0 + length rest = ap (λ (l : List ℕ). length l) behind.1 ∙ length-append behind.0 rest in
-    let front : length bytes - length rest ≡ length behind.0 = omega (arith, whole) in
-    rw front (ap (λ (l : List ℕ). drop (length behind.0) l) behind.1 ∙ drop-append_seam behind.0 rest)
 
 pub behind_on : (bytes rest last : List ℕ) → IsBehind bytes rest → IsBehind rest last → IsBehind bytes last
 behind_on bytes rest last first second =

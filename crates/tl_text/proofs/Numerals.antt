@@ -22,9 +22,6 @@ pub digit_again : (base d : ℕ) → d < base → base ≤ 16 → digit base (di
 unfolding digit
 digit_again base d lt small = grind (arith, nat_tests)
 
-abbrev done : {A : Type 0} → A → Option A
-done x = Some x
-
 pub bind_some : {A B : Type 0} (o : Option A) (f : A → Option B) (y : B) → (o >>= f) ≡ Some y → (x : A) × (o ≡ Some x) × (f x ≡ Some y)
 bind_some None f y e = absurd (none-some y e)
 bind_some (Some x) f y e = (x, refl, e)

@@ -3,7 +3,7 @@ use Rattle.std.proofs.Common.{◌≡◌, ℕ, ◌+◌, ◌-◌, ◌≤◌, List,
 use Rattle.std.specs.Prelude.{OnOk, OnErr, IsErr}
 use Rattle.std.proofs.lemmas.List.{take_all, take-append-le}
 use Rattle.std.proofs.Math.Seq.{take-add, take-append-add}
-use Rattle.std.specs.Io.KnownBytes.{Appends, Keeps}
+use Rattle.std.specs.Io.KnownBytes.{Appends}
 use Rattle.tl_text.specs.Written.{Writes}
 
 pub then : (old mid new : Option (List ℕ)) (a b c : List ℕ) → Appends old mid a → Appends mid new b → a ++ b ≡ c → Appends old new c
@@ -20,12 +20,6 @@ pub wrote_more : (old mid new : Option (List ℕ)) (d n : ℕ) (bytes : List ℕ
 wrote_more old mid new d n bytes p q =
     let rest : take (length bytes - d) (drop d bytes) ≡ drop d bytes = take_all (length bytes - d) (drop d bytes) (omega (arith, length-drop d bytes)) in
     then old mid new (take d bytes) (take n (drop d bytes)) (take (d + n) bytes) p (rw (← rest) q) (sym (take-add d n bytes))
-
-pub wrote_none : (old mid new : Option (List ℕ)) (a : List ℕ) → Appends old mid a → Keeps mid new → Appends old new a
-wrote_none None mid new a p q = tt
-wrote_none (Some x) None new a p q = absurd p
-wrote_none (Some x) (Some y) None a p q = absurd q
-wrote_none (Some x) (Some y) (Some z) a p q = q ∙ p
 
 -- ---- one text behind another, between states of a sink
 

@@ -50,6 +50,7 @@ pub enum TextFault {
     /// More bytes came than the limit.
     #[error("the text is longer than its limit")]
     TooLong,
+    /// A growth was refused.
     #[error("out of memory")]
     Memory,
 }

@@ -18,9 +18,11 @@ pub use topo::Topo;
 /// A link as its topology declares it.
 #[derive(Clone, Copy, Debug, PartialEq, Eq)]
 pub struct LinkDecl {
+    /// What the topology calls it.
     pub name: Name,
     /// The number of its manager, from 0 in declared order.
     pub manager: u16,
+    /// How much of the protocol it speaks.
     pub level: Level,
     /// Bytes of data in one beat: a power of two from 1 to 64.
     pub width: u8,

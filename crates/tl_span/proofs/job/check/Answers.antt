@@ -10,7 +10,7 @@ use Rattle.tl_definitions.specs.Judging.{all_judged, all_next}
 use Rattle.tl_span.specs.Jobs.{manager_from}
 use Rattle.tl_span.specs.States.{shown, Serves}
 use Rattle.tl_span.proofs.ListLaws.{same_item}
-use Rattle.tl_span.proofs.StateLaws.{same_shown, same_is_of}
+use Rattle.tl_span.proofs.StateLaws.{same_shown}
 use Rattle.tl_span.proofs.JobLaws.{rows_more, exit_more, all_rows}
 use Rattle.tl_span.proofs.job.check.Goals as goal
 
@@ -26,9 +26,9 @@ no_beat = record {
 pub loop-at-init : goal.loop-at-init
 loop-at-init c =
     let m : Manager = manager_from c.args.links.now c.args.exponent (areas_of c.args.regions.now) c.args.entry.now in
-    let same = sym (same_shown c.args.entry.now c.in_ok-state.state c.in_ok-state.ensures) in
+    let same = sym (same_shown c.args.entry.now c.in_ok-state.state c.in_ok-state.ensures.same) in
     record {
-      of = same_is_of m (length c.args.links.now) c.args.entry.now c.in_ok-state.state c.requires.entry c.in_ok-state.ensures;
+      of = c.in_ok-state.ensures.kept m (length c.args.links.now) c.requires.entry;
       exit = ap (λ s. all_next m s c.args.beats.now) same;
       found = ap (λ rows. rows ++ all_judged m (shown c.in_ok-state.state) c.args.beats.now) c.new-rows.ensures.items ∙ ap (λ s. all_judged m s c.args.beats.now) same;
     }

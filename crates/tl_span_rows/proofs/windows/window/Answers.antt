@@ -1,12 +1,12 @@
 use Rattle.std.proofs.Common.{◌<◌, length, get_or, false, rules, sym, subst}
-use Rattle.std.specs.List.{All}
+use Rattle.std.specs.List.{All, AllByRecursion}
 use Rattle.std.specs.List.Sorted.{IsStrictlySortedBy}
 use Rattle.std.proofs.lemmas.List.Elements.{All-nil, All-push}
 use Rattle.tl_tables.specs.declared.Chan.TheVariants as chan
 use Rattle.tl_beats.specs.Beats.{IsWellFormed}
 use Rattle.tl_beats.specs.declared.Placed.{Placed}
-use Rattle.tl_definitions.specs.Positions.{position_order}
-use Rattle.tl_span_rows.proofs.RisingBeats.{strict_none, beats_more}
+use Rattle.tl_definitions.specs.Positions.{position_order, IsBefore}
+use Rattle.tl_span_rows.proofs.RisingBeats.{strict_none, strict_more, before_last}
 use Rattle.tl_span_rows.proofs.windows.window.Goals as goal
 
 -- What an index past the last beat leads to.
@@ -23,14 +23,20 @@ loop-at-init c = record {
   formed = subst (All (λ (p : Placed). IsWellFormed p.beat)) (sym c.new-window.ensures.items) (All-nil (λ (p : Placed). IsWellFormed p.beat));
   within = subst (All (λ (p : Placed). p.link < length c.args.topo.now.links)) (sym c.new-window.ensures.items) (All-nil (λ (p : Placed). p.link < length c.args.topo.now.links));
   rises = subst (IsStrictlySortedBy position_order) (sym c.new-window.ensures.items) (strict_none position_order);
+  last = λ p next. subst (AllByRecursion (λ (q : Placed). IsBefore q p)) (sym c.new-window.ensures.items) tt;
 }
 
 pub loop-at-preserved : goal.loop-at-preserved
-loop-at-preserved c = record {
-  formed = subst (All (λ (p : Placed). IsWellFormed p.beat)) (sym c.in_ok-push.ensures.items)
-      (All-push (λ (p : Placed). IsWellFormed p.beat) c.loop-at.window.items _ c.loop-at.invariant.formed (c.fits.ensures.formed (search rules)));
-  within = subst (All (λ (p : Placed). p.link < length c.args.topo.now.links)) (sym c.in_ok-push.ensures.items)
-      (All-push (λ (p : Placed). p.link < length c.args.topo.now.links) c.loop-at.window.items _ c.loop-at.invariant.within (c.fits.ensures.within (search rules)));
-  rises = subst (IsStrictlySortedBy position_order) (sym c.in_ok-push.ensures.items)
-      (beats_more c.loop-at.window.items c.deref.result.now (get_or c.args.beats.now c.loop-at.at-index no_beat) (search rules) c.loop-at.invariant.rises (c.fits.ensures.rises (search rules)));
-}
+loop-at-preserved c =
+    let at : Placed = get_or c.args.beats.now c.loop-at.at-index no_beat in
+    let below : AllByRecursion (λ q. IsBefore q at) c.loop-at.window.items = c.loop-at.invariant.last at (c.fits.ensures.rises (search rules)) in
+    record {
+      formed = subst (All (λ (p : Placed). IsWellFormed p.beat)) (sym c.in_ok-push.ensures.items)
+          (All-push (λ (p : Placed). IsWellFormed p.beat) c.loop-at.window.items _ c.loop-at.invariant.formed (c.fits.ensures.formed (search rules)));
+      within = subst (All (λ (p : Placed). p.link < length c.args.topo.now.links)) (sym c.in_ok-push.ensures.items)
+          (All-push (λ (p : Placed). p.link < length c.args.topo.now.links) c.loop-at.window.items _ c.loop-at.invariant.within (c.fits.ensures.within (search rules)));
+      rises = subst (IsStrictlySortedBy position_order) (sym c.in_ok-push.ensures.items)
+          (strict_more position_order c.loop-at.window.items at c.loop-at.invariant.rises below);
+      last = λ p next. subst (AllByRecursion (λ (q : Placed). IsBefore q p)) (sym c.in_ok-push.ensures.items)
+          (before_last c.loop-at.window.items at p below next);
+    }

@@ -6,7 +6,6 @@ use Rattle.std.proofs.lemmas.Bool.Decides.{nat_tests}
 use Rattle.tl_tables.specs.declared.Op.{Op}
 use Rattle.tl_tables.specs.declared.Rule.{Rule}
 use Rattle.tl_topology.specs.declared.LinkDecl.{LinkDecl}
-use Rattle.tl_beats.specs.declared.Beat.{Beat}
 use Rattle.tl_beats.specs.declared.Placed.{Placed}
 use Rattle.tl_definitions.specs.Heads.{message_of, last_head, before_on}
 use Rattle.tl_definitions.specs.Messages.{Message, message_at, with_message, at_head, messages_on}
@@ -14,9 +13,8 @@ use Rattle.tl_definitions.specs.Past.{LinkPast, past_of, pasts_of}
 use Rattle.tl_definitions.specs.Rules.{Manager, breaks_format, breaks_flow, breaks_permission, breaks_manager, format_order, flow_order, permission_order, manager_order, format_rules}
 use Rattle.tl_definitions.specs.Breaks.{head_rules, later_rules, rules_at}
 use Rattle.tl_definitions.specs.Judging.{past_with}
-use Rattle.tl_definitions.proofs.JudgingLaws.{message_next}
-use Rattle.tl_flow_rules.specs.Flow.{flow_rules, answered}
-use Rattle.tl_perm_rules.specs.Client.{client_view, answered_in}
+use Rattle.tl_flow_rules.specs.Flow.{flow_rules}
+use Rattle.tl_perm_rules.specs.Client.{client_view}
 use Rattle.tl_perm_rules.proofs.ClientLaws.{past_law}
 use Rattle.tl_manager_rules.specs.declared.manager.ManagerState.{ManagerState}
 use Rattle.tl_manager_rules.specs.Manager.{Shows, StandsFor, rules_in, pasts_with}

@@ -8,7 +8,7 @@ use Rattle.std.proofs.lemmas.Slice.Eq.{bytes_eq-Decides}
 use Rattle.tl_text.specs.Words.{◌>>=◌, ◌␣◌, word_at}
 use Rattle.tl_text.specs.Numbers.{number_at, numeral}
 use Rattle.tl_text.specs.Names.{is_name}
-use Rattle.tl_text.proofs.Cuts.{is_free, word_again, word_takes}
+use Rattle.tl_text.proofs.Cuts.{is_free, word_again}
 use Rattle.tl_text.proofs.Numerals.{bind_some, number_takes, number_again, numeral_free}
 use Rattle.tl_text.proofs.Spelling.{name_free, decimal_line, name_line, spaced_free, word_step}
 use Rattle.tl_tables.specs.declared.Level.{Level}

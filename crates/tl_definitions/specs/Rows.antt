@@ -180,9 +180,16 @@ FlowRows =
     -- Two Releases on one source.
     × (found (fragment 0 1 (c 10 6 5 6 0 0x1000 ∷ c 20 6 5 6 0 0x1040 ∷ d 30 6 0 5 0 0 false ∷ d 40 6 0 6 0 0 false ∷ []))
     ≡ row 0 1 3 rule.S6 ∷ row 0 1 4 rule.F8 ∷ row 0 1 4 rule.S7 ∷ row 0 1 5 rule.S5 ∷ [])
+    -- A request and a Release on one source: each reply closes its own.
+    × (found (fragment 0 1 (a 10 4 0 3 0 0x1000 0xff ∷ c 11 6 5 6 0 0x2000 ∷ d 20 6 0 6 0 0 false ∷ d 30 1 0 3 0 0 false ∷ [])) ≡ [])
+    -- The same the other way round.
+    × (found (fragment 0 1 (c 10 6 5 6 0 0x2000 ∷ a 11 4 0 3 0 0x1000 0xff ∷ d 20 1 0 3 0 0 false ∷ d 30 6 0 6 0 0 false ∷ [])) ≡ [])
     -- Two Grants on one sink.
     × (found (fragment 0 1 (a 10 7 0 6 0 0x1000 0xff ∷ a 11 7 0 6 1 0x1040 0xff ∷ d 20 4 1 6 0 3 false ∷ d 30 4 1 6 1 3 false ∷ e 40 3 ∷ e 50 3 ∷ []))
     ≡ row 0 1 5 rule.S8 ∷ row 0 1 7 rule.S9 ∷ [])
+    -- The second of them denied.
+    × (found (fragment 0 1 (a 10 7 0 6 0 0x1000 0xff ∷ a 11 7 0 6 1 0x1040 0xff ∷ d 20 4 1 6 0 3 false ∷ d 30 4 1 6 1 3 true ∷ []))
+    ≡ row 0 1 5 rule.S8 ∷ [])
     -- A Grant in two fragments of one link, beside another link.
     × (found (fragment 0 1 (a 4000 6 0 6 0 0x1000 0xff ∷ []) ++ fragment 0 2 (grant 4092 1 3 ++ e 4100 3 ∷ [])
     ++ fragment 2 1 (a 8200 4 0 3 0 0x1000 0xff ∷ d 8210 1 0 3 0 0 false ∷ [])) ≡ [])

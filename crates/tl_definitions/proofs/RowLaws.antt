@@ -21,7 +21,7 @@ burst_rows = (refl, refl, refl, refl, refl, refl, refl, refl, refl, refl)
 
 pub flow_rows : FlowRows
 unfolding op_at
-flow_rows = (refl, refl, refl, refl, refl, refl, refl, refl, refl, refl, refl, refl, refl)
+flow_rows = (refl, refl, refl, refl, refl, refl, refl, refl, refl, refl, refl, refl, refl, refl, refl)
 
 pub reply_rows : ReplyRows
 unfolding op_at

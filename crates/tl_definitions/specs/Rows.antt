@@ -184,6 +184,12 @@ FlowRows =
     × (found (fragment 0 1 (a 10 4 0 3 0 0x1000 0xff ∷ c 11 6 5 6 0 0x2000 ∷ d 20 6 0 6 0 0 false ∷ d 30 1 0 3 0 0 false ∷ [])) ≡ [])
     -- The same the other way round.
     × (found (fragment 0 1 (c 10 6 5 6 0 0x2000 ∷ a 11 4 0 3 0 0x1000 0xff ∷ d 20 1 0 3 0 0 false ∷ d 30 6 0 6 0 0 false ∷ [])) ≡ [])
+    -- ReleaseAcks that are denied break what others break, and close.
+    × (found (fragment 0 1 (c 10 6 5 6 0 0x1000 ∷ corrupt (d 20 6 0 8 0 0 true) ∷ d 30 6 0 6 4 0 true ∷ d 40 6 0 6 0 0 false ∷ []))
+    ≡ row 0 1 3 rule.F4 ∷ row 0 1 3 rule.F6 ∷ row 0 1 3 rule.F8 ∷ row 0 1 3 rule.S7 ∷ row 0 1 4 rule.F9 ∷ row 0 1 4 rule.S5 ∷ row 0 1 5 rule.S5 ∷ [])
+    -- A ProbeAck and a Release that are corrupt, though they have no data.
+    × (found (fragment 0 1 (corrupt (c 10 4 5 6 0 0x1000) ∷ c 20 6 5 6 0 0x2000 ∷ corrupt (c 21 6 5 6 0 0x3000) ∷ []))
+    ≡ row 0 1 2 rule.F6 ∷ row 0 1 2 rule.P3 ∷ row 0 1 4 rule.F6 ∷ row 0 1 4 rule.S6 ∷ [])
     -- Two Grants on one sink.
     × (found (fragment 0 1 (a 10 7 0 6 0 0x1000 0xff ∷ a 11 7 0 6 1 0x1040 0xff ∷ d 20 4 1 6 0 3 false ∷ d 30 4 1 6 1 3 false ∷ e 40 3 ∷ e 50 3 ∷ []))
     ≡ row 0 1 5 rule.S8 ∷ row 0 1 7 rule.S9 ∷ [])

@@ -35,15 +35,15 @@ manager_declared topo es links new manager n exponent was unused power large roo
     (declares_manager es links new manager n exponent (subst (λ (t : Topology). is_named t manager.name ≡ false) (sym was) unused) power large room put)
 
 declares_link : (managers : List (List ℕ × ℕ)) (es new : List (List ℕ × LinkDecl)) (link : LinkLine) (n : ℕ) (manager : ℕ × ℕ) (decl : LinkDecl)
-    → is_named (record { managers = managers; links = es }) link.name ≡ false → manager_named (record { managers = managers; links = es }) link.manager ≡ Some manager → fitted link manager.0 manager.1 n ≡ Ok decl → length es < 64
+    → is_named (record { managers = managers; links = es }) link.name ≡ false → manager_named (record { managers = managers; links = es }) link.manager ≡ Some manager → fitted link manager.0 manager.1 n ≡ Ok decl → length es < 256
     → new ≡ insert_entry bytes_eq es link.name decl → with_link (record { managers = managers; links = es }) link n ≡ Ok (record { managers = managers; links = new })
 unfolding with_link
 declares_link managers es new link n manager decl unused is fits room put =
     let last : new ≡ es ++ (link.name, decl) ∷ [] = put ∙ insert_new bytes_eq link.name decl es (unnamed _ _ unused).1 in
-    rw (unused, is, fits, lt-leb 64 (length es) room, last) refl
+    rw (unused, is, fits, lt-leb 256 (length es) room, last) refl
 
 pub link_declared : (topo : Topology) (managers : List (List ℕ × ℕ)) (es new : List (List ℕ × LinkDecl)) (link : LinkLine) (n : ℕ) (manager : ℕ × ℕ) (decl : LinkDecl) → record { managers = managers; links = es } ≡ topo
-    → is_named topo link.name ≡ false → manager_named topo link.manager ≡ Some manager → fitted link manager.0 manager.1 n ≡ Ok decl → length es < 64
+    → is_named topo link.name ≡ false → manager_named topo link.manager ≡ Some manager → fitted link manager.0 manager.1 n ≡ Ok decl → length es < 256
     → new ≡ insert_entry bytes_eq es link.name decl → with_link topo link n ≡ Ok (record { managers = managers; links = new })
 link_declared topo managers es new link n manager decl was unused is fits room put =
     subst (λ (t : Topology). with_link t link n ≡ Ok (record { managers = managers; links = new })) was
@@ -58,10 +58,10 @@ one_sound name decl sound zero d lt = sound
 one_sound name decl sound (suc k) d lt = absurd (omega arith)
 
 pub topology_with_link : (managers : List (List ℕ × ℕ)) (es new : List (List ℕ × LinkDecl)) (topo : Topology) (name : List ℕ) (decl : LinkDecl) → record { managers = managers; links = es } ≡ topo → is_named topo name ≡ false
-    → IsTopology (record { managers = managers; links = es }) → IsSound decl → decl.manager < length managers → length es < 64 → new ≡ insert_entry bytes_eq es name decl → IsTopology (record { managers = managers; links = new })
+    → IsTopology (record { managers = managers; links = es }) → IsSound decl → decl.manager < length managers → length es < 256 → new ≡ insert_entry bytes_eq es name decl → IsTopology (record { managers = managers; links = new })
 topology_with_link managers es new topo name decl was unused kept sound managed room put =
     let here : is_named (record { managers = managers; links = es }) name ≡ false = subst (λ (t : Topology). is_named t name ≡ false) (sym was) unused in
-    let one_more : length (es ++ (name, decl) ∷ []) ≤ 64 = omega (arith, length-append es ((name, decl) ∷ [])) in
+    let one_more : length (es ++ (name, decl) ∷ []) ≤ 256 = omega (arith, length-append es ((name, decl) ∷ [])) in
     let last : new ≡ es ++ (name, decl) ∷ [] = put ∙ insert_new bytes_eq name decl es (unnamed _ _ here).1 in
     rw last (record {
       managers = kept.managers;

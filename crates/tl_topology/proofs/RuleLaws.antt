@@ -8,11 +8,12 @@ use Rattle.std.proofs.lemmas.Bool.{false≢true, cases_lt, ne_eqb, lt-ltb, le-lt
 use Rattle.tl_text.specs.Words.{◌>>=◌, word_at}
 use Rattle.tl_text.specs.Readings.{◌>>>◌, or_fault}
 use Rattle.tl_topology.specs.declared.LinkDecl.{LinkDecl}
+use Rattle.tl_topology.specs.declared.reading.Version.{Version}
 use Rattle.tl_topology.specs.declared.reading.ManagerLine.{ManagerLine}
 use Rattle.tl_topology.specs.declared.reading.LinkLine.{LinkLine}
 use Rattle.tl_topology.specs.declared.fault.TopoFault.{TopoFault}
 use Rattle.tl_topology.specs.declared.fault.TopoFault.TheVariants as fault
-use Rattle.tl_topology.specs.Topology.{Topology, is_named, exponent_of, is_width, is_size}
+use Rattle.tl_topology.specs.Topology.{Topology, is_named, exponent_of, is_width, is_size, may_be_strict}
 use Rattle.tl_topology.specs.Reading.{manager_at, link_at, manager_named, with_manager, fitted, with_link, declared}
 use Rattle.tl_topology.specs.Text.{Declaration, a_manager, a_link, IsSpelled}
 use Rattle.tl_topology.specs.Declarations.{Rule, rules_of, with_declaration, IsLawful}
@@ -97,37 +98,48 @@ abbrev link_put : Topology → List ℕ → LinkDecl → Topology
 link_put topo name decl = record { managers = topo.managers; links = topo.links ++ (name, decl) ∷ [] }
 
 abbrev link_with : LinkLine → ℕ → LinkDecl
-link_with link number = record { name = link.name; manager = number; level = link.level; width = link.width; max_size = link.max_size; sources = link.sources }
+link_with link number = record { name = link.name; manager = number; level = link.level; width = link.width; max_size = link.max_size; sources = link.sources; strict = link.strict }
 
-abbrev link_tests : Bool → Bool → Bool → Bool → Bool → List Rule
-link_tests unused known wide size room =
-    (unused, λ line. fault.NameTwice line) ∷ (known, λ line. fault.NoManager line) ∷ (wide, λ line. fault.BadWidth line) ∷ (size, λ line. fault.BadSize line) ∷ (room, λ line. fault.TooManyLinks line) ∷ []
+abbrev link_tests : Bool → Bool → Bool → Bool → Bool → Bool → List Rule
+link_tests unused known wide size marked room =
+    (unused, λ line. fault.NameTwice line) ∷ (known, λ line. fault.NoManager line) ∷ (wide, λ line. fault.BadWidth line) ∷ (size, λ line. fault.BadSize line)
+    ∷ (marked, λ line. fault.StrictLevel line) ∷ (room, λ line. fault.TooManyLinks line) ∷ []
 
-abbrev fits : Bool → Bool → ℕ → LinkDecl → Result LinkDecl TopoFault
-fits wide size n decl = cond (not wide) (Err (fault.BadWidth n)) (cond (not size) (Err (fault.BadSize n)) (Ok decl))
+abbrev fits : Bool → Bool → Bool → ℕ → LinkDecl → Result LinkDecl TopoFault
+fits wide size marked n decl = cond (not wide) (Err (fault.BadWidth n)) (cond (not size) (Err (fault.BadSize n)) (cond (not marked) (Err (fault.StrictLevel n)) (Ok decl)))
 
-link_fits : (wide size full : Bool) (n : ℕ) (topo : Topology) (name : List ℕ) (decl : LinkDecl)
-    → (fits wide size n decl >>> λ d. cond full (Err (fault.TooManyLinks n)) (Ok (link_put topo name d))) ≡ given (first_broken (link_tests true true wide size (not full)) n) (link_put topo name decl)
-link_fits false size full n topo name decl = refl
-link_fits true false full n topo name decl = refl
-link_fits true true true n topo name decl = refl
-link_fits true true false n topo name decl = refl
+link_fits : (wide size marked full : Bool) (n : ℕ) (topo : Topology) (name : List ℕ) (decl : LinkDecl)
+    → (fits wide size marked n decl >>> λ d. cond full (Err (fault.TooManyLinks n)) (Ok (link_put topo name d))) ≡ given (first_broken (link_tests true true wide size marked (not full)) n) (link_put topo name decl)
+link_fits false size marked full n topo name decl = refl
+link_fits true false marked full n topo name decl = refl
+link_fits true true false full n topo name decl = refl
+link_fits true true true true n topo name decl = refl
+link_fits true true true false n topo name decl = refl
+
+-- whether a link fits a manager's block, and what its declaration makes
+abbrev fitting : LinkLine → ℕ × ℕ → ℕ → Result LinkDecl TopoFault
+fitting link m n = fits (is_width link.width) (is_size link.level link.width m.1 link.max_size) (may_be_strict link.level link.strict) n (link_with link m.0)
+
+abbrev tests_of : LinkLine → Bool → Option (ℕ × ℕ) → Bool → List Rule
+tests_of link unused known full =
+    link_tests unused (is_some known) (is_width link.width) (is_size link.level link.width (unwrap_or known (0, 0)).1 link.max_size) (may_be_strict link.level link.strict) (not full)
 
 link_known : (known : Option (ℕ × ℕ)) (full : Bool) (n : ℕ) (topo : Topology) (link : LinkLine)
-    → (or_fault known (fault.NoManager n) >>> λ m. (fits (is_width link.width) (is_size link.level link.width m.1 link.max_size) n (link_with link m.0) >>> λ d. cond full (Err (fault.TooManyLinks n)) (Ok (link_put topo link.name d))))
-    ≡ given (first_broken (link_tests true (is_some known) (is_width link.width) (is_size link.level link.width (unwrap_or known (0, 0)).1 link.max_size) (not full)) n) (link_put topo link.name (link_with link (unwrap_or known (0, 0)).0))
+    → (or_fault known (fault.NoManager n) >>> λ m. (fitting link m n >>> λ d. cond full (Err (fault.TooManyLinks n)) (Ok (link_put topo link.name d))))
+    ≡ given (first_broken (tests_of link true known full) n) (link_put topo link.name (link_with link (unwrap_or known (0, 0)).0))
 link_known None full n topo link = refl
-link_known (Some m) full n topo link = link_fits (is_width link.width) (is_size link.level link.width m.1 link.max_size) full n topo link.name (link_with link m.0)
+link_known (Some m) full n topo link =
+    link_fits (is_width link.width) (is_size link.level link.width m.1 link.max_size) (may_be_strict link.level link.strict) full n topo link.name (link_with link m.0)
 
 link_named_at : (named : Bool) (known : Option (ℕ × ℕ)) (full : Bool) (n : ℕ) (topo : Topology) (link : LinkLine)
-    → cond named (Err (fault.NameTwice n)) (or_fault known (fault.NoManager n) >>> λ m. (fits (is_width link.width) (is_size link.level link.width m.1 link.max_size) n (link_with link m.0) >>> λ d. cond full (Err (fault.TooManyLinks n)) (Ok (link_put topo link.name d))))
-    ≡ given (first_broken (link_tests (not named) (is_some known) (is_width link.width) (is_size link.level link.width (unwrap_or known (0, 0)).1 link.max_size) (not full)) n) (link_put topo link.name (link_with link (unwrap_or known (0, 0)).0))
+    → cond named (Err (fault.NameTwice n)) (or_fault known (fault.NoManager n) >>> λ m. (fitting link m n >>> λ d. cond full (Err (fault.TooManyLinks n)) (Ok (link_put topo link.name d))))
+    ≡ given (first_broken (tests_of link (not named) known full) n) (link_put topo link.name (link_with link (unwrap_or known (0, 0)).0))
 link_named_at true known full n topo link = refl
 link_named_at false known full n topo link = link_known known full n topo link
 
 link_meant : (topo : Topology) (link : LinkLine) (n : ℕ) → with_link topo link n ≡ meant topo (a_link link) n
 unfolding with_link fitted meant rules_of with_declaration
-link_meant topo link n = rw (room_test (length topo.links) 64) (link_named_at (is_named topo link.name) (manager_named topo link.manager) (leb 64 (length topo.links)) n topo link)
+link_meant topo link n = rw (room_test (length topo.links) 256) (link_named_at (is_named topo link.name) (manager_named topo link.manager) (leb 256 (length topo.links)) n topo link)
 
 -- ---- a line
 
@@ -139,12 +151,12 @@ links_meant : (read : Option LinkLine) (topo : Topology) (n : ℕ) → (or_fault
 links_meant None topo n = refl
 links_meant (Some l) topo n = link_meant topo l n
 
-kind_meant : (s t : Bool) (rest : List ℕ) (topo : Topology) (n : ℕ)
-    → cond s (or_fault (manager_at rest) (fault.BadLine n) >>> λ m. with_manager topo m n) (cond t (or_fault (link_at rest) (fault.BadLine n) >>> λ l. with_link topo l n) (Err (fault.BadLine n)))
-    ≡ (or_fault (cond s (manager_at rest >>= λ m. Some (a_manager m)) (cond t (link_at rest >>= λ l. Some (a_link l)) None)) (fault.BadLine n) >>> λ d. meant topo d n)
-kind_meant true t rest topo n = managers_meant (manager_at rest) topo n
-kind_meant false true rest topo n = links_meant (link_at rest) topo n
-kind_meant false false rest topo n = refl
+kind_meant : (version : Version) (s t : Bool) (rest : List ℕ) (topo : Topology) (n : ℕ)
+    → cond s (or_fault (manager_at rest) (fault.BadLine n) >>> λ m. with_manager topo m n) (cond t (or_fault (link_at version rest) (fault.BadLine n) >>> λ l. with_link topo l n) (Err (fault.BadLine n)))
+    ≡ (or_fault (cond s (manager_at rest >>= λ m. Some (a_manager m)) (cond t (link_at version rest >>= λ l. Some (a_link l)) None)) (fault.BadLine n) >>> λ d. meant topo d n)
+kind_meant version true t rest topo n = managers_meant (manager_at rest) topo n
+kind_meant version false true rest topo n = links_meant (link_at version rest) topo n
+kind_meant version false false rest topo n = refl
 
 word_meant : (word : Option (List ℕ × List ℕ)) (f : List ℕ × List ℕ → Result Topology TopoFault) (g : List ℕ × List ℕ → Option Declaration) (topo : Topology) (n : ℕ)
     → ((w : List ℕ × List ℕ) → f w ≡ (or_fault (g w) (fault.BadLine n) >>> λ d. meant topo d n)) → (or_fault word (fault.BadLine n) >>> f) ≡ (or_fault (word >>= g) (fault.BadLine n) >>> λ d. meant topo d n)
@@ -152,9 +164,9 @@ word_meant None f g topo n same = refl
 word_meant (Some w) f g topo n same = same w
 
 -- a line is judged as what it spells
-pub declared_meant : (topo : Topology) (line : List ℕ) (n : ℕ) → declared topo line n ≡ (or_fault (declaration_at line) (fault.BadLine n) >>> λ d. meant topo d n)
+pub declared_meant : (version : Version) (topo : Topology) (line : List ℕ) (n : ℕ) → declared version topo line n ≡ (or_fault (declaration_at version line) (fault.BadLine n) >>> λ d. meant topo d n)
 unfolding declared declaration_at
-declared_meant topo line n = word_meant (word_at line) _ _ topo n (λ w. kind_meant (bytes_eq w.0 (codes "manager")) (bytes_eq w.0 (codes "link")) w.1 topo n)
+declared_meant version topo line n = word_meant (word_at line) _ _ topo n (λ w. kind_meant version (bytes_eq w.0 (codes "manager")) (bytes_eq w.0 (codes "link")) w.1 topo n)
 
 -- ---- what the rules say
 
@@ -182,13 +194,13 @@ given_err : (broken : Option TopoFault) (topo : Topology) (found : TopoFault) �
 given_err None topo found e = absurd cc
 given_err (Some other) topo found e = cc
 
-pub lawful_meant : (topo : Topology) (d : Declaration) (n : ℕ) → IsLawful topo d → meant topo d n ≡ Ok (with_declaration topo d)
+pub lawful_meant : (version : Version) (topo : Topology) (d : Declaration) (n : ℕ) → IsLawful version topo d → meant topo d n ≡ Ok (with_declaration topo d)
 unfolding meant
-lawful_meant topo d n lawful = ap (λ (o : Option TopoFault). given o (with_declaration topo d)) (all_kept (rules_of topo d) n lawful.kept)
+lawful_meant version topo d n lawful = ap (λ (o : Option TopoFault). given o (with_declaration topo d)) (all_kept (rules_of topo d) n lawful.kept)
 
-pub meant_lawful : (topo made : Topology) (d : Declaration) (n : ℕ) → IsSpelled d → meant topo d n ≡ Ok made → (with_declaration topo d ≡ made) × IsLawful topo d
+pub meant_lawful : (version : Version) (topo made : Topology) (d : Declaration) (n : ℕ) → IsSpelled version d → meant topo d n ≡ Ok made → (with_declaration topo d ≡ made) × IsLawful version topo d
 unfolding meant
-meant_lawful topo made d n spelled e =
+meant_lawful version topo made d n spelled e =
     let p = given_ok (first_broken (rules_of topo d) n) (with_declaration topo d) made e in
     (p.1, record { spelled = spelled; kept = none_broken (rules_of topo d) n p.0 })
 

@@ -1,25 +1,27 @@
 -- What the texts of topologies keep among themselves.
-use Rattle.std.proofs.Common.{◌≡◌, ℕ, List, [], ◌++◌, Result, Ok, Err, refl, sym, ap, ◌∙◌, inl, inr}
+use Rattle.std.proofs.Common.{◌≡◌, ℕ, false, List, [], ◌++◌, Result, Ok, Err, refl, sym, ap, ◌∙◌, inl, inr}
 use Rattle.std.specs.Prelude.{◌⊎◌}
 use Rattle.std.proofs.lemmas.List.{append-nil}
+use Rattle.std.proofs.lemmas.List.Elements.{All-from_recursion}
 use Rattle.tl_text.specs.Words.{lines_of}
+use Rattle.tl_topology.specs.declared.LinkDecl.{LinkDecl}
 use Rattle.tl_topology.specs.declared.fault.TopoFault.{TopoFault}
 use Rattle.tl_topology.specs.Topology.{Topology}
 use Rattle.tl_topology.specs.Reading.{topology_in}
-use Rattle.tl_topology.specs.Text.{topology_text}
+use Rattle.tl_topology.specs.Text.{Document, topology_text}
 use Rattle.tl_topology.specs.Declarations.{nothing, topology_of}
 use Rattle.tl_topology.specs.FirstFault.{IsFirstFault}
-use Rattle.tl_topology.specs.Laws.{OneTextOneTopology, NoTextBeginsAnother, OneFirstFault, BeginsWithTopology, FaultOrTopology}
-use Rattle.tl_topology.proofs.TopologyLaws.{lawful_spelled, one_front, one_fault, in_fails, bytes_taken, no_both}
+use Rattle.tl_topology.specs.Laws.{OneTextOneTopology, NoTextBeginsAnother, OneFirstFault, BeginsWithTopology, FaultOrTopology, VersionTwoHasVersionOne}
+use Rattle.tl_topology.proofs.TopologyLaws.{lawful_whole, lawful_in_two, none_strict, one_front, one_fault, in_fails, bytes_taken, no_both}
 
 pub one_text_one_topology : OneTextOneTopology
 one_text_one_topology a b first second e =
-    let both = one_front a b [] [] (lawful_spelled nothing a first) (lawful_spelled nothing b second) (ap (λ (l : List ℕ). l ++ []) e) in
-    (both.0, ap topology_of both.0)
+    let both = one_front a b [] [] (lawful_whole a first) (lawful_whole b second) (ap (λ (l : List ℕ). l ++ []) e) in
+    (both.0, ap (λ (d : Document). topology_of d.declarations) both.0)
 
 pub no_text_begins_another : NoTextBeginsAnother
 no_text_begins_another a b rest first second e =
-    (one_front a b rest [] (lawful_spelled nothing a first) (lawful_spelled nothing b second) (sym e ∙ sym (append-nil (topology_text b)))).1
+    (one_front a b rest [] (lawful_whole a first) (lawful_whole b second) (sym e ∙ sym (append-nil (topology_text b)))).1
 
 pub one_first_fault : OneFirstFault
 one_first_fault bytes a b first second = one_fault (lines_of bytes) a b first second
@@ -31,3 +33,8 @@ begins_or_fails bytes (Err found) e = inr (found, in_fails (lines_of bytes) foun
 pub fault_or_topology : FaultOrTopology
 fault_or_topology bytes =
     (begins_or_fails bytes (topology_in (lines_of bytes)) refl, λ begins found faulty. no_both bytes begins.1 begins.0 found begins.2.0 begins.2.1 faulty)
+
+pub version_two_has_version_one : VersionTwoHasVersionOne
+unfolding topology_of
+version_two_has_version_one ds lawful =
+    (lawful_in_two nothing ds lawful, none_strict nothing ds lawful (All-from_recursion (λ (p : List ℕ × LinkDecl). p.1.strict ≡ false) [] tt))

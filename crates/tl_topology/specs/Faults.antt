@@ -14,6 +14,7 @@ code_of (fault.NoManager line) = 5
 code_of (fault.TooManyLinks line) = 6
 code_of (fault.TooManyManagers line) = 9
 code_of (fault.BadSize line) = 10
+code_of (fault.StrictLevel line) = 37
 code_of fault.Memory = 20
 
 -- the line that is printed with it
@@ -26,6 +27,7 @@ number_of (fault.NoManager line) = Some line
 number_of (fault.TooManyLinks line) = Some line
 number_of (fault.TooManyManagers line) = Some line
 number_of (fault.BadSize line) = Some line
+number_of (fault.StrictLevel line) = Some line
 number_of fault.Memory = None
 
 abbrev pub is_memory : TopoFault → Bool

@@ -1,18 +1,21 @@
 -- What the texts of topologies keep among themselves.
-use Rattle.std.specs.Prelude.{◌≡◌, ℕ, ◌⊎◌, List, [], ◌++◌}
+use Rattle.std.specs.Prelude.{◌≡◌, ℕ, ◌⊎◌, false, List, [], ◌++◌}
+use Rattle.std.specs.List.{All}
 use Rattle.tl_text.specs.Words.{lines_of}
+use Rattle.tl_topology.specs.declared.reading.Version.TheVariants as version
 use Rattle.tl_topology.specs.declared.fault.TopoFault.{TopoFault}
-use Rattle.tl_topology.specs.Text.{Declaration, topology_text}
+use Rattle.tl_topology.specs.Text.{Declaration, Document, topology_text}
 use Rattle.tl_topology.specs.Declarations.{IsDeclaredInOrder, topology_of}
 use Rattle.tl_topology.specs.FirstFault.{IsFirstFault}
 
--- Two lists of declarations with one text are equal, and so are their topologies.
+-- Two documents with one text are equal, in version and declarations, and so are their topologies.
 abbrev pub OneTextOneTopology : Type 0
-OneTextOneTopology = (a b : List Declaration) → IsDeclaredInOrder a → IsDeclaredInOrder b → topology_text a ≡ topology_text b → (a ≡ b) × (topology_of a ≡ topology_of b)
+OneTextOneTopology = (a b : Document) → IsDeclaredInOrder a → IsDeclaredInOrder b → topology_text a ≡ topology_text b
+    → (a ≡ b) × (topology_of a.declarations ≡ topology_of b.declarations)
 
 -- A text that begins with another is that other.
 abbrev pub NoTextBeginsAnother : Type 0
-NoTextBeginsAnother = (a b : List Declaration) (rest : List ℕ) → IsDeclaredInOrder a → IsDeclaredInOrder b → topology_text b ≡ topology_text a ++ rest → rest ≡ []
+NoTextBeginsAnother = (a b : Document) (rest : List ℕ) → IsDeclaredInOrder a → IsDeclaredInOrder b → topology_text b ≡ topology_text a ++ rest → rest ≡ []
 
 -- A text has at most one first fault.
 abbrev pub OneFirstFault : Type 0
@@ -20,9 +23,15 @@ OneFirstFault = (bytes : List ℕ) (a b : TopoFault) → IsFirstFault (lines_of 
 
 -- the text of lawful declarations stands at the front
 abbrev pub BeginsWithTopology : List ℕ → Type 0
-BeginsWithTopology bytes = (declarations : List Declaration) × (rest : List ℕ) × (IsDeclaredInOrder declarations × (bytes ≡ topology_text declarations ++ rest))
+BeginsWithTopology bytes = (document : Document) × (rest : List ℕ) × (IsDeclaredInOrder document × (bytes ≡ topology_text document ++ rest))
 
 -- It has one exactly where it begins with no topology.
 abbrev pub FaultOrTopology : Type 0
 FaultOrTopology = (bytes : List ℕ) → (BeginsWithTopology bytes ⊎ ((found : TopoFault) × IsFirstFault (lines_of bytes) found))
     × (BeginsWithTopology bytes → (found : TopoFault) → IsFirstFault (lines_of bytes) found → ⊥)
+
+-- Declarations that are lawful in version 1 are lawful in version 2, where they make the same topology, and none of its
+-- links is strict.
+abbrev pub VersionTwoHasVersionOne : Type 0
+VersionTwoHasVersionOne = (declarations : List Declaration) → IsDeclaredInOrder (record { version = version.One; declarations = declarations })
+    → IsDeclaredInOrder (record { version = version.Two; declarations = declarations }) × All (λ p. p.1.strict ≡ false) (topology_of declarations).links

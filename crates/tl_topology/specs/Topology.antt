@@ -1,5 +1,5 @@
 -- A topology as plain data, and what may be declared behind it.
-use Rattle.std.specs.Prelude.{ℕ, ◌<◌, ◌≤◌, ◌^◌, ◌==◌, ◌&&◌, ◌||◌, Bool, List, [], ◌∷◌, length, map, Option, is_some, nat_le, position}
+use Rattle.std.specs.Prelude.{ℕ, ◌<◌, ◌≤◌, ◌^◌, ◌==◌, ◌&&◌, ◌||◌, not, Bool, true, List, [], ◌∷◌, length, map, Option, is_some, nat_le, position}
 use Rattle.std.specs.List.{All}
 use Rattle.std.specs.Str.{bytes_eq}
 use Rattle.tl_tables.specs.declared.Level.{Level}
@@ -36,6 +36,11 @@ is_size level.Ul width exponent size = nat_le size 15 && nat_le (2 ^ size) width
 is_size level.Uh width exponent size = nat_le size 15
 is_size level.C width exponent size = nat_le size 15 && nat_le exponent size
 
+-- only a client of level TL-C can be strict
+abbrev pub may_be_strict : Level → Bool → Bool
+may_be_strict level.C strict = true
+may_be_strict _ strict = not strict
+
 -- what a link keeps that a topology declares
 pub record IsSound (link : LinkDecl) : Type 0 where
   pub some_lane : 1 ≤ link.width
@@ -47,6 +52,6 @@ pub record IsSound (link : LinkDecl) : Type 0 where
 -- what each topology keeps
 pub record IsTopology (topo : Topology) : Type 0 where
   pub managers : length topo.managers ≤ 64
-  pub links : length topo.links ≤ 64
+  pub links : length topo.links ≤ 256
   pub sound : All (λ p. IsSound p.1) topo.links
   pub managed : All (λ p. p.1.manager < length topo.managers) topo.links

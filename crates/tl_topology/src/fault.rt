@@ -10,7 +10,7 @@ use thiserror::Error;
 /// The first cause in the first faulty line; each but `Memory` names that line, from 1.
 #[derive(Clone, Copy, Debug, Drop, Error, PartialEq, Eq)]
 pub enum TopoFault {
-    /// The line is spelled as none, has no newline, has a number above 65,536, or has no sources.
+    /// The line is spelled as none of the text's version, has no newline, has a number above 65,536, or has no sources.
     #[error("line {0} is no line of a topology")]
     BadLine(u64),
     /// The name is another link's or manager's.
@@ -25,8 +25,8 @@ pub enum TopoFault {
     /// No earlier line declares the link's manager.
     #[error("line {0} names a manager that no earlier line declares")]
     NoManager(u64),
-    /// 64 links stand before it.
-    #[error("line {0} declares the 65th link")]
+    /// 256 links stand before it.
+    #[error("line {0} declares the 257th link")]
     TooManyLinks(u64),
     /// 64 managers stand before it.
     #[error("line {0} declares the 65th manager")]
@@ -34,6 +34,9 @@ pub enum TopoFault {
     /// The largest size is above 15, above one beat on TL-UL, or below the block on TL-C.
     #[error("line {0} has a largest size that doesn't fit the link")]
     BadSize(u64),
+    /// The link is strict and of another level than TL-C.
+    #[error("line {0} has a strict link of a level without caching")]
+    StrictLevel(u64),
     /// A growth was refused.
     #[error("out of memory")]
     Memory,
@@ -53,6 +56,7 @@ impl TopoFault {
             TopoFault::TooManyLinks(_) => 6,
             TopoFault::TooManyManagers(_) => 9,
             TopoFault::BadSize(_) => 10,
+            TopoFault::StrictLevel(_) => 37,
             TopoFault::Memory => 20,
         }
     }
@@ -69,7 +73,8 @@ impl TopoFault {
             | TopoFault::NoManager(line)
             | TopoFault::TooManyLinks(line)
             | TopoFault::TooManyManagers(line)
-            | TopoFault::BadSize(line) => Some(*line),
+            | TopoFault::BadSize(line)
+            | TopoFault::StrictLevel(line) => Some(*line),
             TopoFault::Memory => None,
         }
     }

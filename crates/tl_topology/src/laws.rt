@@ -1,8 +1,8 @@
 //! What the texts of topologies keep among themselves.
 
-ghost use Rattle.tl_topology.specs.Laws.{OneTextOneTopology, NoTextBeginsAnother, OneFirstFault, FaultOrTopology};
+ghost use Rattle.tl_topology.specs.Laws.{OneTextOneTopology, NoTextBeginsAnother, OneFirstFault, FaultOrTopology, VersionTwoHasVersionOne};
 
-/// Two lists of declarations with one text are equal, and so are their topologies.
+/// Two documents with one text are equal, in version and declarations, and so are their topologies.
 #[tactic(auto, using(crate::proofs::TextLaws::one_text_one_topology))]
 pub fn one_text_one_topology()
     ensures { OneTextOneTopology }
@@ -22,4 +22,10 @@ pub fn one_first_fault()
 /// A text has a first fault exactly where it begins with no topology.
 pub fn fault_or_topology()
     ensures { FaultOrTopology }
+{}
+
+/// Version 2 has the lawful declarations of version 1, and these have no strict link.
+#[tactic(auto, using(crate::proofs::TextLaws::version_two_has_version_one))]
+pub fn version_two_has_version_one()
+    ensures { VersionTwoHasVersionOne }
 {}

@@ -30,4 +30,7 @@ pub struct LinkDecl {
     pub max_size: u8,
     /// How many sources it has, 1 to 65,536; they are numbered from 0.
     pub sources: u32,
+    /// Whether its client never drops a block in silence, so that what it may hold is what it holds and it claims
+    /// neither more nor less. Only on TL-C.
+    pub strict: bool,
 }

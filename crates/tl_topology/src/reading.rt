@@ -4,8 +4,8 @@ ghost use Rattle.std.specs.Prelude.{◌≡◌, ◌≤◌, ◌<◌, ◌++◌, ℕ
 ghost use Rattle.tl_text.specs.Words.{lines_of, IsBehind};
 ghost use Rattle.tl_text.specs.Readings.{Gives};
 ghost use Rattle.tl_topology.specs.Faults.{is_memory};
-ghost use Rattle.tl_topology.specs.Reading.{level_at, manager_at, limits_at, link_at, declared, topology_in};
-ghost use Rattle.tl_topology.specs.Text.{Declaration, topology_text};
+ghost use Rattle.tl_topology.specs.Reading.{version_at, level_at, manager_at, sizes_at, mark_at, sources_at, link_at, declared, topology_in};
+ghost use Rattle.tl_topology.specs.Text.{Document, topology_text};
 ghost use Rattle.tl_topology.specs.Declarations.{IsDeclaredInOrder, topology_of};
 ghost use Rattle.tl_topology.specs.FirstFault.{IsFirstFault};
 
@@ -17,6 +17,14 @@ use tl_tables::Level;
 use tl_text::{decimal, line, word};
 
 const MOST_NUMBER: u64 = 65_536;
+
+/// The version of its grammar that a topology's first line names.
+#[derive(Clone, Copy, PartialEq, Eq)]
+pub(crate) enum Version {
+    One,
+    /// Links may be strict.
+    Two,
+}
 
 /// A line that declares a manager, as it is spelled.
 #[derive(Drop)]
@@ -34,6 +42,20 @@ pub(crate) struct LinkLine {
     pub(crate) width: u32,
     pub(crate) max_size: u32,
     pub(crate) sources: u32,
+    pub(crate) strict: bool,
+}
+
+#[tactic(auto, unfolding(crate::specs::Reading::version_at))]
+fn version_of(line: &[u8]) -> Option<Version>
+    ensures { result ≡ version_at line.now }
+{
+    if line == b"topo 1".as_slice() {
+        Some(Version::One)
+    } else if line == b"topo 2".as_slice() {
+        Some(Version::Two)
+    } else {
+        None
+    }
 }
 
 #[tactic(auto, unfolding(crate::specs::Reading::level_at))]
@@ -61,27 +83,47 @@ fn manager_of(words: &[u8]) -> Option<ManagerLine>
     Some(ManagerLine { name, block })
 }
 
-/// Width, largest size and sources.
-#[tactic(auto, unfolding(crate::specs::Reading::limits_at))]
-fn limits_of(words: &[u8]) -> Option<(u32, u32, u32)>
-    ensures exact { result ≡ limits_at words.now }
-    ensures sources { IfSome result (λ x. (1 ≤ x.2) × (x.2 ≤ 65536)) }
+/// Width and largest size, and the words behind them.
+#[tactic(auto, unfolding(crate::specs::Reading::sizes_at))]
+fn sizes_of(words: &[u8]) -> Option<(u32, u32, &[u8])>
+    ensures { option_map (λ x. (x.0, x.1, x.2.now)) result ≡ sizes_at words.now }
 {
     let (width, words) = word(words)?;
     let width = decimal(width, MOST_NUMBER)? as u32;
-    let (max_size, sources) = word(words)?;
+    let (max_size, words) = word(words)?;
     let max_size = decimal(max_size, MOST_NUMBER)? as u32;
-    let sources = decimal(sources, MOST_NUMBER)? as u32;
+    Some((width, max_size, words))
+}
+
+/// The words without a last word `strict`, and whether it stands there. In version 1 it is no word of its own.
+#[tactic(auto, unfolding(crate::specs::Reading::mark_at))]
+fn mark_of(version: Version, words: &[u8]) -> (&[u8], bool)
+    ensures { (result.0.now, result.1) ≡ mark_at version words.now }
+{
+    match (version, word(words)) {
+        (Version::Two, Some((rest, last))) if last == b"strict".as_slice() => (rest, true),
+        _ => (words, false),
+    }
+}
+
+/// How many sources there are, and whether the link is strict.
+#[tactic(auto, unfolding(crate::specs::Reading::sources_at))]
+fn sources_of(version: Version, words: &[u8]) -> Option<(u32, bool)>
+    ensures exact { result ≡ sources_at version words.now }
+    ensures within { IfSome result (λ x. (1 ≤ x.0) × (x.0 ≤ 65536)) }
+{
+    let (number, strict) = mark_of(version, words);
+    let sources = decimal(number, MOST_NUMBER)? as u32;
     if sources == 0 {
         None
     } else {
-        Some((width, max_size, sources))
+        Some((sources, strict))
     }
 }
 
 #[tactic(auto, unfolding(crate::specs::Reading::link_at))]
-fn link_of(words: &[u8]) -> Option<LinkLine>
-    ensures exact { result ≡ link_at words.now }
+fn link_of(version: Version, words: &[u8]) -> Option<LinkLine>
+    ensures exact { result ≡ link_at version words.now }
     ensures some_source { IfSome result (λ link. 1 ≤ link.sources) }
     ensures sources { IfSome result (λ link. link.sources ≤ 65536) }
 {
@@ -91,7 +133,8 @@ fn link_of(words: &[u8]) -> Option<LinkLine>
     let manager = Name::new(manager)?;
     let (level, words) = word(words)?;
     let level = level_of(level)?;
-    let (width, max_size, sources) = limits_of(words)?;
+    let (width, max_size, words) = sizes_of(words)?;
+    let (sources, strict) = sources_of(version, words)?;
     Some(LinkLine {
         name,
         manager,
@@ -99,13 +142,14 @@ fn link_of(words: &[u8]) -> Option<LinkLine>
         width,
         max_size,
         sources,
+        strict,
     })
 }
 
 /// The topology with what one line declares.
 #[tactic(auto, unfolding(crate::specs::Reading::declared))]
-fn declared(topo: Topo, line: &[u8], number: u64) -> Result<Topo, TopoFault>
-    ensures { Gives is_memory (λ t. t) result (declared topo line.now number) }
+fn declared(version: Version, topo: Topo, line: &[u8], number: u64) -> Result<Topo, TopoFault>
+    ensures { Gives is_memory (λ t. t) result (declared version topo line.now number) }
 {
     let Some((kind, words)) = word(line) else {
         return Err(TopoFault::BadLine(number));
@@ -116,7 +160,7 @@ fn declared(topo: Topo, line: &[u8], number: u64) -> Result<Topo, TopoFault>
         };
         topo.with_manager(manager, number)
     } else if kind == b"link".as_slice() {
-        let Some(link) = link_of(words) else {
+        let Some(link) = link_of(version, words) else {
             return Err(TopoFault::BadLine(number));
         };
         topo.with_link(link, number)
@@ -134,9 +178,9 @@ fn topology_of(alloc: Global, bytes: &[u8]) -> Result<(Topo, &[u8]), TopoFault>
     let Some((first, mut rest)) = line(bytes) else {
         return Err(TopoFault::BadLine(1));
     };
-    if first != b"topo 1".as_slice() {
+    let Some(version) = version_of(first) else {
         return Err(TopoFault::BadLine(1));
-    }
+    };
     let mut topo = Topo::new(alloc);
     let mut number = 2u64;
     loop {
@@ -147,22 +191,22 @@ fn topology_of(alloc: Global, bytes: &[u8]) -> Result<(Topo, &[u8]), TopoFault>
         if next == b"end".as_slice() {
             return Ok((topo, rest));
         }
-        topo = declared(topo, next, number)?;
+        topo = declared(version, topo, next, number)?;
         number += 1;
     }
 }
 
-/// The topology whose text stands at the front, and the number of its bytes. A refusal names the first faulty line and,
-/// in that line, the first cause in the order of spelling, name, manager, width or block, size, number of links or
-/// managers, memory.
+/// The topology whose text, of version 1 or 2, stands at the front, and the number of its bytes. A refusal names the first
+/// faulty line and, in that line, the first cause in the order of spelling, name, manager, width or block, size, level of a
+/// strict link, number of links or managers, memory.
 pub fn read_topo(alloc: Global, bytes: &[u8]) -> Result<(Topo, usize), TopoFault>
     // It is what reading the lines gives, and the bytes behind those used are the lines that reading leaves.
     ensures exact { Gives is_memory (λ x. (x.0, lines_of (drop x.1 bytes.now))) result (topology_in (lines_of bytes.now)) }
     ensures used { IfOk result (λ x. x.1 ≤ length bytes.now) }
     // What is read is the text of lawful declarations at the front, as the topology that they make.
-    ensures found { IfOk result (λ x. (declarations : List Declaration) × (IsDeclaredInOrder declarations × (x.0 ≡ topology_of declarations) × (take x.1 bytes.now ≡ topology_text declarations))) }
+    ensures found { IfOk result (λ x. (document : Document) × (IsDeclaredInOrder document × (x.0 ≡ topology_of document.declarations) × (take x.1 bytes.now ≡ topology_text document))) }
     // Where the text of lawful declarations stands at the front, it is read, unless memory runs out.
-    ensures only { (declarations : List Declaration) (rest : List ℕ) → IsDeclaredInOrder declarations → bytes.now ≡ topology_text declarations ++ rest → Gives is_memory (λ x. x) result (Ok (topology_of declarations, length (topology_text declarations))) }
+    ensures only { (document : Document) (rest : List ℕ) → IsDeclaredInOrder document → bytes.now ≡ topology_text document ++ rest → Gives is_memory (λ x. x) result (Ok (topology_of document.declarations, length (topology_text document))) }
     // A refusal is the first fault, unless memory ran out.
     ensures first { IfErr result (λ fault. is_memory fault ≡ false → IsFirstFault (lines_of bytes.now) fault) }
 {

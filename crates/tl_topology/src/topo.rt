@@ -4,7 +4,7 @@ ghost use Rattle.std.specs.Prelude.{◌≡◌, ◌↔◌, ◌<◌, ◌≤◌, []
 ghost use Rattle.std.specs.Option.{option_copied};
 ghost use Rattle.tl_text.specs.Readings.{Gives};
 ghost use Rattle.tl_topology.specs.Faults.{is_memory};
-ghost use Rattle.tl_topology.specs.Topology.{number_of_name, is_named, exponent_of, is_size, is_width, IsSound};
+ghost use Rattle.tl_topology.specs.Topology.{number_of_name, is_named, exponent_of, is_size, is_width, may_be_strict, IsSound};
 ghost use Rattle.tl_topology.specs.Reading.{with_manager, with_link, fitted, manager_named};
 
 use crate::LinkDecl;
@@ -16,7 +16,7 @@ use std::alloc::{AllocError, Global};
 use std::marker::Model;
 use tl_tables::Level;
 
-const MOST_LINKS: usize = 64;
+const MOST_LINKS: usize = 256;
 
 const MOST_MANAGERS: usize = 64;
 
@@ -27,7 +27,7 @@ const MOST_SIZE: u32 = 15;
 const LEAST_BLOCK: u8 = 3;
 
 /// The links and managers of a design, each kind numbered from 0 in declared order. Links and managers share one space
-/// of names. At most 64 of each.
+/// of names. At most 256 links and 64 managers.
 #[derive(Drop)]
 pub struct Topo {
     managers: IndexMap<Name, u8>,
@@ -81,6 +81,16 @@ fn is_size(level: Level, width: u32, exponent: u8, size: u32) -> bool
         }
 }
 
+/// Whether a link of the level may be strict: on TL-C alone is there something to drop.
+fn may_be_strict(level: Level, strict: bool) -> bool
+    ensures { result ≡ may_be_strict level strict }
+{
+    match level {
+        Level::C => true,
+        Level::Ul | Level::Uh => !strict,
+    }
+}
+
 /// The declaration that a line spells, where its limits fit.
 #[tactic(auto, unfolding(crate::specs::Reading::fitted))]
 fn fitted(link: &LinkLine, manager: u16, exponent: u8, line: u64) -> Result<LinkDecl, TopoFault>
@@ -96,6 +106,9 @@ fn fitted(link: &LinkLine, manager: u16, exponent: u8, line: u64) -> Result<Link
     if !is_size(link.level, link.width, exponent, link.max_size) {
         return Err(TopoFault::BadSize(line));
     }
+    if !may_be_strict(link.level, link.strict) {
+        return Err(TopoFault::StrictLevel(line));
+    }
     Ok(LinkDecl {
         name: link.name,
         manager,
@@ -103,6 +116,7 @@ fn fitted(link: &LinkLine, manager: u16, exponent: u8, line: u64) -> Result<Link
         width: link.width as u8,
         max_size: link.max_size as u8,
         sources: link.sources,
+        strict: link.strict,
     })
 }
 
@@ -143,10 +157,10 @@ impl Topo {
         self.links.get_index(number as usize).map(|(_, link)| link)
     }
 
-    /// How many links there are, at most 64.
+    /// How many links there are, at most 256.
     pub fn link_count(&self) -> usize
         ensures count { result ≡ length self.now.links }
-        ensures limit { result ≤ 64 }
+        ensures limit { result ≤ 256 }
     {
         self.links.len()
     }

@@ -8,9 +8,9 @@ use Rattle.tl_topology.proofs.TopologyLaws.{in_fails, text_takes, front_is, read
 use Rattle.tl_topology.proofs.reading.read_topo.Goals as goal
 
 pub returns-in_err-topo-clause-only : goal.returns-in_err-topo-clause-only
-returns-in_err-topo-clause-only c declarations rest lawful is =
+returns-in_err-topo-clause-only c doc rest lawful is =
     let p = err_from_is_err_and c.from_residual.result c.from_residual.ensures.1 in
-    rw (p.1, p.2) (λ m. absurd (no_refusal c.args.bytes.now rest declarations c.in_err-topo.field-0.0 c.in_err-topo.ensures.exact lawful is m))
+    rw (p.1, p.2) (λ m. absurd (no_refusal c.args.bytes.now rest doc c.in_err-topo.field-0.0 c.in_err-topo.ensures.exact lawful is m))
 
 pub returns-in_err-topo-clause-first : goal.returns-in_err-topo-clause-first
 returns-in_err-topo-clause-first c =
@@ -20,10 +20,10 @@ returns-in_err-topo-clause-first c =
 pub returns-clause-found : goal.returns-clause-found
 returns-clause-found c =
     let law = text_takes c.args.bytes.now c.in_ok-topo.topo c.in_ok-topo.rest.now c.in_ok-topo.ensures.exact in
-    (law.declarations, (law.lawful, law.made_is, front_is c.args.bytes.now c.in_ok-topo.rest.now (topology_text law.declarations) law.bytes_are))
+    (law.document, (law.lawful, law.made_is, front_is c.args.bytes.now c.in_ok-topo.rest.now (topology_text law.document) law.bytes_are))
 
 pub returns-clause-only : goal.returns-clause-only
-returns-clause-only c declarations rest lawful is =
-    let both = read_same c.args.bytes.now c.in_ok-topo.rest.now rest c.in_ok-topo.topo declarations c.in_ok-topo.ensures.exact lawful is in
-    let same : ◌≡◌ {A = Topology × ℕ} (topology_of declarations, length (topology_text declarations)) (c.in_ok-topo.topo, length c.args.bytes.now - length c.in_ok-topo.rest.now) = rw (both.0, both.1) refl in
+returns-clause-only c doc rest lawful is =
+    let both = read_same c.args.bytes.now c.in_ok-topo.rest.now rest c.in_ok-topo.topo doc c.in_ok-topo.ensures.exact lawful is in
+    let same : ◌≡◌ {A = Topology × ℕ} (topology_of doc.declarations, length (topology_text doc)) (c.in_ok-topo.topo, length c.args.bytes.now - length c.in_ok-topo.rest.now) = rw (both.0, both.1) refl in
     ap Ok same

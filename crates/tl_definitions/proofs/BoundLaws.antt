@@ -1,5 +1,6 @@
 -- What sets a bound.
-use Rattle.std.proofs.Common.{◌≡◌, ℕ, ◌⊎◌, inl, inr, ◌==◌, ◌||◌, true, false, cond, List, [], ◌∷◌, ◌++◌, Option, Some, None, refl, ap, subst, ◌∙◌, arith}
+use Rattle.std.proofs.Common.{◌≡◌, ℕ, ◌⊎◌, inl, inr, ◌==◌, ◌||◌, ◌&&◌, Bool, true, false, cond, List, [], ◌∷◌, ◌++◌, Option, Some, None, refl, sym, ap, subst, ◌∙◌, arith}
+use Rattle.std.specs.Prelude.{◌↔◌}
 use Rattle.std.specs.List.{AllByRecursion}
 use Rattle.std.specs.Option.{option_map, option_map_or}
 use Rattle.std.proofs.lemmas.Bool.Decides.{nat_tests}
@@ -10,7 +11,8 @@ use Rattle.tl_tables.specs.declared.Perm.TheVariants as perm
 use Rattle.tl_tables.specs.Params.{from_of, to_of, is_above}
 use Rattle.tl_tables.specs.Kinds.{is_acquire, is_grant, is_probe_ack, is_release}
 use Rattle.tl_definitions.specs.Messages.{Message, block_of, own_claim, grant_claim, claim, claimed_or, bound_of}
-use Rattle.tl_definitions.specs.Laws.{DeniedGivesNothing, ReleaseLeaves, OnlyGrantsRaise, BoundsAreLastSet, sets_block}
+use Rattle.tl_definitions.specs.Rules.{is_wrong}
+use Rattle.tl_definitions.specs.Laws.{DeniedGivesNothing, ReleaseLeaves, StrictClaimsAreTheBound, OnlyGrantsRaise, BoundsAreLastSet, sets_block}
 use Rattle.tl_definitions.proofs.CoherenceLaws.{own_below}
 
 pub denied_gives_nothing : DeniedGivesNothing
@@ -66,9 +68,39 @@ own_lowers (Some set) own_block block bound clean =
     ] refl
 
 pub only_grants_raise : OnlyGrantsRaise
-only_grants_raise exponent message before block grant p1 p2 =
+only_grants_raise strict exponent message before block grant p1 p2 =
     ap (λ t. is_above (claimed_or (cond t (grant_claim exponent message) (option_map (λ set. (block_of exponent message, set)) (own_claim message))) block (bound_of exponent before block)) (bound_of exponent before block)) grant
-    ∙ own_lowers (own_claim message) (block_of exponent message) block (bound_of exponent before) (own_below message.op message.beat.param (bound_of exponent before (block_of exponent message)) p1 p2)
+    ∙ own_lowers (own_claim message) (block_of exponent message) block (bound_of exponent before) (own_below strict message.op message.beat.param (bound_of exponent before (block_of exponent message)) p1 p2)
+
+-- ---- strict links
+
+same_claim : (bound from : Perm) → (is_wrong true bound from ≡ false) ↔ (from ≡ bound)
+same_claim perm.Nothing perm.Nothing = (λ h. refl, λ e. refl)
+same_claim perm.Nothing perm.Branch = (λ h. cc, λ e. cc)
+same_claim perm.Nothing perm.Trunk = (λ h. cc, λ e. cc)
+same_claim perm.Branch perm.Nothing = (λ h. cc, λ e. cc)
+same_claim perm.Branch perm.Branch = (λ h. refl, λ e. refl)
+same_claim perm.Branch perm.Trunk = (λ h. cc, λ e. cc)
+same_claim perm.Trunk perm.Nothing = (λ h. cc, λ e. cc)
+same_claim perm.Trunk perm.Branch = (λ h. cc, λ e. cc)
+same_claim perm.Trunk perm.Trunk = (λ h. refl, λ e. refl)
+
+-- Of two tests that share their second part, and of which one holds in its first, both fail exactly where that fails.
+one_of_both : (a b c w : Bool) → (a || b || c) ≡ true → (((a && w) ≡ false) × (((b || c) && w) ≡ false)) ↔ (w ≡ false)
+one_of_both true b c false h = (λ e. refl, λ e. (refl, grind (arith, nat_tests)))
+one_of_both true b c true h = (λ e. e.0, λ e. cc)
+one_of_both false true c w h = (λ e. e.1, λ e. (refl, e))
+one_of_both false false true w h = (λ e. e.1, λ e. (refl, e))
+one_of_both false false false w h = cc
+
+pub strict_claims_are_the_bound : StrictClaimsAreTheBound
+strict_claims_are_the_bound exponent past message from kind e =
+    let bound : Perm = past.bound (block_of exponent message) in
+    let wrong : Bool = option_map_or (is_wrong true bound) (from_of message.op message.beat.param) false in
+    let found : wrong ≡ is_wrong true bound from = ap (λ o. option_map_or (is_wrong true bound) o false) e in
+    let kept = one_of_both (is_acquire message.op) (is_probe_ack message.op) (is_release message.op) wrong kind in
+    let same = same_claim bound from in
+    (λ both. same.0 (sym found ∙ kept.0 both), λ is. kept.1 (found ∙ same.1 is))
 
 -- One message more, where the rest is known.
 abbrev LastSet : ℕ → List Message → ℕ → Perm → Type 0

@@ -17,7 +17,7 @@ use Rattle.tl_tables.specs.Kinds.{is_acquire, is_probe_ack, is_release, is_grant
 use Rattle.tl_definitions.specs.Heads.{message_of, last_head, before_on}
 use Rattle.tl_definitions.specs.Messages.{Message, message_at, with_message, at_head, messages_on, own_claim, grant_claim, claim, claimed_or, block_of, bound_of}
 use Rattle.tl_definitions.specs.Past.{LinkPast, ClientPast, pasts_of}
-use Rattle.tl_definitions.specs.Rules.{Manager, breaks_format, breaks_flow, breaks_permission, breaks_manager, format_order, flow_order, permission_order, manager_order, rules_of_message, conflicts_with_other}
+use Rattle.tl_definitions.specs.Rules.{Manager, breaks_format, breaks_flow, breaks_permission, breaks_manager, format_order, flow_order, permission_order, manager_order, rules_of_message, conflicts_with_other, is_wrong}
 use Rattle.tl_definitions.specs.Breaks.{head_rules, later_rules, rules_at, row_of, rows_after, rows_in}
 use Rattle.tl_definitions.specs.Coherence.{guards_bounds, is_client, OneWriter, exceeds, GuardedCapturesAreCoherent, ReportedCapturesAreCoherent}
 use Rattle.tl_definitions.proofs.Lists.{onto, onto_reverse, contains_none, contains_kept, none_kept}
@@ -80,33 +80,52 @@ own_claim_of o param = cond (is_acquire o) (from_of o param) (cond (is_probe_ack
 abbrev froms_above : Perm → Op → ℕ → Bool
 froms_above bound o param = option_map_or (λ from. is_above from bound) (from_of o param) false
 
-pub own_below : (o : Op) (param : ℕ) (bound : Perm) → (is_acquire o && froms_above bound o param) ≡ false → ((is_probe_ack o || is_release o) && froms_above bound o param) ≡ false
+lawful_below : (o : Op) (param : ℕ) (bound : Perm) → (is_acquire o && froms_above bound o param) ≡ false → ((is_probe_ack o || is_release o) && froms_above bound o param) ≡ false
     → option_map_or (λ set. is_above set bound) (own_claim_of o param) false ≡ false
-own_below op.PutFullData param bound h g = refl
-own_below op.PutPartialData param bound h g = refl
-own_below op.ArithmeticData param bound h g = refl
-own_below op.LogicalData param bound h g = refl
-own_below op.Get param bound h g = refl
-own_below op.Intent param bound h g = refl
-own_below op.AcquireBlock param bound h g = h
-own_below op.AcquirePerm param bound h g = h
-own_below op.ProbeBlock param bound h g = refl
-own_below op.ProbePerm param bound h g = refl
-own_below op.AccessAck param bound h g = refl
-own_below op.AccessAckData param bound h g = refl
-own_below op.HintAck param bound h g = refl
-own_below op.ProbeAck param bound h g = shrinks bound param g
-own_below op.ProbeAckData param bound h g = shrinks bound param g
-own_below op.Release param bound h g = shrinks bound param g
-own_below op.ReleaseData param bound h g = shrinks bound param g
-own_below op.Grant param bound h g = refl
-own_below op.GrantData param bound h g = refl
-own_below op.ReleaseAck param bound h g = refl
-own_below op.GrantAck param bound h g = refl
+lawful_below op.PutFullData param bound h g = refl
+lawful_below op.PutPartialData param bound h g = refl
+lawful_below op.ArithmeticData param bound h g = refl
+lawful_below op.LogicalData param bound h g = refl
+lawful_below op.Get param bound h g = refl
+lawful_below op.Intent param bound h g = refl
+lawful_below op.AcquireBlock param bound h g = h
+lawful_below op.AcquirePerm param bound h g = h
+lawful_below op.ProbeBlock param bound h g = refl
+lawful_below op.ProbePerm param bound h g = refl
+lawful_below op.AccessAck param bound h g = refl
+lawful_below op.AccessAckData param bound h g = refl
+lawful_below op.HintAck param bound h g = refl
+lawful_below op.ProbeAck param bound h g = shrinks bound param g
+lawful_below op.ProbeAckData param bound h g = shrinks bound param g
+lawful_below op.Release param bound h g = shrinks bound param g
+lawful_below op.ReleaseData param bound h g = shrinks bound param g
+lawful_below op.Grant param bound h g = refl
+lawful_below op.GrantData param bound h g = refl
+lawful_below op.ReleaseAck param bound h g = refl
+lawful_below op.GrantAck param bound h g = refl
 
 or_none : (a b : Bool) → (a || b) ≡ false → (a ≡ false) × (b ≡ false)
 or_none true b h = cc
 or_none false b h = (refl, h)
+
+-- What isn't wrong isn't above the bound.
+right_below : (strict : Bool) (bound : Perm) (found : Option Perm) → option_map_or (is_wrong strict bound) found false ≡ false → option_map_or (λ from. is_above from bound) found false ≡ false
+right_below strict bound None h = refl
+right_below strict bound (Some from) h = (or_none (is_above from bound) (strict && is_above bound from) h).0
+
+kept_of : (t a b : Bool) → (a ≡ false → b ≡ false) → (t && a) ≡ false → (t && b) ≡ false
+kept_of true a b f h = f h
+kept_of false a b f h = refl
+
+abbrev froms_wrong : Bool → Perm → Op → ℕ → Bool
+froms_wrong strict bound o param = option_map_or (is_wrong strict bound) (from_of o param) false
+
+pub own_below : (strict : Bool) (o : Op) (param : ℕ) (bound : Perm) → (is_acquire o && froms_wrong strict bound o param) ≡ false → ((is_probe_ack o || is_release o) && froms_wrong strict bound o param) ≡ false
+    → option_map_or (λ set. is_above set bound) (own_claim_of o param) false ≡ false
+own_below strict o param bound h g =
+    let right = right_below strict bound (from_of o param) in
+    lawful_below o param bound (kept_of (is_acquire o) (froms_wrong strict bound o param) (froms_above bound o param) right h)
+    (kept_of (is_probe_ack o || is_release o) (froms_wrong strict bound o param) (froms_above bound o param) right g)
 
 not_and : (a b : Bool) → a ≡ false → (not a && b) ≡ false → b ≡ false
 not_and true b e h = cc
@@ -172,10 +191,10 @@ fits : (m : Manager) (before : List Placed) (link other block : ℕ) (message : 
     → conflicts (claimed_or (claim m.exponent message) block (bound_at m link before block)) (bound_at m other before block) ≡ false
 fits m before link other block message clean member ne h =
     let own_past : LinkPast = pasts_of m.links m.exponent before link in
-    let parts = guarded_parts guards_bounds (breaks_format m.exponent m.regions (m.links link) message.op message.beat) (breaks_flow own_past.flow message) (breaks_permission m.exponent own_past.client message) (breaks_manager m.clients m.exponent (client_pasts m before) link message)
+    let parts = guarded_parts guards_bounds (breaks_format m.exponent m.regions (m.links link) message.op message.beat) (breaks_flow own_past.flow message) (breaks_permission (m.links link).strict m.exponent own_past.client message) (breaks_manager m.clients m.exponent (client_pasts m before) link message)
     format_order flow_order permission_order manager_order clean in
-    let p1 = guarded_first guards_bounds (breaks_permission m.exponent own_past.client message) rule.P1 (rule.P2 ∷ after_p2) refl parts.0 in
-    let p2 = guarded_first guards_bounds (breaks_permission m.exponent own_past.client message) rule.P2 after_p2 refl p1.1 in
+    let p1 = guarded_first guards_bounds (breaks_permission (m.links link).strict m.exponent own_past.client message) rule.P1 (rule.P2 ∷ after_p2) refl parts.0 in
+    let p2 = guarded_first guards_bounds (breaks_permission (m.links link).strict m.exponent own_past.client message) rule.P2 after_p2 refl p1.1 in
     let m1 = guarded_first guards_bounds (breaks_manager m.clients m.exponent (client_pasts m before) link message) rule.M1 (rule.M2 ∷ rule.M3 ∷ []) refl parts.1 in
     let own_block : ℕ = block_of m.exponent message in
     elim (is_grant message.op) as (λ t. is_grant message.op ≡ t
@@ -184,7 +203,7 @@ fits m before link other block message clean member ne h =
           (subst (λ t. (t && option_map_or (conflicts_with_other m.clients (client_pasts m before) link) (cond t (grant_claim m.exponent message) (option_map (λ set. (own_block, set)) (own_claim message))) false) ≡ false) e m1.0)
           member ne h
       | false ↦ λ e. own_fits (own_claim message) own_block block (bound_at m link before) (bound_at m other before block)
-          (own_below message.op message.beat.param (bound_at m link before own_block) p1.0 p2.0) h
+          (own_below (m.links link).strict message.op message.beat.param (bound_at m link before own_block) p1.0 p2.0) h
     ] refl
 
 not_same : (a b : ℕ) → (a == b) ≡ false → (b == a) ≡ false

@@ -1,7 +1,7 @@
 -- The captures are judged by computing.
 use Rattle.std.proofs.Common.{refl}
 use Rattle.tl_tables.specs.Messages.{op_at}
-use Rattle.tl_definitions.specs.Rows.{FormatRows, LevelRows, RegionRows, BurstRows, FlowRows, ReplyRows, BoundRows, ConcurrencyRows, ManagerRows}
+use Rattle.tl_definitions.specs.Rows.{FormatRows, LevelRows, RegionRows, BurstRows, FlowRows, ReplyRows, BoundRows, StrictRows, ConcurrencyRows, ManagerRows}
 
 pub format_rows : FormatRows
 unfolding op_at
@@ -30,6 +30,10 @@ reply_rows = (refl, refl, refl, refl)
 pub bound_rows : BoundRows
 unfolding op_at
 bound_rows = (refl, refl, refl, refl, refl, refl, refl, refl, refl, refl, refl, refl, refl, refl)
+
+pub strict_rows : StrictRows
+unfolding op_at
+strict_rows = (refl, refl, refl, refl, refl, refl, refl, refl, refl, refl, refl, refl, refl)
 
 pub concurrency_rows : ConcurrencyRows
 unfolding op_at

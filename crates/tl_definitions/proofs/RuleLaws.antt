@@ -102,7 +102,7 @@ head_rises m before p None = (tt, tt)
 head_rises m before p (Some o) =
     let pasts = pasts_of m.links m.exponent before in
     let message : Message = message_at (messages_on m.links p.link before) p.beat o in
-    four_rise (breaks_format m.exponent m.regions (m.links p.link) o p.beat) (breaks_flow (pasts p.link).flow message) (breaks_permission m.exponent (pasts p.link).client message)
+    four_rise (breaks_format m.exponent m.regions (m.links p.link) o p.beat) (breaks_flow (pasts p.link).flow message) (breaks_permission (m.links p.link).strict m.exponent (pasts p.link).client message)
     (breaks_manager m.clients m.exponent (λ client. (pasts client).client) p.link message)
 
 later_rises : (decl : LinkDecl) (beat head : Beat) (found : Option Op) → IsStrictlySortedBy by_number (option_map_or (λ o. filter (breaks_later decl o head beat) later_order) found [])

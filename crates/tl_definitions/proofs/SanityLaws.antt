@@ -64,11 +64,11 @@ no_f1 : (m : Manager) (pasts : ℕ → LinkPast) (link : ℕ) (message : Message
 no_f1 m pasts link message =
     let format : List Rule = filter (breaks_format m.exponent m.regions (m.links link) message.op message.beat) format_order in
     let flow : List Rule = filter (breaks_flow (pasts link).flow message) flow_order in
-    let permission : List Rule = filter (breaks_permission m.exponent (pasts link).client message) permission_order in
+    let permission : List Rule = filter (breaks_permission (m.links link).strict m.exponent (pasts link).client message) permission_order in
     none_of_both is_f1 (format ++ flow ++ permission) (filter (breaks_manager m.clients m.exponent (λ client. (pasts client).client) link message) manager_order)
     (none_of_both is_f1 (format ++ flow) permission
     (none_of_both is_f1 format flow (none_left is_f1 (breaks_format m.exponent m.regions (m.links link) message.op message.beat) format_order refl) (none_left is_f1 (breaks_flow (pasts link).flow message) flow_order refl))
-    (none_left is_f1 (breaks_permission m.exponent (pasts link).client message) permission_order refl))
+    (none_left is_f1 (breaks_permission (m.links link).strict m.exponent (pasts link).client message) permission_order refl))
     (none_left is_f1 (breaks_manager m.clients m.exponent (λ client. (pasts client).client) link message) manager_order refl)
 
 no_f1_later : (link : LinkDecl) (beat head : Beat) (found : Option Op) → list_any is_f1 (option_map_or (λ o. filter (breaks_later link o head beat) later_order) found []) ≡ false
@@ -117,10 +117,10 @@ format_of kept m before p (Some o) flow permission manager =
     let message : Message = message_at (messages_on m.links p.link before) p.beat o in
     let format_part : List Rule = filter (breaks_format m.exponent m.regions (m.links p.link) o p.beat) format_order in
     let flow_part : List Rule = filter (breaks_flow (pasts p.link).flow message) flow_order in
-    let permission_part : List Rule = filter (breaks_permission m.exponent (pasts p.link).client message) permission_order in
+    let permission_part : List Rule = filter (breaks_permission (m.links p.link).strict m.exponent (pasts p.link).client message) permission_order in
     let manager_part : List Rule = filter (breaks_manager m.clients m.exponent (λ client. (pasts client).client) p.link message) manager_order in
     first_kept kept (format_part ++ flow_part ++ permission_part) manager_part (none_of kept (breaks_manager m.clients m.exponent (λ client. (pasts client).client) p.link message) manager_order manager)
-    ∙ first_kept kept (format_part ++ flow_part) permission_part (none_of kept (breaks_permission m.exponent (pasts p.link).client message) permission_order permission)
+    ∙ first_kept kept (format_part ++ flow_part) permission_part (none_of kept (breaks_permission (m.links p.link).strict m.exponent (pasts p.link).client message) permission_order permission)
     ∙ first_kept kept format_part flow_part (none_of kept (breaks_flow (pasts p.link).flow message) flow_order flow)
 
 pub format_needs_no_past : FormatNeedsNoPast

@@ -9,7 +9,7 @@ use Rattle.tl_tables.specs.declared.Perm.TheVariants as perm
 use Rattle.tl_tables.specs.declared.Rule.{Rule}
 use Rattle.tl_tables.specs.declared.Rule.TheVariants as rule
 use Rattle.tl_tables.specs.Messages.{same_chan, replies_to}
-use Rattle.tl_tables.specs.Params.{to_of, is_above}
+use Rattle.tl_tables.specs.Params.{from_of, to_of, is_above}
 use Rattle.tl_topology.specs.declared.LinkDecl.{LinkDecl}
 use Rattle.tl_beats.specs.declared.Beat.{Beat}
 use Rattle.tl_beats.specs.declared.Placed.{Placed}
@@ -19,7 +19,7 @@ use Rattle.tl_tables.specs.Kinds.{is_acquire, is_grant, is_probe_ack, is_release
 use Rattle.tl_definitions.specs.OpenTables.{Table, IsOpen, open_at, open_keys}
 use Rattle.tl_definitions.specs.Heads.{message_of, beat_count, is_head, last_head, unfinished}
 use Rattle.tl_definitions.specs.Messages.{Message, at_head, sources, releases, sinks, as_request, granted_block, request_of, message_at, block_of, round_down, claim, bound_of}
-use Rattle.tl_definitions.specs.Past.{FlowPast, client_past}
+use Rattle.tl_definitions.specs.Past.{FlowPast, ClientPast, client_past}
 use Rattle.tl_definitions.specs.Rules.{Manager, flow_order, permission_order, manager_order, format_rules, breaks_flow, breaks_permission}
 use Rattle.tl_definitions.specs.Breaks.{rules_at}
 
@@ -135,9 +135,16 @@ ReleaseLeaves = (exponent : ℕ) (message : Message) (before : List Message) (to
     → (bound_of exponent (message ∷ before) (block_of exponent message) ≡ to)
     × ((block : ℕ) → (block_of exponent message == block) ≡ false → bound_of exponent (message ∷ before) block ≡ bound_of exponent before block)
 
--- Only Grants raise a bound, where P1 and P2 are kept.
+-- On a strict link P1 and P2 are kept exactly where what is claimed is the bound.
+abbrev pub StrictClaimsAreTheBound : Type 0
+StrictClaimsAreTheBound = (exponent : ℕ) (past : ClientPast) (message : Message) (from : Perm)
+    → (is_acquire message.op || is_probe_ack message.op || is_release message.op) ≡ true → from_of message.op message.beat.param ≡ Some from
+    → ((breaks_permission true exponent past message rule.P1 ≡ false) × (breaks_permission true exponent past message rule.P2 ≡ false))
+    ↔ (from ≡ past.bound (block_of exponent message))
+
+-- Only Grants raise a bound, where P1 and P2 are kept, on a strict link or another.
 abbrev pub OnlyGrantsRaise : Type 0
-OnlyGrantsRaise = (exponent : ℕ) (message : Message) (before : List Message) (block : ℕ) → is_grant message.op ≡ false
-    → breaks_permission exponent (client_past exponent before) message rule.P1 ≡ false
-    → breaks_permission exponent (client_past exponent before) message rule.P2 ≡ false
+OnlyGrantsRaise = (strict : Bool) (exponent : ℕ) (message : Message) (before : List Message) (block : ℕ) → is_grant message.op ≡ false
+    → breaks_permission strict exponent (client_past exponent before) message rule.P1 ≡ false
+    → breaks_permission strict exponent (client_past exponent before) message rule.P2 ≡ false
     → is_above (bound_of exponent (message ∷ before) block) (bound_of exponent before block) ≡ false

@@ -69,7 +69,7 @@ beats_of_all links fragments = in_order (all_placed (filter (λ f. list_any (λ 
 
 -- The links of a topology by number. No number of a link leads to `no_link`.
 abbrev pub no_link : LinkDecl
-no_link = record { name = []; manager = 0; level = level.Ul; width = 0; max_size = 0; sources = 0 }
+no_link = record { name = []; manager = 0; level = level.Ul; width = 0; max_size = 0; sources = 0; strict = false }
 
 abbrev pub links_of : List LinkDecl → Links
 links_of decls = λ number. slice_index_or decls number no_link

@@ -1,7 +1,7 @@
 -- Captures with all that is found in them, and nothing else. Each expected line was worked out by hand from the rules.
 use Rattle.std.specs.Prelude.{◌≡◌, true, false, [], ◌∷◌, ◌++◌}
 use Rattle.tl_tables.specs.declared.Rule.TheVariants as rule
-use Rattle.tl_definitions.specs.Written.{a, b, c, d, e, burst, grant, fragment, found, found_with, gets, puts, only, each_kind, answered, corrupt, row, shared, owned}
+use Rattle.tl_definitions.specs.Written.{a, b, c, d, e, burst, grant, fragment, found, found_with, found_strict, gets, puts, only, each_kind, answered, corrupt, row, shared, owned}
 
 -- What the format rules find.
 abbrev pub FormatRows : Type 0
@@ -254,6 +254,36 @@ BoundRows =
     -- A ReleaseData has its ReleaseAck and leaves what it says.
     × (found (fragment 0 1 (owned ++ burst 8 40 (λ cycle. c cycle 7 1 6 1 0x1000) ++ d 50 6 0 6 1 0 false ∷ c 60 6 1 6 1 0x1000 ∷ []))
     ≡ row 0 1 21 rule.P2 ∷ [])
+
+-- What is found in claims on a strict link, number 0, and on one beside it that isn't, number 1.
+abbrev pub StrictRows : Type 0
+StrictRows =
+    -- An Acquire claims less than was granted, and after a denied Grant one claims more than that.
+    (found_strict (fragment 0 1 (owned ++ a 40 6 0 6 0 0x1000 0xff ∷ d 50 4 1 6 0 1 true ∷ e 60 1 ∷ a 70 7 2 6 0 0x1000 0xff ∷ []))
+    ≡ row 0 1 12 rule.P1 ∷ row 0 1 15 rule.P1 ∷ [])
+    -- The same on the other link: a block may be dropped in silence.
+    × (found_strict (fragment 1 1 (owned ++ a 40 6 0 6 0 0x1000 0xff ∷ d 50 4 1 6 0 1 true ∷ e 60 1 ∷ a 70 7 2 6 0 0x1000 0xff ∷ [])) ≡ row 1 1 15 rule.P1 ∷ [])
+    -- A writer acquires as a reader.
+    × (found_strict (fragment 0 1 (owned ++ a 40 7 2 6 0 0x1000 0xff ∷ [])) ≡ row 0 1 12 rule.P1 ∷ [])
+    × (found_strict (fragment 1 1 (owned ++ a 40 7 2 6 0 0x1000 0xff ∷ [])) ≡ [])
+    -- A writer releases as a reader.
+    × (found_strict (fragment 0 1 (owned ++ c 40 6 2 6 0 0x1000 ∷ [])) ≡ row 0 1 12 rule.P2 ∷ [])
+    × (found_strict (fragment 1 1 (owned ++ c 40 6 2 6 0 0x1000 ∷ [])) ≡ [])
+    -- A reader answers a Probe as if it held nothing.
+    × (found_strict (fragment 0 1 (shared ++ b 40 6 2 6 0 0x1000 0xff ∷ c 50 4 5 6 0 0x1000 ∷ [])) ≡ row 0 1 6 rule.P2 ∷ [])
+    × (found_strict (fragment 1 1 (shared ++ b 40 6 2 6 0 0x1000 0xff ∷ c 50 4 5 6 0 0x1000 ∷ [])) ≡ [])
+    -- Claims of what is held: a reader becomes the writer, keeps it in a report, is probed to B and releases that.
+    × (found_strict (fragment 0 1 (shared ++ a 40 7 2 6 0 0x1000 0xff ∷ d 50 4 0 6 0 1 false ∷ e 60 1 ∷ c 70 6 3 6 0 0x1000 ∷ d 80 6 0 6 0 0 false ∷
+    b 90 6 1 6 0 0x1000 0xff ∷ c 100 4 0 6 0 0x1000 ∷ c 110 6 2 6 0 0x1000 ∷ d 120 6 0 6 0 0 false ∷ [])) ≡ [])
+    -- Claims of more than is held: an Acquire, a Release, and a ProbeAck.
+    × (found_strict (fragment 0 1 (a 10 7 2 6 0 0x2000 0xff ∷ c 20 6 1 6 0 0x1000 ∷ b 30 6 2 6 0 0x1040 0xff ∷ c 40 4 1 6 0 0x1040 ∷ []))
+    ≡ row 0 1 2 rule.P1 ∷ row 0 1 3 rule.P2 ∷ row 0 1 5 rule.P2 ∷ [])
+    -- A wrong claim still sets the bound: after a Release to N nothing is held.
+    × (found_strict (fragment 0 1 (owned ++ c 40 6 2 6 0 0x1000 ∷ d 50 6 0 6 0 0 false ∷ c 60 6 5 6 0 0x1000 ∷ [])) ≡ row 0 1 12 rule.P2 ∷ [])
+    -- An unlawful param claims nothing.
+    × (found_strict (fragment 0 1 (owned ++ a 40 6 5 6 0 0x1000 0xff ∷ [])) ≡ row 0 1 12 rule.F2 ∷ [])
+    -- A block that the other client holds is not this one's.
+    × (found_strict (fragment 1 1 owned ++ fragment 0 1 (c 40 6 5 6 0 0x1000 ∷ [])) ≡ [])
 
 -- What is found where two operations of a client are open on one block.
 abbrev pub ConcurrencyRows : Type 0

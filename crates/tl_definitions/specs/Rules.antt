@@ -122,10 +122,15 @@ breaks_flow past message _ = false
 abbrev pub flow_order : List Rule
 flow_order = rule.S1 ∷ rule.S2 ∷ rule.S3 ∷ rule.S4 ∷ rule.S5 ∷ rule.S6 ∷ rule.S7 ∷ rule.S8 ∷ rule.S9 ∷ []
 
--- The message claims that its client held more of its block than the bound. An unlawful param claims nothing.
-abbrev pub claims_above : ℕ → ClientPast → Message → Bool
-claims_above exponent past message =
-    option_map_or (λ from. is_above from (past.bound (block_of exponent message))) (from_of message.op message.beat.param) false
+-- What a client claims to have held is wrong where it is above its bound. The client of a strict link drops no block in
+-- silence, so there it holds the bound, and a claim below it is wrong too. [permission transitions; own profile: strict links]
+abbrev pub is_wrong : Bool → Perm → Perm → Bool
+is_wrong strict bound from = is_above from bound || (strict && is_above bound from)
+
+-- The message makes a wrong claim on its block. An unlawful param claims nothing.
+abbrev pub claims_wrongly : Bool → ℕ → ClientPast → Message → Bool
+claims_wrongly strict exponent past message =
+    option_map_or (is_wrong strict (past.bound (block_of exponent message))) (from_of message.op message.beat.param) false
 
 -- The message keeps more of its block than the cap of the open Probe.
 abbrev pub keeps_above : ℕ → ClientPast → Message → Bool
@@ -133,26 +138,26 @@ keeps_above exponent past message =
     option_map_or (λ to. option_map_or (is_above to) (option_and_then (λ cap. cap) (past.probe (block_of exponent message))) false)
     (to_of message.op message.beat.param) false
 
--- Permission rules of a head, by the past of its link. What is said of a client is said of its link.
--- P1: an Acquire claims to hold more than its client can. [permission transitions]
--- P2: a ProbeAck or Release claims to hold more than its client can. [permission transitions]
+-- Permission rules of a head, by the past of its link and whether that is strict. What is said of a client is said of its link.
+-- P1: an Acquire claims to hold more than its client can; on a strict link, more or less. [permission transitions]
+-- P2: a ProbeAck or Release claims to hold more than its client can; on a strict link, more or less. [permission transitions]
 -- P3: a ProbeAck without an open Probe on its block. [Probe and ProbeAck]
 -- P4: a ProbeAck keeps more than the open Probe's cap. [Probe and ProbeAck, cap]
 -- P5: a Probe while one is open on its block at this client. [own profile, after the concurrency rules]
 -- P6: an Acquire while this client has an Acquire open on the block. [own profile, after the concurrency rules]
 -- P7: a Release while this client has an Acquire open on the block. [own profile, after the concurrency rules]
 -- P8: an Acquire, Release or ProbeAck while this client has a Release open on the block. [own profile, the same]
-abbrev pub breaks_permission : ℕ → ClientPast → Message → Rule → Bool
-breaks_permission exponent past message rule.P1 = is_acquire message.op && claims_above exponent past message
-breaks_permission exponent past message rule.P2 = (is_probe_ack message.op || is_release message.op) && claims_above exponent past message
-breaks_permission exponent past message rule.P3 = is_probe_ack message.op && is_none (past.probe (block_of exponent message))
-breaks_permission exponent past message rule.P4 = is_probe_ack message.op && keeps_above exponent past message
-breaks_permission exponent past message rule.P5 = is_probe message.op && is_some (past.probe (block_of exponent message))
-breaks_permission exponent past message rule.P6 = is_acquire message.op && nat_lt 0 (past.acquires (block_of exponent message))
-breaks_permission exponent past message rule.P7 = is_release message.op && nat_lt 0 (past.acquires (block_of exponent message))
-breaks_permission exponent past message rule.P8 = (is_acquire message.op || is_release message.op || is_probe_ack message.op)
+abbrev pub breaks_permission : Bool → ℕ → ClientPast → Message → Rule → Bool
+breaks_permission strict exponent past message rule.P1 = is_acquire message.op && claims_wrongly strict exponent past message
+breaks_permission strict exponent past message rule.P2 = (is_probe_ack message.op || is_release message.op) && claims_wrongly strict exponent past message
+breaks_permission strict exponent past message rule.P3 = is_probe_ack message.op && is_none (past.probe (block_of exponent message))
+breaks_permission strict exponent past message rule.P4 = is_probe_ack message.op && keeps_above exponent past message
+breaks_permission strict exponent past message rule.P5 = is_probe message.op && is_some (past.probe (block_of exponent message))
+breaks_permission strict exponent past message rule.P6 = is_acquire message.op && nat_lt 0 (past.acquires (block_of exponent message))
+breaks_permission strict exponent past message rule.P7 = is_release message.op && nat_lt 0 (past.acquires (block_of exponent message))
+breaks_permission strict exponent past message rule.P8 = (is_acquire message.op || is_release message.op || is_probe_ack message.op)
     && nat_lt 0 (past.releases (block_of exponent message))
-breaks_permission exponent past message _ = false
+breaks_permission strict exponent past message _ = false
 
 abbrev pub permission_order : List Rule
 permission_order = rule.P1 ∷ rule.P2 ∷ rule.P3 ∷ rule.P4 ∷ rule.P5 ∷ rule.P6 ∷ rule.P7 ∷ rule.P8 ∷ []
@@ -182,5 +187,5 @@ manager_order = rule.M1 ∷ rule.M2 ∷ rule.M3 ∷ []
 abbrev pub rules_of_message : Manager → (ℕ → LinkPast) → ℕ → Message → List Rule
 rules_of_message m pasts link message =
     filter (breaks_format m.exponent m.regions (m.links link) message.op message.beat) format_order ++ filter (breaks_flow (pasts link).flow message) flow_order
-    ++ filter (breaks_permission m.exponent (pasts link).client message) permission_order
+    ++ filter (breaks_permission (m.links link).strict m.exponent (pasts link).client message) permission_order
     ++ filter (breaks_manager m.clients m.exponent (λ client. (pasts client).client) link message) manager_order

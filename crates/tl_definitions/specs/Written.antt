@@ -63,19 +63,26 @@ fragment link number beats = placed_beats (record { link = link; number = number
 -- One manager of 64-byte blocks without regions, with two links of level TL-C, numbers 0 and 1, one of TL-UL, number 2, and
 -- a narrow one of TL-UH, number 3.
 abbrev pub cached : LinkDecl
-cached = record { name = []; manager = 0; level = level.C; width = 8; max_size = 7; sources = 4 }
+cached = record { name = []; manager = 0; level = level.C; width = 8; max_size = 7; sources = 4; strict = false }
 
 abbrev pub uncached : LinkDecl
-uncached = record { name = []; manager = 0; level = level.Ul; width = 8; max_size = 3; sources = 2 }
+uncached = record { name = []; manager = 0; level = level.Ul; width = 8; max_size = 3; sources = 2; strict = false }
 
 abbrev pub narrow : LinkDecl
-narrow = record { name = []; manager = 0; level = level.Uh; width = 4; max_size = 6; sources = 2 }
+narrow = record { name = []; manager = 0; level = level.Uh; width = 4; max_size = 6; sources = 2; strict = false }
 
 abbrev pub decls : List LinkDecl
 decls = cached ∷ cached ∷ uncached ∷ narrow ∷ []
 
+-- The same, but that link 0 is strict.
+abbrev pub strict_decls : List LinkDecl
+strict_decls = record cached { strict = true } ∷ cached ∷ uncached ∷ narrow ∷ []
+
+abbrev pub managing : List LinkDecl → List Area → Manager
+managing links regions = record { links = links_of links; clients = clients_of 0 links; exponent = 6; regions = regions }
+
 abbrev pub with_regions : List Area → Manager
-with_regions regions = record { links = links_of decls; clients = clients_of 0 decls; exponent = 6; regions = regions }
+with_regions regions = managing decls regions
 
 -- From 0 to 1fff for get, from 8000 to 8fff for put.
 abbrev pub gets : Area
@@ -120,6 +127,10 @@ found_with regions beats = map line_of (report_of (record { manager = with_regio
 
 abbrev pub found : List Placed → List Line
 found beats = found_with [] beats
+
+-- What it says where link 0 is strict.
+abbrev pub found_strict : List Placed → List Line
+found_strict beats = map line_of (report_of (record { manager = managing strict_decls []; beats = in_order beats } ∷ []))
 
 -- The eight beats of a GrantData of a block of 64 bytes: from a cycle on, its cap, its sink.
 abbrev pub grant : ℕ → ℕ → ℕ → List Beat

@@ -1,6 +1,6 @@
 //! What the definitions of heads, open tables, requests and bounds mean.
 
-ghost use Rattle.tl_definitions.specs.Laws.{HeadsAreByBursts, LaterBeatsHaveAHead, OneBeatIsAll, OneBeatMessagesAreHeads, MessagesOwnTheirBeats, UnfinishedIsTheRest, EntriesAreOpen, OneEntry, CountsAreOfOpen, BlockCountsAreOfOpen, RequestsAreOpen, FittingRepliesAreSound, NoMessageBreaksF1Alone, FormatNeedsNoPast, BlocksHoldTheirAddresses, BoundsAreLastSet, DeniedGivesNothing, ReleaseLeaves, OnlyGrantsRaise};
+ghost use Rattle.tl_definitions.specs.Laws.{HeadsAreByBursts, LaterBeatsHaveAHead, OneBeatIsAll, OneBeatMessagesAreHeads, MessagesOwnTheirBeats, UnfinishedIsTheRest, EntriesAreOpen, OneEntry, CountsAreOfOpen, BlockCountsAreOfOpen, RequestsAreOpen, FittingRepliesAreSound, NoMessageBreaksF1Alone, FormatNeedsNoPast, BlocksHoldTheirAddresses, BoundsAreLastSet, DeniedGivesNothing, ReleaseLeaves, StrictClaimsAreTheBound, OnlyGrantsRaise};
 
 /// A beat is a head exactly where it is the first of its channel, or a head's beats end right before it.
 #[tactic(auto, using(crate::proofs::HeadLaws::heads_by_bursts))]
@@ -100,6 +100,12 @@ pub fn denied_gives_nothing()
 #[tactic(auto, using(crate::proofs::BoundLaws::release_leaves))]
 pub fn release_leaves()
     ensures { ReleaseLeaves }
+{}
+
+/// On a strict link a claim breaks neither P1 nor P2 exactly where it is the bound.
+#[tactic(auto, using(crate::proofs::BoundLaws::strict_claims_are_the_bound))]
+pub fn strict_claims_are_the_bound()
+    ensures { StrictClaimsAreTheBound }
 {}
 
 /// Only Grants raise a bound, where no client claims more than it can hold.

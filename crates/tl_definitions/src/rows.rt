@@ -1,6 +1,6 @@
 //! What is found in captures that are written out.
 
-ghost use Rattle.tl_definitions.specs.Rows.{FormatRows, LevelRows, RegionRows, BurstRows, FlowRows, ReplyRows, BoundRows, ConcurrencyRows, ManagerRows};
+ghost use Rattle.tl_definitions.specs.Rows.{FormatRows, LevelRows, RegionRows, BurstRows, FlowRows, ReplyRows, BoundRows, StrictRows, ConcurrencyRows, ManagerRows};
 
 /// Opcodes, params, addresses, sizes, lanes and sources of heads.
 #[tactic(auto, using(crate::proofs::RowLaws::format_rows))]
@@ -42,6 +42,12 @@ pub fn reply_rows()
 #[tactic(auto, using(crate::proofs::RowLaws::bound_rows))]
 pub fn bound_rows()
     ensures { BoundRows }
+{}
+
+/// Claims on a strict link, and the same on one that is not.
+#[tactic(auto, using(crate::proofs::RowLaws::strict_rows))]
+pub fn strict_rows()
+    ensures { StrictRows }
 {}
 
 /// Probes, Acquires and Releases of one client on one block.

@@ -53,10 +53,10 @@ flow_of kept m before p (Some o) permission manager flow =
     let message : Message = message_at (messages_on m.links p.link before) p.beat o in
     let format_part : List Rule = filter (breaks_format m.exponent m.regions (m.links p.link) o p.beat) format_order in
     let flow_part : List Rule = filter (breaks_flow (pasts p.link).flow message) flow_order in
-    let permission_part : List Rule = filter (breaks_permission m.exponent (pasts p.link).client message) permission_order in
+    let permission_part : List Rule = filter (breaks_permission (m.links p.link).strict m.exponent (pasts p.link).client message) permission_order in
     let manager_part : List Rule = filter (breaks_manager m.clients m.exponent (λ client. (pasts client).client) p.link message) manager_order in
     first_kept kept (format_part ++ flow_part ++ permission_part) manager_part (none_of kept (breaks_manager m.clients m.exponent (λ client. (pasts client).client) p.link message) manager_order manager)
-    ∙ first_kept kept (format_part ++ flow_part) permission_part (none_of kept (breaks_permission m.exponent (pasts p.link).client message) permission_order permission)
+    ∙ first_kept kept (format_part ++ flow_part) permission_part (none_of kept (breaks_permission (m.links p.link).strict m.exponent (pasts p.link).client message) permission_order permission)
     ∙ kept_of_both kept format_part flow_part
     ∙ ap (λ rules. filter kept format_part ++ rules) (kept_order kept (breaks_flow (pasts p.link).flow message) flow_order ∙ ap (filter (breaks_flow (pasts p.link).flow message)) flow)
 

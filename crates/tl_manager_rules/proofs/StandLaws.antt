@@ -53,7 +53,7 @@ head_law m before p (Some o) =
     let pasts : ℕ → LinkPast = pasts_of m.links m.exponent before in
     let message : Message = message_at (messages_on m.links p.link before) p.beat o in
     append_assoc (filter (breaks_format m.exponent m.regions (m.links p.link) o p.beat) format_order ++ filter (breaks_flow (pasts p.link).flow message) flow_order)
-    (filter (breaks_permission m.exponent (pasts p.link).client message) permission_order)
+    (filter (breaks_permission (m.links p.link).strict m.exponent (pasts p.link).client message) permission_order)
     (filter (breaks_manager m.clients m.exponent (λ client. (pasts client).client) p.link message) manager_order)
 
 rules_law : (m : Manager) (before : List Placed) (p : Placed) (decl : LinkDecl) → m.links p.link ≡ decl → at_head m.links before p ≡ true

@@ -1,6 +1,6 @@
 -- What a state shows, at its opening and after a head.
 use Rattle.std.specs.Prelude.{filter}
-use Rattle.std.proofs.Common.{◌≡◌, ℕ, ◌+◌, ◌==◌, ◌<◌, ◌++◌, true, false, cond, zero, suc, List, [], ◌∷◌, length, take, set, get_or, Option, Some, None, refl, sym, ap, ◌∙◌, arith}
+use Rattle.std.proofs.Common.{◌≡◌, ℕ, ◌+◌, ◌==◌, ◌<◌, ◌++◌, Bool, true, false, cond, zero, suc, List, [], ◌∷◌, length, take, set, get_or, Option, Some, None, refl, sym, ap, ◌∙◌, arith}
 use Rattle.std.specs.List.{AllByRecursion, slice_get}
 use Rattle.std.specs.Option.{option_map_or}
 use Rattle.std.proofs.lemmas.Bool.Decides.{nat_tests}
@@ -79,12 +79,12 @@ own_shows numbers power state pasts link own within is_own is = record {
       (slice_get_read state.states.items (length state.states.items) link own refl within is_own)) ∙ is.each link;
 }
 
-pub judged_law : (numbers : List ℕ) (power : ℕ) (state : ManagerState) (pasts : ℕ → LinkPast) (link : ℕ) (head : Beat) (request : Option Request) (found : Option Op)
+pub judged_law : (strict : Bool) (numbers : List ℕ) (power : ℕ) (state : ManagerState) (pasts : ℕ → LinkPast) (link : ℕ) (head : Beat) (request : Option Request) (found : Option Op)
     → Shows numbers power state pasts → request ≡ answered_in (pasts link) head found
-    → client_state.rules_in power (pasts link) head found ++ manager_rules state link head request found ≡ rules_in numbers power pasts link head found
-judged_law numbers power state pasts link head request None is answer = refl
-judged_law numbers power state pasts link head request (Some o) is answer = λ i.
-    filter (breaks_permission power (pasts link).client (message_in (pasts link).flow head o)) permission_order
+    → client_state.rules_in strict power (pasts link) head found ++ manager_rules state link head request found ≡ rules_in numbers power strict pasts link head found
+judged_law strict numbers power state pasts link head request None is answer = refl
+judged_law strict numbers power state pasts link head request (Some o) is answer = λ i.
+    filter (breaks_permission strict power (pasts link).client (message_in (pasts link).flow head o)) permission_order
     ++ filter (breaks_manager (is.clients i) (is.exponent i) (λ client. (is.each client i).past) link (head_with head (answer i) o)) manager_order
 
 pub next_law : (numbers : List ℕ) (power : ℕ) (state new : ManagerState) (next : ClientState) (pasts : ℕ → LinkPast) (link : ℕ) (head : Beat) (found : Option Op)

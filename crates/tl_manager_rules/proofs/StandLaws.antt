@@ -47,7 +47,7 @@ stands_law (Err e) m before p decl new is head next = tt
 -- The rules of a head are its format rules, its flow rules, and then its permission and manager rules.
 head_law : (m : Manager) (before : List Placed) (p : Placed) (found : Option Op) → head_rules m before p found
     ≡ format_rules m.exponent m.regions (m.links p.link) p.beat found ++ flow_rules (messages_on m.links p.link before) p.beat found
-    ++ rules_in m.clients m.exponent (pasts_of m.links m.exponent before) p.link p.beat found
+    ++ rules_in m.clients m.exponent (m.links p.link).strict (pasts_of m.links m.exponent before) p.link p.beat found
 head_law m before p None = refl
 head_law m before p (Some o) =
     let pasts : ℕ → LinkPast = pasts_of m.links m.exponent before in
@@ -58,16 +58,16 @@ head_law m before p (Some o) =
 
 rules_law : (m : Manager) (before : List Placed) (p : Placed) (decl : LinkDecl) → m.links p.link ≡ decl → at_head m.links before p ≡ true
     → rules_at m before p ≡ format_rules m.exponent m.regions decl p.beat (message_of decl p.beat) ++ flow_rules (messages_on m.links p.link before) p.beat (message_of decl p.beat)
-    ++ rules_in m.clients m.exponent (pasts_of m.links m.exponent before) p.link p.beat (message_of decl p.beat)
+    ++ rules_in m.clients m.exponent decl.strict (pasts_of m.links m.exponent before) p.link p.beat (message_of decl p.beat)
 rules_law m before p decl is head =
     ap (λ t. cond t (head_rules m before p (message_of (m.links p.link) p.beat)) (option_map_or (later_rules (m.links p.link) p.beat) (last_head (m.links p.link) (before_on p.link p.beat.chan before)) [])) head
     ∙ head_law m before p (message_of (m.links p.link) p.beat)
     ∙ ap (λ d. format_rules m.exponent m.regions d p.beat (message_of d p.beat) ++ flow_rules (messages_on m.links p.link before) p.beat (message_of d p.beat)
-    ++ rules_in m.clients m.exponent (pasts_of m.links m.exponent before) p.link p.beat (message_of d p.beat)) is
+    ++ rules_in m.clients m.exponent d.strict (pasts_of m.links m.exponent before) p.link p.beat (message_of d p.beat)) is
 
 pub broken_law : {E : Type 0} (made : Result (List Rule) E) (m : Manager) (before : List Placed) (p : Placed) (decl : LinkDecl)
     → m.links p.link ≡ decl → at_head m.links before p ≡ true
-    → IfOk made (λ rules. rules ≡ rules_in m.clients m.exponent (pasts_of m.links m.exponent before) p.link p.beat (message_of decl p.beat))
+    → IfOk made (λ rules. rules ≡ rules_in m.clients m.exponent decl.strict (pasts_of m.links m.exponent before) p.link p.beat (message_of decl p.beat))
     → IfOk made (λ rules. rules_at m before p ≡ format_rules m.exponent m.regions decl p.beat (message_of decl p.beat)
     ++ flow_rules (messages_on m.links p.link before) p.beat (message_of decl p.beat) ++ rules)
 broken_law (Ok rules) m before p decl is head judged = rules_law m before p decl is head

@@ -1,5 +1,5 @@
 -- What the state of a manager shows, and what it stands for.
-use Rattle.std.specs.Prelude.{ℕ, ◌≡◌, ◌==◌, ◌++◌, List, [], length, Option, filter, if◌then◌else◌}
+use Rattle.std.specs.Prelude.{ℕ, Bool, ◌≡◌, ◌==◌, ◌++◌, List, [], length, Option, filter, if◌then◌else◌}
 use Rattle.std.specs.List.{slice_get}
 use Rattle.std.specs.Option.{option_map_or}
 use Rattle.tl_tables.specs.declared.Op.{Op}
@@ -41,10 +41,11 @@ pub record Shows (numbers : List ℕ) (power : ℕ) (state : ManagerState) (past
 abbrev pub StandsFor : Manager → ManagerState → List Placed → Type 0
 StandsFor m state before = Shows m.clients m.exponent state (pasts_of m.links m.exponent before)
 
--- The permission and manager rules that a head with this message, if it is one, breaks on its link after these pasts.
-abbrev pub rules_in : List ℕ → ℕ → (ℕ → LinkPast) → ℕ → Beat → Option Op → List Rule
-rules_in clients exponent pasts link head found =
-    option_map_or (λ o. filter (breaks_permission exponent (pasts link).client (message_in (pasts link).flow head o)) permission_order
+-- The permission and manager rules that a head with this message, if it is one, breaks on its link, strict or not, after these
+-- pasts.
+abbrev pub rules_in : List ℕ → ℕ → Bool → (ℕ → LinkPast) → ℕ → Beat → Option Op → List Rule
+rules_in clients exponent strict pasts link head found =
+    option_map_or (λ o. filter (breaks_permission strict exponent (pasts link).client (message_in (pasts link).flow head o)) permission_order
     ++ filter (breaks_manager clients exponent (λ client. (pasts client).client) link (message_in (pasts link).flow head o)) manager_order) found []
 
 -- The pasts after a head.

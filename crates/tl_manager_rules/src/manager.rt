@@ -275,7 +275,7 @@ impl ManagerState {
         // Whatever pasts of the links the state shows, the head is judged by those.
         ensures judged { (clients : List ℕ) (exponent : ℕ) (pasts : ℕ → LinkPast) → Shows clients exponent self.old pasts
             → option_copied request.entry ≡ answered_in (pasts link) head.now (message_of decl.now head.now)
-            → IfOk result (λ rules. rules ≡ rules_in clients exponent pasts link head.now (message_of decl.now head.now)) }
+            → IfOk result (λ rules. rules ≡ rules_in clients exponent decl.now.strict pasts link head.now (message_of decl.now head.now)) }
         ensures next { (clients : List ℕ) (exponent : ℕ) (pasts : ℕ → LinkPast) → Shows clients exponent self.old pasts
             → option_copied request.entry ≡ answered_in (pasts link) head.now (message_of decl.now head.now)
             → OnOk result (Shows clients exponent self.new (pasts_with exponent link pasts head.now (message_of decl.now head.now))) }
@@ -308,7 +308,7 @@ impl ManagerState {
         requires link { link < (shown self.old).count }
         ensures judged { (clients : List ℕ) (exponent : ℕ) (pasts : ℕ → LinkPast) → Shows clients exponent self.old pasts
             → option_copied request.entry ≡ answered_in (pasts link) head.now (message_of decl.now head.now)
-            → IfOk result (λ rules. rules ≡ rules_in clients exponent pasts link head.now (message_of decl.now head.now)) }
+            → IfOk result (λ rules. rules ≡ rules_in clients exponent decl.now.strict pasts link head.now (message_of decl.now head.now)) }
         ensures next { (clients : List ℕ) (exponent : ℕ) (pasts : ℕ → LinkPast) → Shows clients exponent self.old pasts
             → option_copied request.entry ≡ answered_in (pasts link) head.now (message_of decl.now head.now)
             → OnOk result (Shows clients exponent self.new (pasts_with exponent link pasts head.now (message_of decl.now head.now))) }

@@ -115,22 +115,22 @@ with_view exponent past head request None is = refl
 with_view exponent past head request (Some o) is =
     ap (λ r. view_after (client_view exponent past) (head_with head r o)) is ∙ next_view exponent past (message_in past.flow head o)
 
-view_law : (exponent : ℕ) (past : LinkPast) (head : Beat) (found : Option Op) → view_rules (client_view exponent past) head found ≡ rules_in exponent past head found
-view_law exponent past head None = refl
-view_law exponent past head (Some o) = refl
+view_law : (strict : Bool) (exponent : ℕ) (past : LinkPast) (head : Beat) (found : Option Op) → view_rules strict (client_view exponent past) head found ≡ rules_in strict exponent past head found
+view_law strict exponent past head None = refl
+view_law strict exponent past head (Some o) = refl
 
-pub shown_rules : (exponent : ℕ) (old : ClientState) (past : LinkPast) (head : Beat) (found : Option Op) → Shows exponent old past
-    → view_rules (shown old) head found ≡ rules_in exponent past head found
-shown_rules exponent old past head found is = ap (λ view. view_rules view head found) is.shows ∙ view_law exponent past head found
+pub shown_rules : (strict : Bool) (exponent : ℕ) (old : ClientState) (past : LinkPast) (head : Beat) (found : Option Op) → Shows exponent old past
+    → view_rules strict (shown old) head found ≡ rules_in strict exponent past head found
+shown_rules strict exponent old past head found is = ap (λ view. view_rules strict view head found) is.shows ∙ view_law strict exponent past head found
 
-standing_law : (exponent : ℕ) (before : List Message) (head : Beat) (found : Option Op) → rules_in exponent (past_of exponent before) head found ≡ permission_rules exponent before head found
-standing_law exponent before head None = refl
-standing_law exponent before head (Some o) = refl
+standing_law : (strict : Bool) (exponent : ℕ) (before : List Message) (head : Beat) (found : Option Op) → rules_in strict exponent (past_of exponent before) head found ≡ permission_rules strict exponent before head found
+standing_law strict exponent before head None = refl
+standing_law strict exponent before head (Some o) = refl
 
-pub standing_rules : (exponent : ℕ) (old : ClientState) (before : List Message) (head : Beat) (found : Option Op) → StandsFor exponent old before
-    → view_rules (shown old) head found ≡ permission_rules exponent before head found
-standing_rules exponent old before head found stands =
-    shown_rules exponent old (past_of exponent before) head found stands ∙ standing_law exponent before head found
+pub standing_rules : (strict : Bool) (exponent : ℕ) (old : ClientState) (before : List Message) (head : Beat) (found : Option Op) → StandsFor exponent old before
+    → view_rules strict (shown old) head found ≡ permission_rules strict exponent before head found
+standing_rules strict exponent old before head found stands =
+    shown_rules strict exponent old (past_of exponent before) head found stands ∙ standing_law strict exponent before head found
 
 pub next_law : {X E : Type 0} (made : Result X E) (exponent : ℕ) (old new : ClientState) (past : LinkPast) (head : Beat) (request : Option Request) (found : Option Op)
     → Shows exponent old past → request ≡ answered_in past head found → OnOk made (shown new ≡ view_with (shown old) head request found)
@@ -168,6 +168,6 @@ few_of test (x ∷ rules) = elim (test x) as (λ b. length (cond b (x ∷ filter
   | false ↦ omega (arith, few_of test rules)
 ]
 
-pub few_rules : (view : ClientView) (head : Beat) (found : Option Op) → length (view_rules view head found) ≤ 8
-few_rules view head None = omega arith
-few_rules view head (Some o) = few_of (breaks_permission view.exponent view.past (head_with head None o)) permission_order
+pub few_rules : (strict : Bool) (view : ClientView) (head : Beat) (found : Option Op) → length (view_rules strict view head found) ≤ 8
+few_rules strict view head None = omega arith
+few_rules strict view head (Some o) = few_of (breaks_permission strict view.exponent view.past (head_with head None o)) permission_order

@@ -22,7 +22,7 @@ use Rattle.tl_perm_rules.specs.Laws.{PermissionsNeedTheirLinkAlone, HeadsAreStoo
 permissions_of : (kept : Rule → Bool) (m : Manager) (before : List Placed) (p : Placed) (found : Option Op) → list_any kept manager_order ≡ false
     → filter kept flow_order ≡ flow_order → filter kept permission_order ≡ permission_order → filter kept (head_rules m before p found)
     ≡ filter kept (format_rules m.exponent m.regions (m.links p.link) p.beat found) ++ flow_rules (messages_on m.links p.link before) p.beat found
-    ++ permission_rules m.exponent (messages_on m.links p.link before) p.beat found
+    ++ permission_rules (m.links p.link).strict m.exponent (messages_on m.links p.link before) p.beat found
 permissions_of kept m before p None manager flow permission =
     let first : List Rule = filter kept (format_rules m.exponent m.regions (m.links p.link) p.beat None) in
     sym (append-nil (first ++ []) ∙ append-nil first)
@@ -64,5 +64,5 @@ found_rules_are_broken kept m before p flow client flows permissions manager flo
     let own : List Message = messages_on m.links p.link before in
     let first : List Rule = filter kept (format_rules m.exponent m.regions (m.links p.link) p.beat (message_of (m.links p.link) p.beat)) in
     permissions_need_their_link_alone kept m before p manager flow_kept permission_kept head
-    ∙ ap (λ rules. first ++ rules ++ permission_rules m.exponent own p.beat (message_of (m.links p.link) p.beat)) (sym (flow_known own (flow_stands m.links refl)))
+    ∙ ap (λ rules. first ++ rules ++ permission_rules (m.links p.link).strict m.exponent own p.beat (message_of (m.links p.link) p.beat)) (sym (flow_known own (flow_stands m.links refl)))
     ∙ ap (λ rules. first ++ flows ++ rules) (sym (known own (stands m.links refl)))

@@ -72,15 +72,15 @@ pub record Shows (exponent : ℕ) (state : ClientState) (past : LinkPast) : Type
 abbrev pub StandsFor : ℕ → ClientState → List Message → Type 0
 StandsFor exponent state before = Shows exponent state (past_of exponent before)
 
--- The permission rules that a head with this message, if it is one, breaks after these messages.
-abbrev pub permission_rules : ℕ → List Message → Beat → Option Op → List Rule
-permission_rules exponent before head found =
-    option_map_or (λ o. filter (breaks_permission exponent (client_past exponent before) (message_at before head o)) permission_order) found []
+-- The permission rules that a head with this message, if it is one, breaks after these messages of a link, strict or not.
+abbrev pub permission_rules : Bool → ℕ → List Message → Beat → Option Op → List Rule
+permission_rules strict exponent before head found =
+    option_map_or (λ o. filter (breaks_permission strict exponent (client_past exponent before) (message_at before head o)) permission_order) found []
 
 -- The same from what a past leaves.
-abbrev pub rules_in : ℕ → LinkPast → Beat → Option Op → List Rule
-rules_in exponent past head found =
-    option_map_or (λ o. filter (breaks_permission exponent past.client (message_in past.flow head o)) permission_order) found []
+abbrev pub rules_in : Bool → ℕ → LinkPast → Beat → Option Op → List Rule
+rules_in strict exponent past head found =
+    option_map_or (λ o. filter (breaks_permission strict exponent past.client (message_in past.flow head o)) permission_order) found []
 
 abbrev pub answered_in : LinkPast → Beat → Option Op → Option Request
 answered_in past head found = option_and_then (λ o. request_in past.flow o head) found
@@ -113,9 +113,9 @@ head_with head request o = record { op = o; beat = head; request = request }
 abbrev pub view_with : ClientView → Beat → Option Request → Option Op → ClientView
 view_with view head request found = option_map_or (λ o. view_after view (head_with head request o)) found view
 
-abbrev pub view_rules : ClientView → Beat → Option Op → List Rule
-view_rules view head found =
-    option_map_or (λ o. filter (breaks_permission view.exponent view.past (head_with head None o)) permission_order) found []
+abbrev pub view_rules : Bool → ClientView → Beat → Option Op → List Rule
+view_rules strict view head found =
+    option_map_or (λ o. filter (breaks_permission strict view.exponent view.past (head_with head None o)) permission_order) found []
 
 -- The state has this open.
 pub record IsOpened (state : ClientState) (view : ClientView) : Type 0 where

@@ -23,8 +23,8 @@ use Rattle.tl_perm_rules.specs.Client.{StandsFor, StandsOn, permission_rules}
 abbrev pub UnlawfulClaimsNothing : Type 0
 UnlawfulClaimsNothing = (exponent : ℕ) (message : Message) → is_lawful message.op message.beat.param ≡ false →
     ((before : List Message) (block : ℕ) → bound_of exponent (message ∷ before) block ≡ bound_of exponent before block)
-    × ((past : ClientPast) → (breaks_permission exponent past message rule.P1 ≡ false) × (breaks_permission exponent past message rule.P2 ≡ false)
-    × (breaks_permission exponent past message rule.P4 ≡ false))
+    × ((strict : Bool) (past : ClientPast) → (breaks_permission strict exponent past message rule.P1 ≡ false) × (breaks_permission strict exponent past message rule.P2 ≡ false)
+    × (breaks_permission strict exponent past message rule.P4 ≡ false))
 
 -- A message leaves the bounds of the blocks that it does not set.
 abbrev pub OtherBlocksStay : Type 0
@@ -43,7 +43,7 @@ PermissionsNeedTheirLinkAlone = (kept : Rule → Bool) (m : Manager) (before : L
     → filter kept flow_order ≡ flow_order → filter kept permission_order ≡ permission_order → at_head m.links before p ≡ true
     → filter kept (rules_at m before p) ≡ filter kept (format_rules m.exponent m.regions (m.links p.link) p.beat (message_of (m.links p.link) p.beat))
     ++ flow_rules (messages_on m.links p.link before) p.beat (message_of (m.links p.link) p.beat)
-    ++ permission_rules m.exponent (messages_on m.links p.link before) p.beat (message_of (m.links p.link) p.beat)
+    ++ permission_rules (m.links p.link).strict m.exponent (messages_on m.links p.link before) p.beat (message_of (m.links p.link) p.beat)
 
 -- A state that stands for the messages of a link, and then, where a flow state stands for them too, for that of one more head,
 -- stands for the beats with the head.
@@ -64,5 +64,5 @@ FoundRulesAreBroken = (kept : Rule → Bool) (m : Manager) (before : List Placed
     → list_any kept manager_order ≡ false → filter kept flow_order ≡ flow_order → filter kept permission_order ≡ permission_order → at_head m.links before p ≡ true
     → flow_state.StandsOn flow (m.links p.link) p.link before → StandsOn m.exponent client (m.links p.link) p.link before
     → ((messages : List Message) → flow_state.StandsFor flow messages → flows ≡ flow_rules messages p.beat (message_of (m.links p.link) p.beat))
-    → ((messages : List Message) → StandsFor m.exponent client messages → permissions ≡ permission_rules m.exponent messages p.beat (message_of (m.links p.link) p.beat))
+    → ((messages : List Message) → StandsFor m.exponent client messages → permissions ≡ permission_rules (m.links p.link).strict m.exponent messages p.beat (message_of (m.links p.link) p.beat))
     → filter kept (rules_at m before p) ≡ filter kept (format_rules m.exponent m.regions (m.links p.link) p.beat (message_of (m.links p.link) p.beat)) ++ flows ++ permissions

@@ -6,7 +6,7 @@ ghost use Rattle.std.specs.Option.{option_copied, option_map_or};
 ghost use Rattle.tl_definitions.specs.Heads.{message_of};
 ghost use Rattle.tl_definitions.specs.Messages.{Message, with_message, bound_of};
 ghost use Rattle.tl_definitions.specs.Past.{LinkPast, client_past};
-ghost use Rattle.tl_definitions.specs.Rules.{breaks_permission, permission_order, claims_above, keeps_above};
+ghost use Rattle.tl_definitions.specs.Rules.{breaks_permission, permission_order, claims_wrongly, keeps_above};
 ghost use Rattle.tl_definitions.specs.Judging.{past_with};
 ghost use Rattle.tl_perm_rules.specs.Client.{SameClient};
 
@@ -99,12 +99,13 @@ impl ClientState {
         self.grants.is_open(block)
     }
 
-    /// Whether a head with this message claims that the client held more than it can.
-    fn claims_above(&self, op: Op, head: &Beat) -> bool
-        ensures { result ≡ claims_above self.now.exponent (shown self.now).past (head_with head.now None op) }
+    /// Whether a head with this message claims that the client held more than it can, or on a strict link less.
+    fn claims_wrongly(&self, strict: bool, op: Op, head: &Beat) -> bool
+        ensures { result ≡ claims_wrongly strict self.now.exponent (shown self.now).past (head_with head.now None op) }
     {
+        let bound = self.bounds.get(block_of(self.exponent, head.address));
         match from_of(op, head.param) {
-            Some(from) => is_above(from, self.bounds.get(block_of(self.exponent, head.address))),
+            Some(from) => is_above(from, bound) || (strict && is_above(bound, from)),
             None => false,
         }
     }
@@ -123,15 +124,15 @@ impl ClientState {
         }
     }
 
-    /// Whether a head with this message breaks the rule.
-    fn breaks(&self, op: Op, head: &Beat, rule: Rule) -> bool
-        ensures { result ≡ breaks_permission self.now.exponent (shown self.now).past (head_with head.now None op) rule }
+    /// Whether a head with this message breaks the rule, on a strict link or another.
+    fn breaks(&self, strict: bool, op: Op, head: &Beat, rule: Rule) -> bool
+        ensures { result ≡ breaks_permission strict self.now.exponent (shown self.now).past (head_with head.now None op) rule }
     {
         let block = block_of(self.exponent, head.address);
         let shrinks = is_probe_ack(op) || is_release(op);
         match rule {
-            Rule::P1 => is_acquire(op) && self.claims_above(op, head),
-            Rule::P2 => shrinks && self.claims_above(op, head),
+            Rule::P1 => is_acquire(op) && self.claims_wrongly(strict, op, head),
+            Rule::P2 => shrinks && self.claims_wrongly(strict, op, head),
             Rule::P3 => is_probe_ack(op) && self.probes.get(&block).is_none(),
             Rule::P4 => is_probe_ack(op) && self.keeps_above(op, head),
             Rule::P5 => is_probe(op) && self.probes.get(&block).is_some(),
@@ -143,12 +144,12 @@ impl ClientState {
     }
 
     /// The rules that it breaks, in the order of reports.
-    fn broken_rules(&self, alloc: Global, op: Op, head: &Beat) -> RuleList
-        ensures { result ≡ filter (breaks_permission self.now.exponent (shown self.now).past (head_with head.now None op)) permission_order }
+    fn broken_rules(&self, alloc: Global, strict: bool, op: Op, head: &Beat) -> RuleList
+        ensures { result ≡ filter (breaks_permission strict self.now.exponent (shown self.now).past (head_with head.now None op)) permission_order }
     {
         let mut rules = RuleList::new(alloc);
         for rule in PERMISSION_ORDER {
-            if self.breaks(op, head, rule) {
+            if self.breaks(strict, op, head, rule) {
                 rules.push(rule);
             }
         }
@@ -186,13 +187,13 @@ impl ClientState {
         // Where the state stands for the messages of the link so far, the rules are the definition's, and the state then
         // stands for them and this head.
         ensures rules { (exponent : ℕ) (before : List Message) → StandsFor exponent self.old before
-            → IfOk result (λ rules. rules ≡ permission_rules exponent before head.now (message_of link.now head.now)) }
+            → IfOk result (λ rules. rules ≡ permission_rules link.now.strict exponent before head.now (message_of link.now head.now)) }
         ensures stands { (exponent : ℕ) (before : List Message) → StandsFor exponent self.old before
             → option_copied request.entry ≡ answered before head.now (message_of link.now head.now)
             → OnOk result (StandsFor exponent self.new (with_message head.now (message_of link.now head.now) before)) }
         // Whatever past the state shows, the head is judged by that.
         ensures shown { (exponent : ℕ) (past : LinkPast) → Shows exponent self.old past
-            → IfOk result (λ rules. rules ≡ rules_in exponent past head.now (message_of link.now head.now)) }
+            → IfOk result (λ rules. rules ≡ rules_in link.now.strict exponent past head.now (message_of link.now head.now)) }
         ensures next { (exponent : ℕ) (past : LinkPast) → Shows exponent self.old past
             → option_copied request.entry ≡ answered_in past head.now (message_of link.now head.now)
             → OnOk result (Shows exponent self.new (past_with exponent past head.now (message_of link.now head.now))) }
@@ -212,14 +213,14 @@ impl ClientState {
         head: &Beat,
         request: Option<Request>,
     ) -> Result<RuleList, AllocError>
-        ensures rules { IfOk result (λ rules. rules ≡ view_rules (shown self.old) head.now (message_of link.now head.now)) }
+        ensures rules { IfOk result (λ rules. rules ≡ view_rules link.now.strict (shown self.old) head.now (message_of link.now head.now)) }
         ensures next { OnOk result (shown self.new ≡ view_with (shown self.old) head.now request (message_of link.now head.now)) }
         ensures err { OnErr result (shown self.new ≡ shown self.old) }
     {
         let Some(op) = op_of(link.level, head.chan, head.opcode) else {
             return Ok(RuleList::new(alloc));
         };
-        let rules = self.broken_rules(alloc, op, head);
+        let rules = self.broken_rules(alloc, link.strict, op, head);
         self.change(op, head, request)?;
         Ok(rules)
     }

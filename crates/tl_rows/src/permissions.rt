@@ -1,6 +1,6 @@
 //! What a client may hold: the permission rules of worked captures, and states that are asked, compared and copied.
 
-use crate::topologies::ONE_MANAGER;
+use crate::topologies::{ONE_MANAGER, STRICT};
 use std::alloc::Global;
 use std::test::Fail;
 use tl_beats::parse_whole_fragment;
@@ -23,7 +23,17 @@ fn tell(alloc: Global, found: &mut String, cycle: u64, rules: &RuleList) -> Resu
 
 /// The flow and permission rules of the heads on cpu0, after the beats of a Grant, and the client's state after them.
 fn permissions(alloc: Global, granted: &str, beats: &str) -> Result<(String, ClientState), Fail> {
-    let (topo, _) = read_topo(alloc, ONE_MANAGER.as_bytes())?;
+    permissions_in(alloc, ONE_MANAGER, granted, beats)
+}
+
+/// The same in a topology.
+fn permissions_in(
+    alloc: Global,
+    topology: &str,
+    granted: &str,
+    beats: &str,
+) -> Result<(String, ClientState), Fail> {
+    let (topo, _) = read_topo(alloc, topology.as_bytes())?;
     let text = format!(in alloc; "fragment cpu0 1 0 99999\n{granted}{beats}end\n")?;
     let fragment = parse_whole_fragment(alloc, text.as_bytes())?;
     let mut found = String::new(alloc);
@@ -147,6 +157,38 @@ const PERMISSIONS: [(&str, &str, &str); 19] = [
 fn captures_have_their_permission_rules(rt: HostRuntime) -> Result<(), Fail> {
     for (granted, beats, wanted) in PERMISSIONS {
         let (found, _) = permissions(rt.alloc(), granted, beats)?;
+        assert!(rt; found.as_str() == wanted, "{beats}");
+    }
+    Ok(())
+}
+
+/// Beats after a Grant of T on a strict link, and what they break.
+const STRICT_PERMISSIONS: [(&str, &str); 8] = [
+    // The client dropped the block and said nothing, and then claims what a denied Grant didn't give.
+    (
+        "40 A 6 0 6 0 1000 ff 0\n50 D 4 1 6 0 1 1 0\n60 E 1\n70 A 7 2 6 0 1000 ff 0\n",
+        "40 P1\n70 P1\n",
+    ),
+    // It claims less than it holds, in an Acquire, a Release and a ProbeAck.
+    ("40 A 7 2 6 0 1000 ff 0\n", "40 P1\n"),
+    ("40 C 6 2 6 0 1000 0\n", "40 P2\n"),
+    (
+        "40 B 6 2 6 0 1000 ff 0\n50 C 4 5 6 0 1000 0\n",
+        "50 P2\n",
+    ),
+    // And what it holds.
+    ("40 C 6 1 6 0 1000 0\n", ""),
+    ("40 B 6 2 6 0 1000 ff 0\n50 C 4 1 6 0 1000 0\n", ""),
+    // More than it holds.
+    ("40 C 6 1 6 0 1040 0\n", "40 P2\n"),
+    // An unlawful param claims nothing.
+    ("40 A 6 5 6 0 1000 ff 0\n", ""),
+];
+
+#[test]
+fn strict_clients_claim_what_they_hold(rt: HostRuntime) -> Result<(), Fail> {
+    for (beats, wanted) in STRICT_PERMISSIONS {
+        let (found, _) = permissions_in(rt.alloc(), STRICT, GRANTED, beats)?;
         assert!(rt; found.as_str() == wanted, "{beats}");
     }
     Ok(())

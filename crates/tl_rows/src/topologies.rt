@@ -8,6 +8,10 @@ use tl_topology::{Name, Topo, TopoFault, read_topo};
 pub(crate) const ONE_MANAGER: &str =
     "topo 1\nmanager m0 64\nlink cpu0 m0 c 8 6 4\nlink cpu1 m0 c 8 6 4\nlink dma0 m0 ul 8 3 2\nend\n";
 
+/// The same, with a client on cpu0 that never drops a block in silence.
+pub(crate) const STRICT: &str =
+    "topo 2\nmanager m0 64\nlink cpu0 m0 c 8 6 4 strict\nlink cpu1 m0 c 8 6 4\nlink dma0 m0 ul 8 3 2\nend\n";
+
 /// The fault of a text, or None where it is a topology.
 fn fault_of(alloc: Global, text: &[u8]) -> Option<TopoFault> {
     match read_topo(alloc, text) {
@@ -72,6 +76,40 @@ fn a_copy_answers_as_its_source(rt: HostRuntime) -> Result<(), Fail> {
     Ok(())
 }
 
+/// Whether the link of each number is strict, up to the last link.
+fn strict_bits(alloc: Global, topo: &Topo) -> Result<Vec<bool>, Fail> {
+    let mut bits = Vec::new(alloc);
+    for number in 0..topo.link_count() {
+        let link = topo.link(number as u16).ok_or("a link")?;
+        bits.push(link.strict)?;
+    }
+    Ok(bits)
+}
+
+#[test]
+fn links_of_version_2_may_be_strict(rt: HostRuntime) -> Result<(), Fail> {
+    let (topo, used) = read_topo(rt.alloc(), STRICT.as_bytes())?;
+    assert_eq!(rt; used, STRICT.len());
+    assert!(rt; is_one_manager(&topo) && has_its_links(&topo));
+    let bits = strict_bits(rt.alloc(), &topo)?;
+    assert!(rt; bits.as_slice() == [true, false, false].as_slice());
+    let copy = topo.copy(rt.alloc())?;
+    let bits = strict_bits(rt.alloc(), &copy)?;
+    assert!(rt; bits.as_slice() == [true, false, false].as_slice());
+    Ok(())
+}
+
+#[test]
+fn a_link_without_the_word_is_not_strict(rt: HostRuntime) -> Result<(), Fail> {
+    for version in 1..3u32 {
+        let text = format!(in rt.alloc(); "topo {version}\nmanager m0 64\nlink cpu0 m0 c 8 6 4\nend\n")?;
+        let (topo, _) = read_topo(rt.alloc(), text.as_bytes())?;
+        let bits = strict_bits(rt.alloc(), &topo)?;
+        assert!(rt; bits.as_slice() == [false].as_slice());
+    }
+    Ok(())
+}
+
 #[test]
 fn names_are_words_of_16_bytes(rt: HostRuntime) -> Result<(), Fail> {
     let name = Name::new(b"a123456789_bcdef").ok_or("a name")?;
@@ -127,6 +165,44 @@ fn third_lines_have_their_faults(rt: HostRuntime) -> Result<(), Fail> {
     Ok(())
 }
 
+/// Each third line with its fault, behind `topo 2` and `manager m0 64`.
+const THIRD_LINES_OF_VERSION_2: [(&str, TopoFault); 14] = [
+    ("link x m0 ul 8 3 2 strict", TopoFault::StrictLevel(3)),
+    ("link x m0 uh 8 6 2 strict", TopoFault::StrictLevel(3)),
+    ("link x m0 ul 8 4 2 strict", TopoFault::BadSize(3)),
+    ("link x m0 ul 3 3 2 strict", TopoFault::BadWidth(3)),
+    ("link x m9 ul 8 3 2 strict", TopoFault::NoManager(3)),
+    ("link m0 m0 ul 8 3 2 strict", TopoFault::NameTwice(3)),
+    ("link x m0 c 8 6 0 strict", TopoFault::BadLine(3)),
+    ("link x m0 c 8 6 65537 strict", TopoFault::BadLine(3)),
+    ("link x m0 c 8 6 4 lax", TopoFault::BadLine(3)),
+    ("link x m0 c 8 6 4 strictly", TopoFault::BadLine(3)),
+    ("link x m0 c 8 6 4 strict ", TopoFault::BadLine(3)),
+    ("link x m0 c 8 6 4  strict", TopoFault::BadLine(3)),
+    ("link x m0 c 8 6 strict 4", TopoFault::BadLine(3)),
+    ("link x m0 c 8 6 4 strict strict", TopoFault::BadLine(3)),
+];
+
+#[test]
+fn third_lines_of_version_2_have_their_faults(rt: HostRuntime) -> Result<(), Fail> {
+    for (line, wanted) in THIRD_LINES_OF_VERSION_2 {
+        let text = format!(in rt.alloc(); "topo 2\nmanager m0 64\n{line}\nend\n")?;
+        assert_eq!(rt;
+            fault_of(rt.alloc(), text.as_bytes()),
+            Some(wanted),
+            "{line}"
+        );
+    }
+    let text = "topo 1\nmanager m0 64\nlink x m0 c 8 6 4 strict\nend\n";
+    assert_eq!(rt;
+        fault_of(rt.alloc(), text.as_bytes()),
+        Some(TopoFault::BadLine(3))
+    );
+    let fault = TopoFault::StrictLevel(3);
+    assert!(rt; fault.code() == 37 && fault.number() == Some(3));
+    Ok(())
+}
+
 /// Spellings of a manager's line that are none.
 const MISSPELLED: [&str; 12] = [
     "manager m0 64 ",
@@ -153,6 +229,7 @@ fn misspelled_lines_are_bad(rt: HostRuntime) -> Result<(), Fail> {
             "{line}"
         );
     }
+    assert_eq!(rt; fault_of(rt.alloc(), b"topo 2\nend\n"), None);
     assert_eq!(rt;
         fault_of(rt.alloc(), b"topo 3\nend\n"),
         Some(TopoFault::BadLine(1))
@@ -167,7 +244,11 @@ fn misspelled_lines_are_bad(rt: HostRuntime) -> Result<(), Fail> {
 
 #[test]
 fn a_front_is_no_topology(rt: HostRuntime) -> Result<(), Fail> {
-    let text = ONE_MANAGER.as_bytes();
+    fronts_are_bad(rt, ONE_MANAGER.as_bytes())?;
+    fronts_are_bad(rt, STRICT.as_bytes())
+}
+
+fn fronts_are_bad(rt: HostRuntime, text: &[u8]) -> Result<(), Fail> {
     let mut line = 1;
     for end in 0..text.len() {
         let front = text.get(..end).ok_or("a front")?;
@@ -200,14 +281,14 @@ fn many(alloc: Global, managers: u32, links: u32) -> Result<String, Fail> {
 }
 
 #[test]
-fn there_are_64_of_each(rt: HostRuntime) -> Result<(), Fail> {
-    let text = many(rt.alloc(), 64, 64)?;
+fn there_are_256_links_and_64_managers(rt: HostRuntime) -> Result<(), Fail> {
+    let text = many(rt.alloc(), 64, 256)?;
     let (topo, _) = read_topo(rt.alloc(), text.as_bytes())?;
-    assert!(rt; topo.link_count() == 64 && topo.link(63).is_some() && topo.block(63) == Some(6));
-    let text = many(rt.alloc(), 1, 65)?;
+    assert!(rt; topo.link_count() == 256 && topo.link(255).is_some() && topo.block(63) == Some(6));
+    let text = many(rt.alloc(), 1, 257)?;
     assert_eq!(rt;
         fault_of(rt.alloc(), text.as_bytes()),
-        Some(TopoFault::TooManyLinks(67))
+        Some(TopoFault::TooManyLinks(259))
     );
     let text = many(rt.alloc(), 65, 0)?;
     assert_eq!(rt;
@@ -215,7 +296,7 @@ fn there_are_64_of_each(rt: HostRuntime) -> Result<(), Fail> {
         Some(TopoFault::TooManyManagers(66))
     );
     assert!(rt;
-        TopoFault::TooManyLinks(67).code() == 6 && TopoFault::TooManyLinks(67).number() == Some(67)
+        TopoFault::TooManyLinks(259).code() == 6 && TopoFault::TooManyLinks(259).number() == Some(259)
     );
     Ok(())
 }

@@ -48,14 +48,14 @@ whatever (Err e) a = tt
 -- The rules of a head are its format rules, its flow rules, and those of its permissions and its manager.
 pub head_is_judged : (m : Manager) (s : Snapshot) (p : Placed) (found : Option Op) (format flows clients : List Rule)
     → format ≡ format_rules m.exponent m.regions (m.links p.link) p.beat found → flows ≡ flow.rules_in (s.past p.link).flow p.beat found
-    → clients ≡ managers.rules_in m.clients m.exponent s.past p.link p.beat found → format ++ flows ++ clients ≡ judged_head m s p found
+    → clients ≡ managers.rules_in m.clients m.exponent (m.links p.link).strict s.past p.link p.beat found → format ++ flows ++ clients ≡ judged_head m s p found
 head_is_judged m s p None format flows clients f g h =
     ap (λ x. x ++ flows ++ clients) f ∙ ap (λ x. (rule.F1 ∷ []) ++ x ++ clients) g ∙ ap (λ x. (rule.F1 ∷ []) ++ [] ++ x) h
 head_is_judged m s p (Some o) format flows clients f g h =
     let message = message_in (s.past p.link).flow p.beat o in
     let first : List Rule = filter (breaks_format m.exponent m.regions (m.links p.link) o p.beat) format_order in
     let second : List Rule = filter (breaks_flow (s.past p.link).flow message) flow_order in
-    let third : List Rule = filter (breaks_permission m.exponent (s.past p.link).client message) permission_order in
+    let third : List Rule = filter (breaks_permission (m.links p.link).strict m.exponent (s.past p.link).client message) permission_order in
     let fourth : List Rule = filter (breaks_manager m.clients m.exponent (λ client. (s.past client).client) p.link message) manager_order in
     ap (λ x. x ++ flows ++ clients) f ∙ ap (λ x. first ++ x ++ clients) g ∙ ap (λ x. first ++ second ++ x) h ∙ sym (append_assoc (first ++ second) third fourth)
 

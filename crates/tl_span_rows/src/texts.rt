@@ -8,6 +8,14 @@ link cpu1 m0 c 8 6 4\n\
 link dma0 m0 ul 8 3 2\n\
 end\n";
 
+/// The same, with a client on cpu0 that never drops a block in silence.
+pub(crate) const STRICT: &str = "topo 2\n\
+manager m0 64\n\
+link cpu0 m0 c 8 6 4 strict\n\
+link cpu1 m0 c 8 6 4\n\
+link dma0 m0 ul 8 3 2\n\
+end\n";
+
 /// Two managers with blocks of other sizes.
 pub(crate) const TWO_MANAGERS: &str = "topo 1\n\
 manager m0 64\n\
@@ -65,6 +73,9 @@ pub(crate) const SECOND: &str = "100 A 6 1 6 0 1000 ff 0\n\
 206 D 5 0 6 0 2 0 0\n\
 207 D 5 0 6 0 2 0 0\n\
 210 E 2\n";
+
+/// An Acquire that claims to hold nothing, without a Grant.
+pub(crate) const DROPPED: &str = "300 A 6 0 6 0 1000 ff 0\n";
 
 /// A Probe that takes the block away, and its answer.
 pub(crate) const TAKEN: &str = "110 B 6 2 6 0 1000 ff 0\n\

@@ -8,7 +8,9 @@ ghost use Rattle.tl_definitions.specs.Managers.{manager_at};
 ghost use Rattle.tl_definitions.specs.Positions.{position_order, IsBefore};
 ghost use Rattle.tl_span.specs.States.{IsOf};
 
-use crate::texts::{ACQUIRE_OF_B, GRANT_OF_B, HELD, HELD_LATER, SECOND, TAKEN, TOPOLOGY};
+use crate::texts::{
+    ACQUIRE_OF_B, DROPPED, GRANT_OF_B, HELD, HELD_LATER, SECOND, STRICT, TAKEN, TOPOLOGY,
+};
 use std::alloc::{AllocError, Global};
 use std::cmp::Ordering;
 use std::test::Fail;
@@ -201,7 +203,18 @@ fn rows_of(
     second: (&str, u32, &str),
     third: (&str, u32, &str),
 ) -> Result<String, Fail> {
-    let (topo, _) = read_topo(alloc, TOPOLOGY.as_bytes())?;
+    rows_in(alloc, TOPOLOGY, first, second, third)
+}
+
+/// The same in a topology.
+fn rows_in(
+    alloc: Global,
+    topology: &str,
+    first: (&str, u32, &str),
+    second: (&str, u32, &str),
+    third: (&str, u32, &str),
+) -> Result<String, Fail> {
+    let (topo, _) = read_topo(alloc, topology.as_bytes())?;
     let manager = manager_of(&topo, "m0")?;
     let beats = merged(alloc, &topo, first, second, third)?;
     let regions = RegionMap::new(alloc);
@@ -249,6 +262,39 @@ fn a_probe_takes_the_block_away(rt: HostRuntime) -> Result<(), Fail> {
     let probe = ("cpu0", 2, TAKEN);
     let taken = rows_of(rt.alloc(), ("cpu0", 1, HELD), ("cpu1", 1, SECOND), probe)?;
     assert!(rt; taken.is_empty());
+    Ok(())
+}
+
+#[test]
+fn a_strict_link_has_the_rows_of_its_manager(rt: HostRuntime) -> Result<(), Fail> {
+    let held = ("cpu0", 1, HELD);
+    let second = ("cpu1", 1, SECOND);
+    let beside = rows_in(rt.alloc(), STRICT, held, second, ("cpu0", 2, ""))?;
+    assert!(rt; beside.as_str() == "cpu1 1 3 M1\n");
+    let taken = rows_in(rt.alloc(), STRICT, held, second, ("cpu0", 2, TAKEN))?;
+    assert!(rt; taken.is_empty());
+    Ok(())
+}
+
+#[test]
+fn a_silent_drop_is_found_on_the_strict_link_alone(rt: HostRuntime) -> Result<(), Fail> {
+    let nothing = ("dma0", 1, "");
+    let strict = rows_in(
+        rt.alloc(),
+        STRICT,
+        ("cpu0", 1, HELD),
+        ("cpu0", 2, DROPPED),
+        nothing,
+    )?;
+    assert!(rt; strict.as_str() == "cpu0 2 2 P1\n");
+    let other = rows_in(
+        rt.alloc(),
+        STRICT,
+        ("cpu1", 1, HELD),
+        ("cpu1", 2, DROPPED),
+        nothing,
+    )?;
+    assert!(rt; other.is_empty());
     Ok(())
 }
 

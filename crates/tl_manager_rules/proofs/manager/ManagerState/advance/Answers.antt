@@ -12,7 +12,7 @@ returns-clause-judged c numbers power pasts is answer =
     c.append.ensures
     ∙ ap (λ across. c.in_ok-rules.rules ++ across) (c.as_slice.ensures ∙ c.judge-across.ensures.rules)
     ∙ ap (λ rules. rules ++ manager_rules state c.args.link c.args.head.now c.copied.result found) (c.in_ok-rules.ensures.shown power (pasts c.args.link) own)
-    ∙ judged_law numbers power state pasts c.args.link c.args.head.now c.copied.result found is (c.copied.ensures ∙ answer)
+    ∙ judged_law c.args.decl.now.strict numbers power state pasts c.args.link c.args.head.now c.copied.result found is (c.copied.ensures ∙ answer)
 
 pub returns-clause-next : goal.returns-clause-next
 returns-clause-next c numbers power pasts is answer =

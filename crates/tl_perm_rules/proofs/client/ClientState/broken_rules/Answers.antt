@@ -8,7 +8,7 @@ use Rattle.tl_perm_rules.proofs.client.ClientState.broken_rules.Goals.{then-brea
 
 pub loop-rule-preserved : goal.loop-rule-preserved
 loop-rule-preserved c =
-    let breaks = breaks_permission c.args.self.now.exponent (shown c.args.self.now).past (head_with c.args.head.now None c.args.op) in
+    let breaks = breaks_permission c.args.strict c.args.self.now.exponent (shown c.args.self.now).past (head_with c.args.head.now None c.args.op) in
     elim c.if-breaks.branch [
       | then-breaks w ↦ record {
         found = picked breaks permission_order c.loop-rule.rule-index rule.F1 (omega arith) (sym c.breaks.ensures ∙ w.if-breaks.true) c.loop-rule.invariant.found (w.rules-is ∙ w.push.ensures);

@@ -34,7 +34,7 @@ returns-in_ok-add_rows-in-Head-2-clause-rows c m count of serves =
     let rules = head_is_judged m (shown old) p (message_of (m.links p.link) p.beat) c.check_head-format.result c.in-Head.answer.rules c.in_ok-clients-in-Head.clients
     (c.check_head-format.ensures ∙ served_format m p c.args.decl.now c.args.exponent (areas_of c.args.regions.now) serves)
     (found.1 ∙ ap (λ f. flow.rules_in f p.beat opcode) past ∙ ap (flow.rules_in (flow_at old p.link) p.beat) message)
-    (clients ∙ ap (managers.rules_in m.clients m.exponent (past_at old) p.link p.beat) message) in
+    (clients ∙ ap (λ d. managers.rules_in m.clients m.exponent d.strict (past_at old) p.link p.beat (message_of d p.beat)) (sym serves.declared)) in
     on_ok c.add_rows-in-Head-2.result
     (λ three. head_rows m old p c.check_head-format.result c.in-Head.answer.rules c.in_ok-clients-in-Head.clients c.args.rows.now.items c.add_rows.new.rows.items c.add_rows-in-Head.new.rows.items
     c.add_rows-in-Head-2.new.rows.items (burst_here old p.link link p.beat.chan at ∙ found.0) rules c.in_ok-add_rows-in-Head.ensures c.in_ok-add_rows-in-Head-2.ensures three)

@@ -242,27 +242,27 @@ fn misspelled_lines_are_bad(rt: HostRuntime) -> Result<(), Fail> {
     Ok(())
 }
 
-#[test]
-fn a_front_is_no_topology(rt: HostRuntime) -> Result<(), Fail> {
-    fronts_are_bad(rt, ONE_MANAGER.as_bytes())?;
-    fronts_are_bad(rt, STRICT.as_bytes())
-}
-
-fn fronts_are_bad(rt: HostRuntime, text: &[u8]) -> Result<(), Fail> {
+/// The first proper front of a text that isn't refused as a bad line, that which it ends in.
+fn odd_front(alloc: Global, text: &[u8]) -> Option<usize> {
     let mut line = 1;
     for end in 0..text.len() {
-        let front = text.get(..end).ok_or("a front")?;
-        assert_eq!(rt;
-            fault_of(rt.alloc(), front),
-            Some(TopoFault::BadLine(line)),
-            "{end}"
-        );
+        let front = text.get(..end)?;
+        if fault_of(alloc, front) != Some(TopoFault::BadLine(line)) {
+            return Some(end);
+        }
         if text.get(end).copied() == Some(b'\n') {
             line = line.saturating_add(1);
         }
     }
-    assert_eq!(rt; fault_of(rt.alloc(), text), None);
-    Ok(())
+    None
+}
+
+#[test]
+fn a_front_is_no_topology(rt: HostRuntime) {
+    for text in [ONE_MANAGER, STRICT] {
+        assert_eq!(rt; odd_front(rt.alloc(), text.as_bytes()), None);
+        assert_eq!(rt; fault_of(rt.alloc(), text.as_bytes()), None);
+    }
 }
 
 /// A topology text with so many managers and links.

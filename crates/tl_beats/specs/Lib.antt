@@ -4,3 +4,4 @@ pub mod Fragments
 pub mod Parts
 pub mod Reading
 pub mod Text
+pub mod Watches

@@ -7,6 +7,7 @@ mod fragment;
 mod laws;
 mod places;
 mod reading;
+mod watch;
 mod writing;
 
 pub use fault::FragmentFault;
@@ -18,6 +19,7 @@ pub use laws::{
 pub use reading::{parse_fragment, parse_whole_fragment, read_fragment};
 use tl_tables::{Chan, Op, Rule};
 pub use tl_text::{ByteIn, ByteOut};
+pub use watch::{Class, Watch};
 pub use writing::write_fragment;
 
 /// One accepted beat, as it was recorded at the client's port. A field that its channel lacks is 0.

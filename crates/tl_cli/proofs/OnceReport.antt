@@ -23,11 +23,12 @@ use Rattle.tl_beats.specs.Beats.{rises}
 use Rattle.tl_beats.specs.Fragments.{Frag, AreBeats}
 use Rattle.tl_definitions.specs.Positions.{position_order, placed_from}
 use Rattle.tl_definitions.specs.Rules.{Manager}
-use Rattle.tl_definitions.specs.Breaks.{Breaks, rules_at, row_of, rows_after, rows_in}
+use Rattle.tl_definitions.specs.Breaks.{rules_at, row_of, rows_after, rows_in}
 use Rattle.tl_definitions.specs.Coherence.{exceeds}
-use Rattle.tl_definitions.specs.Judging.{IsPass, snapshot}
+use Rattle.tl_definitions.specs.Judging.{snapshot, judging}
+use Rattle.tl_definitions.specs.Passes.{IsPass}
 use Rattle.tl_definitions.specs.Managers.{declared_links, manager_at}
-use Rattle.tl_definitions.specs.Report.{key_order, Capture, IsReport}
+use Rattle.tl_definitions.specs.Report.{key_order, Capture, of_manager, captured, Finds, rows_of, IsReport}
 use Rattle.tl_definitions.proofs.CoherenceLaws.{guarded_captures_are_coherent}
 use Rattle.tl_definitions.proofs.Lists.{contains_none, contains_here, contains_there, contains_cases, mapped_from, all_of}
 use Rattle.tl_definitions.proofs.PassLaws.{first_passes_are_reports}
@@ -37,7 +38,7 @@ use Rattle.tl_definitions.proofs.RuleLaws.{rules_rise}
 use Rattle.tl_span.specs.Jobs.{Job, Checked, manager_of, pass_of}
 use Rattle.tl_span.specs.States.{shown}
 use Rattle.tl_span.specs.declared.state.SpanState.{SpanState}
-use Rattle.tl_cli.specs.Once.{capture_once, rows_of_capture, rows_once, IsReportOnce, CleanReportsAreCoherent}
+use Rattle.tl_cli.specs.Once.{capture_once, rows_once, IsReportOnce, CleanReportsAreCoherent}
 use Rattle.tl_cli.proofs.Rows.{placed, of_link, rows_linked}
 
 -- ---- the beats rise
@@ -112,16 +113,16 @@ after_rises m link before (p ∷ beats) up same =
 -- ---- the report
 
 rows_report : (m : Manager) (link fragment : ℕ) (beats : List Beat) → IsStrictlySortedBy position_order (placed_from link fragment 2 beats)
-    → IsReport (record { manager = m; beats = placed_from link fragment 2 beats } ∷ []) (rows_in m (placed_from link fragment 2 beats))
+    → IsReport (of_manager m (placed_from link fragment 2 beats) ∷ []) (rows_in m (placed_from link fragment 2 beats))
 rows_report m link fragment beats up =
     let ps : List Placed = placed_from link fragment 2 beats in
-    let capture : Capture = record { manager = m; beats = ps } in
+    let capture : Capture = of_manager m ps in
     record {
       rises = after_rises m link [] ps up (of_link link fragment 2 beats);
       members = λ row. (
         (λ h. (capture, contains_here capture [], (rows_are_breaks m ps row).0 h)),
         (λ r. elim (contains_cases capture [] r.0 r.1) [
-          | inl e ↦ (rows_are_breaks m ps row).1 (subst (λ (c : Capture). Breaks c.manager c.beats row) (sym e) r.2)
+          | inl e ↦ (rows_are_breaks m ps row).1 (subst (λ (c : Capture). Finds c row) (sym e) r.2)
           | inr none ↦ absurd (contains_none r.0 none)
         ]),
       );
@@ -129,22 +130,22 @@ rows_report m link fragment beats up =
 
 -- A window of these beats from the beginning has their report.
 checked_report : (m : Manager) (beats : List Placed) (job : Job) (entry : SpanState) (checked : Checked) → manager_of job ≡ m → job.beats ≡ beats → job.entry ≡ entry → shown entry ≡ snapshot m []
-    → checked.job ≡ job → IsPass (manager_of job) (pass_of checked) → IsReport (record { manager = m; beats = beats } ∷ []) checked.rows
+    → checked.job ≡ job → IsPass (judging (manager_of job)) (pass_of checked) → IsReport (of_manager m beats ∷ []) checked.rows
 checked_report m beats job entry checked manages has begins opening same pass =
     let bare : pass_of checked ≡ record { entry = shown entry; beats = beats; exit = shown checked.exit; rows = checked.rows } =
     ap (λ (j : Job). record { entry = shown j.entry; beats = j.beats; exit = shown checked.exit; rows = checked.rows }) same
     ∙ ap (λ (bs : List Placed). record { entry = shown job.entry; beats = bs; exit = shown checked.exit; rows = checked.rows }) has
     ∙ ap (λ (s : SpanState). record { entry = shown s; beats = beats; exit = shown checked.exit; rows = checked.rows }) begins in
     first_passes_are_reports m (record { entry = shown entry; beats = beats; exit = shown checked.exit; rows = checked.rows })
-    (subst (IsPass m) bare (subst (λ n. IsPass n (pass_of checked)) manages pass)) opening
+    (subst (IsPass (judging m)) bare (subst (λ n. IsPass (judging n) (pass_of checked)) manages pass)) opening
 
 -- ---- the fragment's link
 
 module _ (topo : Topology) (f : Frag) (link : ℕ) (decl : LinkDecl) (named : number_of_name topo.links f.link ≡ Some link) (is : slice_get (declared_links topo) link ≡ Some decl) where
-  rows_of_link : rows_once topo f ≡ rows_of_capture (capture_once topo link decl f)
+  rows_of_link : rows_once topo f ≡ rows_of (capture_once topo link decl f)
   rows_of_link =
-      ap (λ found. option_map_or (λ number. option_map_or (λ d. rows_of_capture (capture_once topo number d f)) (slice_get (declared_links topo) number) []) found []) named
-      ∙ ap (λ found. option_map_or (λ d. rows_of_capture (capture_once topo link d f)) found []) is
+      ap (λ found. option_map_or (λ number. option_map_or (λ d. rows_of (capture_once topo number d f)) (slice_get (declared_links topo) number) []) found []) named
+      ∙ ap (λ found. option_map_or (λ d. rows_of (capture_once topo link d f)) found []) is
 
   report_of_link : IsStrictlySortedBy position_order (placed_from link f.number 2 f.beats) → IsReport (capture_once topo link decl f ∷ []) (rows_once topo f)
   report_of_link up = subst (IsReport (capture_once topo link decl f ∷ [])) (sym rows_of_link) (rows_report (manager_at topo decl.manager []) link f.number f.beats up)
@@ -152,7 +153,7 @@ module _ (topo : Topology) (f : Frag) (link : ℕ) (decl : LinkDecl) (named : nu
   -- The rows of the fragment's window.
   pub checked_once : (beats : List Placed) (job : Job) (entry : SpanState) (checked : Checked) → IsStrictlySortedBy position_order (placed_from link f.number 2 f.beats) → beats ≡ placed_from link f.number 2 f.beats
       → manager_of job ≡ manager_at topo decl.manager [] → job.beats ≡ beats → job.entry ≡ entry → shown entry ≡ snapshot (manager_at topo decl.manager []) []
-      → checked.job ≡ job → IsPass (manager_of job) (pass_of checked) → checked.rows ≡ rows_once topo f
+      → checked.job ≡ job → IsPass (judging (manager_of job)) (pass_of checked) → checked.rows ≡ rows_once topo f
   checked_once beats job entry checked up are manages has begins opening same pass =
       one_report (capture_once topo link decl f ∷ []) checked.rows (rows_once topo f)
       (checked_report (manager_at topo decl.manager []) (placed_from link f.number 2 f.beats) job entry checked manages (has ∙ are) begins opening same pass) (report_of_link up)
@@ -166,4 +167,4 @@ once_is_report topo f link named up number decl found is =
 
 pub clean_reports_are_coherent : CleanReportsAreCoherent
 clean_reports_are_coherent topo f link decl named is clean =
-    guarded_captures_are_coherent (manager_at topo decl.manager []) (capture_once topo link decl f).beats (ap (filter exceeds) (sym (rows_of_link topo f link decl named is)) ∙ clean)
+    guarded_captures_are_coherent (manager_at topo decl.manager []) (captured (capture_once topo link decl f)) (ap (filter exceeds) (sym (rows_of_link topo f link decl named is)) ∙ clean)

@@ -9,8 +9,7 @@ use Rattle.tl_beats.specs.declared.Placed.{Placed}
 use Rattle.tl_beats.specs.declared.Row.{Row}
 use Rattle.tl_definitions.specs.Positions.{placed_beats}
 use Rattle.tl_definitions.specs.Managers.{declared_links, manager_at}
-use Rattle.tl_definitions.specs.Breaks.{rows_in}
-use Rattle.tl_definitions.specs.Report.{Capture, IsReport}
+use Rattle.tl_definitions.specs.Report.{Capture, of_manager, captured, rows_of, IsReport}
 use Rattle.tl_definitions.specs.Coherence.{OneWriter, exceeds}
 use Rattle.tl_cli.specs.Output.{report_bytes}
 use Rattle.tl_cli.specs.declared.once.OnceFault.{OnceFault}
@@ -18,17 +17,12 @@ use Rattle.tl_cli.specs.declared.once.OnceFault.TheVariants as once
 
 -- The link's manager, without regions, with the beats of the fragment on the link of this number, and no others.
 abbrev pub capture_once : Topology → ℕ → LinkDecl → Frag → Capture
-capture_once topo link decl f = record {
-  manager = manager_at topo decl.manager [];
-  beats = placed_beats (record { link = link; number = f.number; first = f.first; last = f.last; beats = f.beats });
-}
-
-abbrev pub rows_of_capture : Capture → List Row
-rows_of_capture capture = rows_in capture.manager capture.beats
+capture_once topo link decl f =
+    of_manager (manager_at topo decl.manager []) (placed_beats (record { link = link; number = f.number; first = f.first; last = f.last; beats = f.beats }))
 
 -- The rows of a fragment of a link of the topology: those that the definitions give for its beats.
 abbrev pub rows_once : Topology → Frag → List Row
-rows_once topo f = option_map_or (λ link. option_map_or (λ decl. rows_of_capture (capture_once topo link decl f)) (slice_get (declared_links topo) link) []) (number_of_name topo.links f.link) []
+rows_once topo f = option_map_or (λ link. option_map_or (λ decl. rows_of (capture_once topo link decl f)) (slice_get (declared_links topo) link) []) (number_of_name topo.links f.link) []
 
 -- They are the report: a row is among them if and only if its beat breaks its rule, and they stand in order, each once.
 abbrev pub IsReportOnce : Topology → Frag → Type 0
@@ -40,7 +34,7 @@ IsReportOnce topo f = (link : ℕ) (decl : LinkDecl) → number_of_name topo.lin
 abbrev pub IsCoherentOnce : Topology → Frag → Type 0
 IsCoherentOnce topo f = (link : ℕ) (decl : LinkDecl) → number_of_name topo.links f.link ≡ Some link → slice_get (declared_links topo) link ≡ Some decl
     → filter exceeds (rows_once topo f) ≡ []
-    → (earlier later : List Placed) → (capture_once topo link decl f).beats ≡ earlier ++ later → OneWriter (manager_at topo decl.manager []) (reverse earlier)
+    → (earlier later : List Placed) → captured (capture_once topo link decl f) ≡ earlier ++ later → OneWriter (manager_at topo decl.manager []) (reverse earlier)
 
 -- So it is for all topologies and fragments.
 abbrev pub CleanReportsAreCoherent : Type 0

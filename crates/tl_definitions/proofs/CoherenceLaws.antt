@@ -19,6 +19,7 @@ use Rattle.tl_definitions.specs.Messages.{Message, message_at, with_message, at_
 use Rattle.tl_definitions.specs.Past.{LinkPast, ClientPast, pasts_of}
 use Rattle.tl_definitions.specs.Rules.{Manager, breaks_format, breaks_flow, breaks_permission, breaks_manager, format_order, flow_order, permission_order, manager_order, rules_of_message, conflicts_with_other, is_wrong}
 use Rattle.tl_definitions.specs.Breaks.{head_rules, later_rules, rules_at, row_of, rows_after, rows_in}
+use Rattle.tl_definitions.specs.Report.{of_manager}
 use Rattle.tl_definitions.specs.Coherence.{guards_bounds, is_client, OneWriter, exceeds, GuardedCapturesAreCoherent, ReportedCapturesAreCoherent}
 use Rattle.tl_definitions.proofs.Lists.{onto, onto_reverse, contains_none, contains_kept, none_kept}
 use Rattle.tl_definitions.proofs.ReportLaws.{rows_are_breaks}
@@ -285,9 +286,9 @@ guarded_captures_are_coherent m beats h earlier later parts =
     (subst (IsGuarded m) (onto_reverse [] earlier) (guarded_onto m [] earlier later tt (subst (λ ps. filter exceeds (rows_in m ps) ≡ []) parts h)))
 
 pub reported_captures_are_coherent : ReportedCapturesAreCoherent
-reported_captures_are_coherent captures rows report clean capture is =
-    guarded_captures_are_coherent capture.manager capture.beats (none_kept exceeds (rows_in capture.manager capture.beats) (λ row h.
-    let reported : Contains rows row = (report.members row).1 (capture, is, (rows_are_breaks capture.manager capture.beats row).0 h) in
+reported_captures_are_coherent captures rows report clean m beats is =
+    guarded_captures_are_coherent m beats (none_kept exceeds (rows_in m beats) (λ row h.
+    let reported : Contains rows row = (report.members row).1 (of_manager m beats, is, (rows_are_breaks m beats row).0 h) in
     let unkept : (t : Bool) → exceeds row ≡ t → t ≡ false = λ t. elim t as (λ t. exceeds row ≡ t → t ≡ false) [
       | true ↦ λ e. absurd (contains_none row (subst (λ rs. Contains rs row) clean (contains_kept exceeds rows row reported e)))
       | false ↦ λ e. refl

@@ -3,7 +3,6 @@ use Rattle.std.proofs.Common.{◌≡◌, ℕ, ◌==◌, ◌&&◌, Bool, true, fa
 use Rattle.std.specs.Prelude.{map, slice_index, length, ◌-◌}
 use Rattle.std.specs.Option.{option_map, option_map_or}
 use Rattle.std.specs.List.{Contains}
-use Rattle.std.proofs.lemmas.List.Elements.{Contains-append_left, Contains-append_right, Contains-append_cases}
 use Rattle.tl_tables.specs.declared.Chan.{Chan}
 use Rattle.tl_tables.specs.declared.Op.{Op}
 use Rattle.tl_tables.specs.Messages.{same_chan}
@@ -18,10 +17,12 @@ use Rattle.tl_definitions.specs.Messages.{Message, as_request, message_at, messa
 use Rattle.tl_definitions.specs.Past.{flow_past, client_past, past_of, acquires_block, releases_block, grants_block}
 use Rattle.tl_definitions.specs.Rules.{Manager}
 use Rattle.tl_definitions.specs.Breaks.{head_rules, later_rules, rules_at, row_of, rows_after}
-use Rattle.tl_definitions.specs.Judging.{Snapshot, snapshot, judged_head, judged_place, judged_rules, flow_after, client_after, past_after, past_with, judged_next, JudgingIsExact, all_judged, all_next, Pass, pass_beats, IsChain, last_exit, ChainsAreWhole}
+use Rattle.tl_definitions.specs.Judging.{Snapshot, snapshot, judged_head, judged_place, judged_rules, flow_after, client_after, past_after, past_with, judged_next, judging, JudgingIsExact, ChainsAreWhole}
+use Rattle.tl_definitions.specs.Passes.{rows_judged, left_after, pass_beats}
 use Rattle.tl_definitions.proofs.HeadLaws.{later_beats_have_a_head, next_law, none_law}
 use Rattle.tl_definitions.proofs.TableLaws.{entry_next, open_next, count_next, kept_passes}
-use Rattle.tl_definitions.proofs.Lists.{contains_none, contains_cases, contains_here, contains_there, onto, onto_reverse}
+use Rattle.tl_definitions.proofs.Lists.{onto, onto_reverse}
+use Rattle.tl_definitions.proofs.ChainLaws.{chain_has, chain_from, chain_ends}
 
 -- A head is judged by the request that it answers.
 heads : (m : Manager) (before : List Placed) (p : Placed) (found : Option Op) → judged_head m (snapshot m before) p found ≡ head_rules m before p found
@@ -104,62 +105,22 @@ pub judging_is_exact : JudgingIsExact
 judging_is_exact m before p = (rules_law m before p, next_snapshot m before p)
 
 -- Beats judged one after the other.
-pub all_exact : (m : Manager) (before beats : List Placed) → all_judged m (snapshot m before) beats ≡ rows_after m before beats
+pub all_exact : (m : Manager) (before beats : List Placed) → rows_judged (judging m) (snapshot m before) beats ≡ rows_after m before beats
 all_exact m before [] = refl
 all_exact m before (p ∷ beats) =
-    ap (λ rules. map (row_of p) rules ++ all_judged m (judged_next m (snapshot m before) p) beats) (rules_law m before p)
-    ∙ ap (λ s. map (row_of p) (rules_at m before p) ++ all_judged m s beats) (next_snapshot m before p)
+    ap (λ rules. map (row_of p) rules ++ rows_judged (judging m) (judged_next m (snapshot m before) p) beats) (rules_law m before p)
+    ∙ ap (λ s. map (row_of p) (rules_at m before p) ++ rows_judged (judging m) s beats) (next_snapshot m before p)
     ∙ ap (λ rows. map (row_of p) (rules_at m before p) ++ rows) (all_exact m (p ∷ before) beats)
 
-exits : (m : Manager) (before beats : List Placed) → all_next m (snapshot m before) beats ≡ snapshot m (onto before beats)
+exits : (m : Manager) (before beats : List Placed) → left_after (judging m) (snapshot m before) beats ≡ snapshot m (onto before beats)
 exits m before [] = refl
-exits m before (p ∷ beats) = ap (λ s. all_next m s beats) (next_snapshot m before p) ∙ exits m (p ∷ before) beats
-
-all_judged-append : (m : Manager) (s : Snapshot) (xs ys : List Placed) → all_judged m s (xs ++ ys) ≡ all_judged m s xs ++ all_judged m (all_next m s xs) ys
-all_judged-append m s [] ys = refl
-all_judged-append m s (x ∷ xs) ys =
-    ap (λ rows. map (row_of x) (judged_rules m s x) ++ rows) (all_judged-append m (judged_next m s x) xs ys)
-    ∙ sym (append_assoc (map (row_of x) (judged_rules m s x)) (all_judged m (judged_next m s x) xs) (all_judged m (all_next m (judged_next m s x) xs) ys))
-
-all_next-append : (m : Manager) (s : Snapshot) (xs ys : List Placed) → all_next m s (xs ++ ys) ≡ all_next m (all_next m s xs) ys
-all_next-append m s [] ys = refl
-all_next-append m s (x ∷ xs) ys = all_next-append m (judged_next m s x) xs ys
-
-abbrev SomeHas : List Pass → Row → Type 0
-SomeHas passes row = (pass : Pass) × Contains passes pass × Contains pass.rows row
-
--- The rows of a chain.
-chain_has : (m : Manager) (s : Snapshot) (passes : List Pass) → IsChain m s passes → (row : Row) → SomeHas passes row → Contains (all_judged m s (pass_beats passes)) row
-chain_has m s [] chain row has = absurd (contains_none has.0 has.1)
-chain_has m s (pass ∷ passes) chain row has =
-    let next : pass.exit ≡ all_next m s pass.beats = chain.0.exit ∙ ap (λ t. all_next m t pass.beats) chain.1 in
-    let first : List Row = all_judged m s pass.beats in
-    let rest : List Row = all_judged m (all_next m s pass.beats) (pass_beats passes) in
-    subst (λ rows. Contains rows row) (sym (all_judged-append m s pass.beats (pass_beats passes))) (elim (contains_cases pass passes has.0 has.1) [
-      | inl e ↦ Contains-append_left first rest row (subst (λ t. Contains (all_judged m t pass.beats) row) chain.1 ((chain.0.members row).0 (subst (λ q. Contains q.rows row) (sym e) has.2)))
-      | inr r ↦ Contains-append_right first rest row (subst (λ t. Contains (all_judged m t (pass_beats passes)) row) next (chain_has m pass.exit passes chain.2 row (has.0, r, has.2)))
-    ])
-
-chain_from : (m : Manager) (s : Snapshot) (passes : List Pass) → IsChain m s passes → (row : Row) → Contains (all_judged m s (pass_beats passes)) row → SomeHas passes row
-chain_from m s [] chain row has = absurd (contains_none row has)
-chain_from m s (pass ∷ passes) chain row has =
-    let next : pass.exit ≡ all_next m s pass.beats = chain.0.exit ∙ ap (λ t. all_next m t pass.beats) chain.1 in
-    elim (Contains-append_cases (all_judged m s pass.beats) (all_judged m (all_next m s pass.beats) (pass_beats passes)) row (subst (λ rows. Contains rows row) (all_judged-append m s pass.beats (pass_beats passes)) has)) [
-      | inl a ↦ (pass, contains_here pass passes, (chain.0.members row).1 (subst (λ t. Contains (all_judged m t pass.beats) row) (sym chain.1) a))
-      | inr b ↦ (let known = chain_from m pass.exit passes chain.2 row (subst (λ t. Contains (all_judged m t (pass_beats passes)) row) (sym next) b) in (known.0, contains_there pass passes known.0 known.1, known.2))
-    ]
-
-chain_ends : (m : Manager) (s : Snapshot) (passes : List Pass) → IsChain m s passes → last_exit s passes ≡ all_next m s (pass_beats passes)
-chain_ends m s [] chain = refl
-chain_ends m s (pass ∷ passes) chain =
-    let next : pass.exit ≡ all_next m s pass.beats = chain.0.exit ∙ ap (λ t. all_next m t pass.beats) chain.1 in
-    chain_ends m pass.exit passes chain.2 ∙ ap (λ t. all_next m t (pass_beats passes)) next ∙ sym (all_next-append m s pass.beats (pass_beats passes))
+exits m before (p ∷ beats) = ap (λ s. left_after (judging m) s beats) (next_snapshot m before p) ∙ exits m (p ∷ before) beats
 
 pub chains_are_whole : ChainsAreWhole
 chains_are_whole m passes chain = (
   (λ row. (
-    (λ has. subst (λ rows. Contains rows row) (all_exact m [] (pass_beats passes)) (chain_has m (snapshot m []) passes chain row has)),
-    (λ has. chain_from m (snapshot m []) passes chain row (subst (λ rows. Contains rows row) (sym (all_exact m [] (pass_beats passes))) has)),
+    (λ has. subst (λ rows. Contains rows row) (all_exact m [] (pass_beats passes)) (chain_has (judging m) (snapshot m []) passes chain row has)),
+    (λ has. chain_from (judging m) (snapshot m []) passes chain row (subst (λ rows. Contains rows row) (sym (all_exact m [] (pass_beats passes))) has)),
   )),
-  chain_ends m (snapshot m []) passes chain ∙ exits m [] (pass_beats passes) ∙ ap (snapshot m) (onto_reverse [] (pass_beats passes)),
+  chain_ends (judging m) (snapshot m []) passes chain ∙ exits m [] (pass_beats passes) ∙ ap (snapshot m) (onto_reverse [] (pass_beats passes)),
 )

@@ -6,9 +6,11 @@ pub mod TableLaws
 pub mod CoherenceLaws
 pub mod BoundLaws
 pub mod SanityLaws
+pub mod ChainLaws
 pub mod JudgingLaws
 pub mod ReportLaws
 pub mod PositionLaws
 pub mod RisingLaws
 pub mod RuleLaws
 pub mod PassLaws
+pub mod WatchLaws

@@ -9,19 +9,20 @@ use Rattle.tl_beats.specs.declared.Placed.{Placed}
 use Rattle.tl_beats.specs.declared.Row.{Row}
 use Rattle.tl_definitions.specs.Positions.{position_order}
 use Rattle.tl_definitions.specs.Rules.{Manager}
-use Rattle.tl_definitions.specs.Breaks.{row_of, rows_in, Breaks}
-use Rattle.tl_definitions.specs.Report.{key_order, Capture}
-use Rattle.tl_definitions.specs.Judging.{Snapshot, judged_rules, judged_next, all_judged, SortedRowsAreAPass, FirstPassesAreReports}
+use Rattle.tl_definitions.specs.Breaks.{row_of, rows_in}
+use Rattle.tl_definitions.specs.Report.{key_order, Capture, of_manager, Finds}
+use Rattle.tl_definitions.specs.Judging.{Snapshot, judged_rules, judged_next, judging, SortedRowsAreAPass, FirstPassesAreReports}
+use Rattle.tl_definitions.specs.Passes.{rows_judged}
 use Rattle.tl_definitions.proofs.Lists.{contains_none, contains_here, contains_there, contains_cases, mapped_from}
 use Rattle.tl_definitions.proofs.PositionLaws.{position_total}
 use Rattle.tl_definitions.proofs.ReportLaws.{rises_by_key, same_position, rows_are_breaks}
 use Rattle.tl_definitions.proofs.RisingLaws.{tied_members}
 use Rattle.tl_definitions.proofs.JudgingLaws.{all_exact}
 
-judged_from : (m : Manager) (s : Snapshot) (beats : List Placed) (row : Row) → Contains (all_judged m s beats) row
+judged_from : (m : Manager) (s : Snapshot) (beats : List Placed) (row : Row) → Contains (rows_judged (judging m) s beats) row
     → (q : Placed) × (r : Rule) × Contains beats q × (row_of q r ≡ row)
 judged_from m s [] row h = absurd (contains_none row h)
-judged_from m s (p ∷ beats) row h = elim (Contains-append_cases (map (row_of p) (judged_rules m s p)) (all_judged m (judged_next m s p) beats) row h) [
+judged_from m s (p ∷ beats) row h = elim (Contains-append_cases (map (row_of p) (judged_rules m s p)) (rows_judged (judging m) (judged_next m s p) beats) row h) [
   | inl a ↦ (let found = mapped_from (row_of p) (judged_rules m s p) row a in (p, found.0, contains_here p beats, found.2))
   | inr b ↦ (let known = judged_from m (judged_next m s p) beats row b in (known.0, known.1, contains_there p beats known.0 known.2, known.3))
 ]
@@ -42,14 +43,14 @@ sorted_rows_are_a_pass m s beats rows up sorted same = record {
 
 pub first_passes_are_reports : FirstPassesAreReports
 first_passes_are_reports m pass is opening =
-    let capture : Capture = record { manager = m; beats = pass.beats } in
-    let all : all_judged m pass.entry pass.beats ≡ rows_in m pass.beats = ap (λ s. all_judged m s pass.beats) opening ∙ all_exact m [] pass.beats in
+    let capture : Capture = of_manager m pass.beats in
+    let all : rows_judged (judging m) pass.entry pass.beats ≡ rows_in m pass.beats = ap (λ s. rows_judged (judging m) s pass.beats) opening ∙ all_exact m [] pass.beats in
     record {
       rises = is.rises;
       members = λ row. (
         (λ h. (capture, contains_here capture [], (rows_are_breaks m pass.beats row).0 (subst (λ rows. Contains rows row) all ((is.members row).0 h)))),
         (λ r. elim (contains_cases capture [] r.0 r.1) [
-          | inl e ↦ (is.members row).1 (subst (λ rows. Contains rows row) (sym all) ((rows_are_breaks m pass.beats row).1 (subst (λ (c : Capture). Breaks c.manager c.beats row) (sym e) r.2)))
+          | inl e ↦ (is.members row).1 (subst (λ rows. Contains rows row) (sym all) ((rows_are_breaks m pass.beats row).1 (subst (λ (c : Capture). Finds c row) (sym e) r.2)))
           | inr none ↦ absurd (contains_none r.0 none)
         ]),
       );

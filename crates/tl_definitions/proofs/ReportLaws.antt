@@ -21,8 +21,10 @@ use Rattle.tl_definitions.specs.Positions.{position_order}
 use Rattle.tl_definitions.specs.Rules.{Manager}
 use Rattle.tl_definitions.specs.Breaks.{rules_at, row_of, Breaks, rows_after, rows_in}
 use Rattle.tl_tables.specs.Rules.{rule_number}
-use Rattle.tl_definitions.specs.Report.{key_order, row_order, Capture, BreaksIn, all_rows, insert_row, sorted_rows, report_of, HasOnePlace, RowsAreBreaks, OneReport, SortedRowsAreTheReport, ReportsAreComputed}
+use Rattle.tl_definitions.specs.Report.{key_order, row_order, Capture, of_manager, of_monitor, captured, Finds, FindsIn, rows_of, all_rows, insert_row, sorted_rows, report_of, HasOnePlace, RowsAreBreaks, OneReport, SortedRowsAreTheReport, ReportsAreComputed}
 use Rattle.tl_definitions.proofs.OrderLaws.{tie_first, tie_rest, both_tie, tied, one_chan}
+use Rattle.tl_definitions.proofs.RisingLaws.{row_with}
+use Rattle.tl_definitions.proofs.WatchLaws.{rows_are_flags}
 use Rattle.tl_definitions.proofs.Lists.{contains_none, contains_here, contains_there, contains_cases, contains_mapped, mapped_from, all_of, all_by, onto, onto_reverse}
 
 -- Rows and the rules that are broken.
@@ -56,19 +58,26 @@ rows_are_breaks m beats row = (
 )
 
 -- Rows of several captures.
-in_captures : (captures : List Capture) (row : Row) → Contains (all_rows captures) row → BreaksIn captures row
+found_in : (capture : Capture) (row : Row) → Contains (rows_of capture) row → Finds capture row
+found_in (of_manager m beats) row h = (rows_are_breaks m beats row).0 h
+found_in (of_monitor monitor w beats) row h = (rows_are_flags monitor w beats row).0 h
+
+found_from : (capture : Capture) (row : Row) → Finds capture row → Contains (rows_of capture) row
+found_from (of_manager m beats) row r = (rows_are_breaks m beats row).1 r
+found_from (of_monitor monitor w beats) row r = (rows_are_flags monitor w beats row).1 r
+
+in_captures : (captures : List Capture) (row : Row) → Contains (all_rows captures) row → FindsIn captures row
 in_captures [] row h = absurd (contains_none row h)
-in_captures (capture ∷ captures) row h = elim (Contains-append_cases (rows_in capture.manager capture.beats) (all_rows captures) row h) [
-  | inl a ↦ (capture, contains_here capture captures, (rows_are_breaks capture.manager capture.beats row).0 a)
+in_captures (capture ∷ captures) row h = elim (Contains-append_cases (rows_of capture) (all_rows captures) row h) [
+  | inl a ↦ (capture, contains_here capture captures, found_in capture row a)
   | inr b ↦ (let known = in_captures captures row b in (known.0, contains_there capture captures known.0 known.1, known.2))
 ]
 
-from_captures : (captures : List Capture) (row : Row) → BreaksIn captures row → Contains (all_rows captures) row
+from_captures : (captures : List Capture) (row : Row) → FindsIn captures row → Contains (all_rows captures) row
 from_captures [] row r = absurd (contains_none r.0 r.1)
 from_captures (capture ∷ captures) row r = elim (contains_cases capture captures r.0 r.1) [
-  | inl e ↦ Contains-append_left (rows_in capture.manager capture.beats) (all_rows captures) row
-      ((rows_are_breaks capture.manager capture.beats row).1 (subst (λ c. Breaks c.manager c.beats row) (sym e) r.2))
-  | inr there ↦ Contains-append_right (rows_in capture.manager capture.beats) (all_rows captures) row (from_captures captures row (r.0, there, r.2))
+  | inl e ↦ Contains-append_left (rows_of capture) (all_rows captures) row (found_from capture row (subst (λ c. Finds c row) (sym e) r.2))
+  | inr there ↦ Contains-append_right (rows_of capture) (all_rows captures) row (from_captures captures row (r.0, there, r.2))
 ]
 
 -- Lists in strict order with the same members are one list.
@@ -160,29 +169,43 @@ rises_by_key (x ∷ rows) place rises = (
 )
 
 -- Rows with one key are of beats at one position.
-pub same_position : (p q : Placed) (r s : Rule) → key_order (row_of p r) (row_of q s) ≡ Equal → position_order p q ≡ Equal
-same_position p q r s h =
+same_place : (p q : Placed) (r s : Rule) (m n : Option ℕ) → key_order (row_with p r m) (row_with q s n) ≡ Equal → position_order p q ≡ Equal
+same_place p q r s m n h =
     let link : Ordering = nat_cmp p.link q.link in
     let cycle : Ordering = nat_cmp p.beat.cycle q.beat.cycle in
     let channel : Ordering = nat_cmp (chan_number p.beat.chan) (chan_number q.beat.chan) in
-    let rest : Ordering = ordering_then (nat_cmp (rule_number r) (rule_number s)) (option_cmp {T = ℕ} nat_cmp None None) in
+    let rest : Ordering = ordering_then (nat_cmp (rule_number r) (rule_number s)) (option_cmp nat_cmp m n) in
     let after_link = tie_rest link (ordering_then cycle (ordering_then channel rest)) h in
     both_tie cycle (ordering_then channel link) (tie_first cycle (ordering_then channel rest) after_link)
     (both_tie channel link (tie_first channel rest (tie_rest cycle (ordering_then channel rest) after_link)) (tie_first link (ordering_then cycle (ordering_then channel rest)) h))
 
-stands_in : (capture : Capture) (row : Row) (r : Breaks capture.manager capture.beats row) → Contains capture.beats r.2
-stands_in capture row r = subst (λ ps. Contains ps r.2) (sym r.3) (Contains-append_right r.0 (r.2 ∷ r.1) r.2 (contains_here r.2 r.1))
+pub same_position : (p q : Placed) (r s : Rule) → key_order (row_of p r) (row_of q s) ≡ Equal → position_order p q ≡ Equal
+same_position p q r s h = same_place p q r s None None h
 
-one_place : (captures : List Capture) → HasOnePlace captures → (x y : Row) → BreaksIn captures x → BreaksIn captures y → key_order x y ≡ Equal → (x.fragment ≡ y.fragment) × (x.line ≡ y.line)
+-- The beat of a row.
+stands_in : (capture : Capture) (row : Row) → Finds capture row → (p : Placed) × Contains (captured capture) p × (row ≡ row_with p row.rule row.monitor)
+stands_in (of_manager m beats) row r = (
+  r.2,
+  subst (λ ps. Contains ps r.2) (sym r.3) (Contains-append_right r.0 (r.2 ∷ r.1) r.2 (contains_here r.2 r.1)),
+  r.5 ∙ ap (row_with r.2 row.rule) (sym (ap (λ (z : Row). z.monitor) r.5)),
+)
+stands_in (of_monitor monitor w beats) row r = (
+  r.2,
+  subst (λ ps. Contains ps r.2) (sym r.3) (Contains-append_right r.0 (r.2 ∷ r.1) r.2 (contains_here r.2 r.1)),
+  r.5 ∙ ap (λ x. row_with r.2 x (Some monitor)) (sym (ap (λ (z : Row). z.rule) r.5)) ∙ ap (row_with r.2 row.rule) (sym (ap (λ (z : Row). z.monitor) r.5)),
+)
+
+one_place : (captures : List Capture) → HasOnePlace captures → (x y : Row) → FindsIn captures x → FindsIn captures y → key_order x y ≡ Equal → (x.fragment ≡ y.fragment) × (x.line ≡ y.line)
 one_place captures place x y here there tie =
-    let p : Placed = here.2.2 in
-    let q : Placed = there.2.2 in
-    let x_is : x ≡ row_of p x.rule = here.2.5 in
-    let y_is : y ≡ row_of q y.rule = there.2.5 in
-    let tie_there : key_order (row_of p x.rule) (row_of q y.rule) ≡ Equal = sym (ap (λ z. key_order z (row_of q y.rule)) x_is) ∙ sym (ap (key_order x) y_is) ∙ tie in
-    let found = place here.0 there.0 p q here.1 there.1 (stands_in here.0 x here.2) (stands_in there.0 y there.2) (same_position p q x.rule y.rule tie_there) in (
-      ap (λ (z : Row). z.fragment) x_is ∙ found.0 ∙ sym (ap (λ (z : Row). z.fragment) y_is),
-      ap (λ (z : Row). z.line) x_is ∙ found.1 ∙ sym (ap (λ (z : Row). z.line) y_is),
+    let one = stands_in here.0 x here.2 in
+    let two = stands_in there.0 y there.2 in
+    let p : Placed = one.0 in
+    let q : Placed = two.0 in
+    let tie_there : key_order (row_with p x.rule x.monitor) (row_with q y.rule y.monitor) ≡ Equal =
+        sym (ap (λ z. key_order z (row_with q y.rule y.monitor)) one.2) ∙ sym (ap (key_order x) two.2) ∙ tie in
+    let found = place here.0 there.0 p q here.1 there.1 one.1 two.1 (same_place p q x.rule y.rule x.monitor y.monitor tie_there) in (
+      ap (λ (z : Row). z.fragment) one.2 ∙ found.0 ∙ sym (ap (λ (z : Row). z.fragment) two.2),
+      ap (λ (z : Row). z.line) one.2 ∙ found.1 ∙ sym (ap (λ (z : Row). z.line) two.2),
     )
 
 pub sorted_rows_are_the_report : SortedRowsAreTheReport

@@ -1,6 +1,7 @@
 -- Lists in strict order: beats that rise, and rows that do.
-use Rattle.std.proofs.Common.{◌≡◌, ℕ, inl, inr, List, [], ◌∷◌, ◌++◌, refl, sym, ap, subst, ◌∙◌}
-use Rattle.std.specs.Prelude.{map}
+use Rattle.std.proofs.Common.{◌≡◌, ℕ, eq-eqb, inl, inr, List, [], ◌∷◌, ◌++◌, refl, sym, ap, subst, ◌∙◌}
+use Rattle.std.specs.Prelude.{map, filter, ◌==◌, Bool, Option, None}
+use Rattle.std.specs.Option.{option_cmp}
 use Rattle.std.specs.declared.cmp.Ordering.{Ordering}
 use Rattle.std.specs.declared.cmp.Ordering.TheVariants.{Less, Equal, Greater}
 use Rattle.std.specs.Ordering.{nat_cmp, ordering_then, ordering_reverse}
@@ -12,11 +13,12 @@ use Rattle.std.proofs.lemmas.List.Elements.{Contains-append_cases}
 use Rattle.tl_tables.specs.declared.Rule.{Rule}
 use Rattle.tl_tables.specs.Messages.{chan_number}
 use Rattle.tl_beats.specs.declared.Placed.{Placed}
+use Rattle.tl_beats.specs.declared.Row.{Row}
 use Rattle.tl_definitions.specs.Positions.{position_order}
 use Rattle.tl_definitions.specs.Rules.{format_order}
 use Rattle.tl_definitions.specs.Breaks.{row_of}
-use Rattle.tl_definitions.specs.Report.{by_number, key_order, RisingBeatsHaveOnePlace}
-use Rattle.tl_definitions.proofs.Lists.{contains_none, contains_here, contains_there, contains_cases, mapped_from, all_of, all_by}
+use Rattle.tl_definitions.specs.Report.{by_number, key_order, captured, RisingBeatsHaveOnePlace}
+use Rattle.tl_definitions.proofs.Lists.{contains_none, contains_here, contains_there, contains_cases, contains_kept, kept_from, mapped_from, all_of, all_by}
 use Rattle.tl_definitions.proofs.OrderLaws.{then_less, tie_then_less}
 use Rattle.tl_definitions.proofs.PositionLaws.{position_total, positions_are_ordered}
 
@@ -47,9 +49,12 @@ module _ {X : Type 0} (R : X → X → Ordering) (total : IsTotalOrder R) where
   )
 
 pub rising_beats_have_one_place : RisingBeatsHaveOnePlace
-rising_beats_have_one_place captures rises apart here there p q at_here at_there h g tie =
-    let same : here.beats ≡ there.beats = apart here there p q at_here at_there h g (((positions_are_ordered.ties p q).0 tie).2) in
-    let is : p ≡ q = tied_members position_order position_total here.beats (rises here at_here) p q h (subst (λ ps. Contains ps q) (sym same) g) tie in
+rising_beats_have_one_place captures rises same here there p q at_here at_there h g tie =
+    let linked : p.link ≡ q.link = ((positions_are_ordered.ties p q).0 tie).2 in
+    let on_link : Placed → Bool = λ r. r.link == p.link in
+    let own : Contains (filter on_link (captured here)) p = contains_kept on_link (captured here) p h (eq-eqb p.link p.link refl) in
+    let also : Contains (captured there) p = (kept_from on_link (captured there) p (subst (λ ps. Contains ps p) (same here there p q at_here at_there h g linked) own)).0 in
+    let is : p ≡ q = tied_members position_order position_total (captured there) (rises there at_there) p q also g tie in
     (ap (λ (x : Placed). x.fragment) is, ap (λ (x : Placed). x.line) is)
 
 -- Rows in the order of a report.
@@ -73,13 +78,20 @@ rows_of_one p r s less =
     let cycle = tie_then_less (nat_cmp p.beat.cycle p.beat.cycle) (ordering_then (nat_cmp (chan_number p.beat.chan) (chan_number p.beat.chan)) last) (itself p.beat.cycle) channel in
     tie_then_less (nat_cmp p.link p.link) (ordering_then (nat_cmp p.beat.cycle p.beat.cycle) (ordering_then (nat_cmp (chan_number p.beat.chan) (chan_number p.beat.chan)) last)) (itself p.link) cycle
 
-pub rows_of_two : (p q : Placed) (r s : Rule) → p.link ≡ q.link → position_order p q ≡ Less → key_order (row_of p r) (row_of q s) ≡ Less
-rows_of_two p q r s same less =
+-- A row of a beat, of any rule and monitor.
+abbrev pub row_with : Placed → Rule → Option ℕ → Row
+row_with p broken monitor = record { link = p.link; cycle = p.beat.cycle; chan = p.beat.chan; rule = broken; monitor = monitor; fragment = p.fragment; line = p.line }
+
+pub rows_of_places : (p q : Placed) (r s : Rule) (m n : Option ℕ) → p.link ≡ q.link → position_order p q ≡ Less → key_order (row_with p r m) (row_with q s n) ≡ Less
+rows_of_places p q r s m n same less =
     let link : nat_cmp p.link q.link ≡ Equal = ap (nat_cmp p.link) (sym same) ∙ itself p.link in
     let cycle : Ordering = nat_cmp p.beat.cycle q.beat.cycle in
     let channel : Ordering = nat_cmp (chan_number p.beat.chan) (chan_number q.beat.chan) in
-    let last : Ordering = ordering_then (by_number r s) Equal in
+    let last : Ordering = ordering_then (by_number r s) (option_cmp nat_cmp m n) in
     tie_then_less (nat_cmp p.link q.link) (ordering_then cycle (ordering_then channel last)) link (other_rest cycle channel (nat_cmp p.link q.link) last less link)
+
+pub rows_of_two : (p q : Placed) (r s : Rule) → p.link ≡ q.link → position_order p q ≡ Less → key_order (row_of p r) (row_of q s) ≡ Less
+rows_of_two p q r s same less = rows_of_places p q r s None None same less
 
 pub rows_rise : (p : Placed) (rules : List Rule) → IsStrictlySortedBy by_number rules → IsStrictlySortedBy key_order (map (row_of p) rules)
 unfolding IsStrictlySortedBy

@@ -2,6 +2,7 @@
 use Rattle.std.proofs.Common.{refl}
 use Rattle.tl_tables.specs.Messages.{op_at}
 use Rattle.tl_definitions.specs.Rows.{FormatRows, LevelRows, RegionRows, BurstRows, FlowRows, ReplyRows, BoundRows, StrictRows, ConcurrencyRows, ManagerRows}
+use Rattle.tl_definitions.specs.WatchedRows.{WatchRows}
 
 pub format_rows : FormatRows
 unfolding op_at
@@ -42,3 +43,6 @@ concurrency_rows = (refl, refl, refl, refl, refl, refl, refl, refl, refl, refl, 
 pub manager_rows : ManagerRows
 unfolding op_at
 manager_rows = (refl, refl, refl, refl, refl, refl, refl, refl, refl, refl, refl, refl, refl, refl, refl)
+
+pub watch_rows : WatchRows
+watch_rows = (refl, refl, refl, refl, refl, refl, refl, refl, refl, refl, refl, refl, refl, refl, refl)

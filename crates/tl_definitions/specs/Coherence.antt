@@ -9,7 +9,7 @@ use Rattle.tl_beats.specs.declared.Row.{Row}
 use Rattle.tl_definitions.specs.Past.{pasts_of}
 use Rattle.tl_definitions.specs.Rules.{Manager}
 use Rattle.tl_definitions.specs.Breaks.{rows_in}
-use Rattle.tl_definitions.specs.Report.{Capture, IsReport}
+use Rattle.tl_definitions.specs.Report.{Capture, of_manager, IsReport}
 
 -- The rules against claiming or granting beyond a bound.
 abbrev pub guards_bounds : Rule → Bool
@@ -37,5 +37,5 @@ GuardedCapturesAreCoherent = (m : Manager) (beats : List Placed) → filter exce
 -- So it has wherever the report has no such row, and so where the report is clean.
 abbrev pub ReportedCapturesAreCoherent : Type 0
 ReportedCapturesAreCoherent = (captures : List Capture) (rows : List Row) → IsReport captures rows → filter exceeds rows ≡ []
-    → (capture : Capture) → Contains captures capture
-    → (earlier later : List Placed) → capture.beats ≡ earlier ++ later → OneWriter capture.manager (reverse earlier)
+    → (m : Manager) (beats : List Placed) → Contains captures (of_manager m beats)
+    → (earlier later : List Placed) → beats ≡ earlier ++ later → OneWriter m (reverse earlier)

@@ -23,7 +23,8 @@ use Rattle.tl_definitions.specs.Past.{FlowPast, ClientPast, LinkPast, pasts_of, 
 use Rattle.tl_definitions.specs.Rules.{Manager, rules_of_message}
 use Rattle.tl_definitions.specs.Breaks.{later_rules, rules_at, row_of, rows_in}
 use Rattle.tl_definitions.specs.Positions.{position_order}
-use Rattle.tl_definitions.specs.Report.{key_order, row_order, IsReport}
+use Rattle.tl_definitions.specs.Report.{row_order, of_manager, IsReport}
+use Rattle.tl_definitions.specs.Passes.{Judge, Pass, IsPass, IsChain, SomeHas, rows_judged, left_after, pass_beats, last_exit}
 
 -- For each link and channel the burst that is unfinished, and for each link what its messages leave.
 pub record Snapshot : Type 0 where
@@ -97,54 +98,23 @@ abbrev pub JudgingIsExact : Type 0
 JudgingIsExact = (m : Manager) (before : List Placed) (p : Placed) →
     (judged_rules m (snapshot m before) p ≡ rules_at m before p) × (judged_next m (snapshot m before) p ≡ snapshot m (p ∷ before))
 
--- Beats judged one after the other.
-abbrev pub all_judged : Manager → Snapshot → List Placed → List Row
-all_judged m s [] = []
-all_judged m s (p ∷ beats) = map (row_of p) (judged_rules m s p) ++ all_judged m (judged_next m s p) beats
-
-abbrev pub all_next : Manager → Snapshot → List Placed → Snapshot
-all_next m s [] = s
-all_next m s (p ∷ beats) = all_next m (judged_next m s p) beats
-
--- The result of a window: its beats, the snapshots before and after them, and its rows.
-pub record Pass : Type 0 where
-  pub entry : Snapshot
-  pub beats : List Placed
-  pub exit : Snapshot
-  pub rows : List Row
-
--- It is what judging its beats from its own entry gives, whatever that entry is.
-pub record IsPass (m : Manager) (pass : Pass) : Type 0 where
-  pub rises : IsStrictlySortedBy key_order pass.rows
-  pub members : (row : Row) → Contains pass.rows row ↔ Contains (all_judged m pass.entry pass.beats) row
-  pub exit : pass.exit ≡ all_next m pass.entry pass.beats
-
-abbrev pub pass_beats : List Pass → List Placed
-pass_beats [] = []
-pass_beats (pass ∷ passes) = pass.beats ++ pass_beats passes
-
--- Passes of which the first begins with s, and each other where the one before it ended.
-abbrev pub IsChain : Manager → Snapshot → List Pass → Type 0
-IsChain m s [] = Unit {0}
-IsChain m s (pass ∷ passes) = IsPass m pass × (pass.entry ≡ s) × IsChain m pass.exit passes
-
-abbrev pub last_exit : Snapshot → List Pass → Snapshot
-last_exit s [] = s
-last_exit s (pass ∷ passes) = last_exit pass.exit passes
+-- A manager judges its beats by the snapshot.
+abbrev pub judging : Manager → Judge Snapshot
+judging m = record { rows = λ s p. map (row_of p) (judged_rules m s p); next = judged_next m }
 
 -- A chain from the beginning has the rows of its whole list of beats, and ends with the snapshot of that.
 abbrev pub ChainsAreWhole : Type 0
-ChainsAreWhole = (m : Manager) (passes : List Pass) → IsChain m (snapshot m []) passes →
-    ((row : Row) → ((pass : Pass) × Contains passes pass × Contains pass.rows row) ↔ Contains (rows_in m (pass_beats passes)) row)
+ChainsAreWhole = (m : Manager) (passes : List (Pass Snapshot)) → IsChain (judging m) (snapshot m []) passes →
+    ((row : Row) → SomeHas passes row ↔ Contains (rows_in m (pass_beats passes)) row)
     × (last_exit (snapshot m []) passes ≡ snapshot m (reverse (pass_beats passes)))
 
 -- Rows in strict order that are those of judging beats in strict order make a pass.
 abbrev pub SortedRowsAreAPass : Type 0
 SortedRowsAreAPass = (m : Manager) (s : Snapshot) (beats : List Placed) (rows : List Row) → IsStrictlySortedBy position_order beats
-    → IsStrictlySortedBy row_order rows → ((row : Row) → Contains rows row ↔ Contains (all_judged m s beats) row)
-    → IsPass m (record { entry = s; beats = beats; exit = all_next m s beats; rows = rows })
+    → IsStrictlySortedBy row_order rows → ((row : Row) → Contains rows row ↔ Contains (rows_judged (judging m) s beats) row)
+    → IsPass (judging m) (record { entry = s; beats = beats; exit = left_after (judging m) s beats; rows = rows })
 
 -- A pass from the beginning has the report of its beats.
 abbrev pub FirstPassesAreReports : Type 0
-FirstPassesAreReports = (m : Manager) (pass : Pass) → IsPass m pass → pass.entry ≡ snapshot m []
-    → IsReport (record { manager = m; beats = pass.beats } ∷ []) pass.rows
+FirstPassesAreReports = (m : Manager) (pass : Pass Snapshot) → IsPass (judging m) pass → pass.entry ≡ snapshot m []
+    → IsReport (of_manager m pass.beats ∷ []) pass.rows

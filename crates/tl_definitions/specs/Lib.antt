@@ -5,10 +5,14 @@ pub mod Past
 pub mod Rules
 pub mod Breaks
 pub mod Positions
+pub mod Watching
 pub mod Report
 pub mod Written
 pub mod Rows
 pub mod Laws
 pub mod Coherence
+pub mod Passes
 pub mod Judging
+pub mod Tallies
 pub mod Managers
+pub mod WatchedRows

@@ -1,5 +1,5 @@
 -- The report: the rows of all broken rules, each once and in order.
-use Rattle.std.specs.Prelude.{◌≡◌, ◌↔◌, List, [], ◌∷◌, ◌++◌}
+use Rattle.std.specs.Prelude.{ℕ, ◌≡◌, ◌==◌, ◌↔◌, List, [], ◌∷◌, ◌++◌, filter}
 use Rattle.std.specs.declared.cmp.Ordering.{Ordering}
 use Rattle.std.specs.declared.cmp.Ordering.TheVariants.{Equal}
 use Rattle.std.specs.Ordering.{nat_cmp, on, then_cmp, match_ordering}
@@ -11,9 +11,11 @@ use Rattle.tl_tables.specs.Messages.{chan_number}
 use Rattle.tl_tables.specs.Rules.{rule_number}
 use Rattle.tl_beats.specs.declared.Placed.{Placed}
 use Rattle.tl_beats.specs.declared.Row.{Row}
+use Rattle.tl_beats.specs.declared.watch.Watch.{Watch}
 use Rattle.tl_definitions.specs.Positions.{position_order}
 use Rattle.tl_definitions.specs.Rules.{Manager}
 use Rattle.tl_definitions.specs.Breaks.{Breaks, rules_at, rows_in}
+use Rattle.tl_definitions.specs.Watching.{Flags, flags_in}
 
 abbrev pub by_number : Rule → Rule → Ordering
 by_number = on rule_number nat_cmp
@@ -35,24 +37,36 @@ row_order =
     (then_cmp (on (λ row. rule_number row.rule) nat_cmp) (then_cmp (on (λ row. row.monitor) (option_cmp nat_cmp))
     (then_cmp (on (λ row. row.fragment) nat_cmp) (on (λ row. row.line) nat_cmp))))))
 
--- A manager with its beats, in the order of positions.
-pub record Capture : Type 0 where
-  pub manager : Manager
-  pub beats : List Placed
+-- What is judged: the beats of a manager in the order of positions, or those of the link that a monitor watches.
+pub data Capture : Type 0 where
+  of_manager : Manager → List Placed → Capture
+  of_monitor : ℕ → Watch → List Placed → Capture
 
--- The row is of a beat of one of the captures, and of a rule that this beat breaks.
-abbrev pub BreaksIn : List Capture → Row → Type 0
-BreaksIn captures row = (capture : Capture) × Contains captures capture × Breaks capture.manager capture.beats row
+abbrev pub captured : Capture → List Placed
+captured (of_manager m beats) = beats
+captured (of_monitor monitor w beats) = beats
 
--- The rows rise strictly by their keys, and a row is among them if and only if its beat breaks its rule.
+-- The row is of a beat of the capture: of a rule that it breaks, or of the monitor whose watch flags it.
+abbrev pub Finds : Capture → Row → Type 0
+Finds (of_manager m beats) row = Breaks m beats row
+Finds (of_monitor monitor w beats) row = Flags monitor w beats row
+
+abbrev pub FindsIn : List Capture → Row → Type 0
+FindsIn captures row = (capture : Capture) × Contains captures capture × Finds capture row
+
+-- The rows rise strictly by their keys, and a row is among them if and only if its beat breaks its rule or is flagged by its monitor.
 pub record IsReport (captures : List Capture) (rows : List Row) : Type 0 where
   pub rises : IsStrictlySortedBy key_order rows
-  pub members : (row : Row) → Contains rows row ↔ BreaksIn captures row
+  pub members : (row : Row) → Contains rows row ↔ FindsIn captures row
 
 -- All rows of the captures, one capture after the other.
+abbrev pub rows_of : Capture → List Row
+rows_of (of_manager m beats) = rows_in m beats
+rows_of (of_monitor monitor w beats) = flags_in monitor w beats
+
 abbrev pub all_rows : List Capture → List Row
 all_rows [] = []
-all_rows (capture ∷ captures) = rows_in capture.manager capture.beats ++ all_rows captures
+all_rows (capture ∷ captures) = rows_of capture ++ all_rows captures
 
 abbrev pub insert_row : Row → List Row → List Row
 insert_row row [] = row ∷ []
@@ -76,7 +90,7 @@ OneReport = (captures : List Capture) (one two : List Row) → IsReport captures
 
 -- Beats of one link, cycle and channel are written at one place.
 abbrev pub HasOnePlace : List Capture → Type 0
-HasOnePlace captures = (here there : Capture) (p q : Placed) → Contains captures here → Contains captures there → Contains here.beats p → Contains there.beats q
+HasOnePlace captures = (here there : Capture) (p q : Placed) → Contains captures here → Contains captures there → Contains (captured here) p → Contains (captured there) q
     → position_order p q ≡ Equal → (p.fragment ≡ q.fragment) × (p.line ≡ q.line)
 
 -- Rows in strict order that are those of the captures are the report, where beats have one place.
@@ -88,9 +102,9 @@ SortedRowsAreTheReport = (captures : List Capture) (rows : List Row) → HasOneP
 abbrev pub ReportsAreComputed : Type 0
 ReportsAreComputed = (captures : List Capture) → HasOnePlace captures → IsReport captures (report_of captures)
 
--- Beats that rise strictly have one place, and so have captures of which no two share a link.
+-- Beats that rise strictly have one place, and so have captures that hold of each link, where they share one, the same beats.
 abbrev pub RisingBeatsHaveOnePlace : Type 0
-RisingBeatsHaveOnePlace = (captures : List Capture) → ((capture : Capture) → Contains captures capture → IsStrictlySortedBy position_order capture.beats)
-    → ((here there : Capture) (p q : Placed) → Contains captures here → Contains captures there → Contains here.beats p → Contains there.beats q
-    → p.link ≡ q.link → here.beats ≡ there.beats)
+RisingBeatsHaveOnePlace = (captures : List Capture) → ((capture : Capture) → Contains captures capture → IsStrictlySortedBy position_order (captured capture))
+    → ((here there : Capture) (p q : Placed) → Contains captures here → Contains captures there → Contains (captured here) p → Contains (captured there) q
+    → p.link ≡ q.link → filter (λ r. r.link == p.link) (captured here) ≡ filter (λ r. r.link == p.link) (captured there))
     → HasOnePlace captures

@@ -11,7 +11,7 @@ use Rattle.tl_beats.specs.declared.Placed.{Placed}
 use Rattle.tl_beats.specs.declared.Row.{Row}
 use Rattle.tl_definitions.specs.Positions.{placed_beats, in_order, links_of, clients_of}
 use Rattle.tl_definitions.specs.Rules.{Manager}
-use Rattle.tl_definitions.specs.Report.{report_of}
+use Rattle.tl_definitions.specs.Report.{of_manager, report_of}
 
 -- A beat of which all other fields are 0.
 abbrev pub blank : ℕ → Chan → Beat
@@ -123,7 +123,7 @@ line_of r = row r.link r.fragment r.line r.rule
 
 -- What the report of these beats says, with these regions.
 abbrev pub found_with : List Area → List Placed → List Line
-found_with regions beats = map line_of (report_of (record { manager = with_regions regions; beats = in_order beats } ∷ []))
+found_with regions beats = map line_of (report_of (of_manager (with_regions regions) (in_order beats) ∷ []))
 
 abbrev pub found : List Placed → List Line
 found beats = found_with [] beats

@@ -8,6 +8,7 @@ pub mod laws;
 pub mod positions;
 pub mod report;
 pub mod rows;
+pub mod watching;
 
 use tl_beats::Beat;
 

@@ -11,7 +11,8 @@ use Rattle.tl_beats.specs.declared.Row.{Row}
 use Rattle.tl_definitions.specs.Report.{row_order}
 use Rattle.tl_definitions.specs.Breaks.{row_of}
 use Rattle.tl_definitions.specs.Rules.{Manager}
-use Rattle.tl_definitions.specs.Judging.{Snapshot, judged_rules, judged_next, all_judged, all_next}
+use Rattle.tl_definitions.specs.Judging.{Snapshot, judged_rules, judged_next, judging}
+use Rattle.tl_definitions.specs.Passes.{rows_judged, left_after}
 use Rattle.tl_definitions.proofs.PassLaws.{sorted_rows_are_a_pass}
 use Rattle.tl_span.specs.declared.state.SpanState.{SpanState}
 use Rattle.tl_span.specs.States.{shown, IsOf}
@@ -19,8 +20,8 @@ use Rattle.tl_span.proofs.ListLaws.{drop_more}
 use Rattle.tl_span.specs.Jobs.{Job, IsJob, IsResult, manager_from, manager_of}
 
 pub is_result : (job : Job) (exit : SpanState) (rows : List Row) → IsJob job → IsOf (manager_of job) (length job.links) exit
-    → shown exit ≡ all_next (manager_of job) (shown job.entry) job.beats → IsStrictlySortedBy row_order rows
-    → ((row : Row) → Contains rows row ↔ Contains (all_judged (manager_of job) (shown job.entry) job.beats) row)
+    → shown exit ≡ left_after (judging (manager_of job)) (shown job.entry) job.beats → IsStrictlySortedBy row_order rows
+    → ((row : Row) → Contains rows row ↔ Contains (rows_judged (judging (manager_of job)) (shown job.entry) job.beats) row)
     → IsResult (record { job = job; exit = exit; rows = rows })
 is_result job exit rows is of shows rises members =
     let pass = sorted_rows_are_a_pass (manager_of job) (shown job.entry) job.beats rows is.rises rises members in
@@ -29,34 +30,34 @@ is_result job exit rows is of shows rises members =
 -- ---- one beat more
 
 pub rows_more : (m : Manager) (s next : Snapshot) (beats : List Placed) (i : ℕ) (p : Placed) (rows more total : List Row) → slice_get beats i ≡ Some p
-    → more ≡ rows ++ map (row_of p) (judged_rules m s p) → next ≡ judged_next m s p → rows ++ all_judged m s (drop i beats) ≡ total
-    → more ++ all_judged m next (drop (i + 1) beats) ≡ total
+    → more ≡ rows ++ map (row_of p) (judged_rules m s p) → next ≡ judged_next m s p → rows ++ rows_judged (judging m) s (drop i beats) ≡ total
+    → more ++ rows_judged (judging m) next (drop (i + 1) beats) ≡ total
 rows_more m s next beats i p rows more total at put is found =
     let rest : List Placed = drop (i + 1) beats in
     let own : List Row = map (row_of p) (judged_rules m s p) in
-    ap (λ (rs : List Row). rs ++ all_judged m next rest) put ∙ ap (λ t. (rows ++ own) ++ all_judged m t rest) is
-    ∙ append_assoc rows own (all_judged m (judged_next m s p) rest) ∙ sym (ap (λ ps. rows ++ all_judged m s ps) (drop_more beats i p at)) ∙ found
+    ap (λ (rs : List Row). rs ++ rows_judged (judging m) next rest) put ∙ ap (λ t. (rows ++ own) ++ rows_judged (judging m) t rest) is
+    ∙ append_assoc rows own (rows_judged (judging m) (judged_next m s p) rest) ∙ sym (ap (λ ps. rows ++ rows_judged (judging m) s ps) (drop_more beats i p at)) ∙ found
 
 pub exit_more : (m : Manager) (s next : Snapshot) (beats : List Placed) (i : ℕ) (p : Placed) (total : Snapshot) → slice_get beats i ≡ Some p
-    → next ≡ judged_next m s p → all_next m s (drop i beats) ≡ total → all_next m next (drop (i + 1) beats) ≡ total
+    → next ≡ judged_next m s p → left_after (judging m) s (drop i beats) ≡ total → left_after (judging m) next (drop (i + 1) beats) ≡ total
 exit_more m s next beats i p total at is left =
-    ap (λ t. all_next m t (drop (i + 1) beats)) is ∙ sym (ap (all_next m s) (drop_more beats i p at)) ∙ left
+    ap (λ t. left_after (judging m) t (drop (i + 1) beats)) is ∙ sym (ap (left_after (judging m) s) (drop_more beats i p at)) ∙ left
 
-pub all_rows : (m : Manager) (s : Snapshot) (beats : List Placed) (i : ℕ) (rows total : List Row) → length beats ≤ i → rows ++ all_judged m s (drop i beats) ≡ total → rows ≡ total
-all_rows m s beats i rows total past found = sym (append-nil rows) ∙ ap (λ ps. rows ++ all_judged m s ps) (sym (drop_of_length-le beats past)) ∙ found
+pub all_rows : (m : Manager) (s : Snapshot) (beats : List Placed) (i : ℕ) (rows total : List Row) → length beats ≤ i → rows ++ rows_judged (judging m) s (drop i beats) ≡ total → rows ≡ total
+all_rows m s beats i rows total past found = sym (append-nil rows) ∙ ap (λ ps. rows ++ rows_judged (judging m) s ps) (sym (drop_of_length-le beats past)) ∙ found
 
 -- ---- the check of a job, which reads its lists through slices
 
 pub checked_is : (inner job : Job) (links : List LinkDecl) (beats : List Placed) (exit : SpanState) (rows : List Row) → inner ≡ job → links ≡ inner.links → beats ≡ inner.beats → IsJob inner
-    → IsOf (manager_from links inner.exponent inner.regions inner.entry) (length links) exit × (shown exit ≡ all_next (manager_from links inner.exponent inner.regions inner.entry) (shown inner.entry) beats)
+    → IsOf (manager_from links inner.exponent inner.regions inner.entry) (length links) exit × (shown exit ≡ left_after (judging (manager_from links inner.exponent inner.regions inner.entry)) (shown inner.entry) beats)
     → IsStrictlySortedBy row_order rows
-    → ((row : Row) → Contains rows row ↔ Contains (all_judged (manager_from links inner.exponent inner.regions inner.entry) (shown inner.entry) beats) row)
+    → ((row : Row) → Contains rows row ↔ Contains (rows_judged (judging (manager_from links inner.exponent inner.regions inner.entry)) (shown inner.entry) beats) row)
     → IsResult (record { job = job; exit = exit; rows = rows })
 checked_is inner job links beats exit rows same links_are beats_are is left rises members =
     let of = subst (λ ls. IsOf (manager_from ls inner.exponent inner.regions inner.entry) (length ls) exit) links_are left.0 in
-    let next : shown exit ≡ all_next (manager_of inner) (shown inner.entry) inner.beats =
-    left.1 ∙ ap (λ ls. all_next (manager_from ls inner.exponent inner.regions inner.entry) (shown inner.entry) beats) links_are ∙ ap (all_next (manager_of inner) (shown inner.entry)) beats_are in
-    let judged = ap (λ ls. all_judged (manager_from ls inner.exponent inner.regions inner.entry) (shown inner.entry) beats) links_are ∙ ap (all_judged (manager_of inner) (shown inner.entry)) beats_are in
+    let next : shown exit ≡ left_after (judging (manager_of inner)) (shown inner.entry) inner.beats =
+    left.1 ∙ ap (λ ls. left_after (judging (manager_from ls inner.exponent inner.regions inner.entry)) (shown inner.entry) beats) links_are ∙ ap (left_after (judging (manager_of inner)) (shown inner.entry)) beats_are in
+    let judged = ap (λ ls. rows_judged (judging (manager_from ls inner.exponent inner.regions inner.entry)) (shown inner.entry) beats) links_are ∙ ap (rows_judged (judging (manager_of inner)) (shown inner.entry)) beats_are in
     subst (λ j. IsResult (record { job = j; exit = exit; rows = rows })) same
     (is_result inner exit rows is of next rises (λ row. (
       (λ h. subst (λ rs. Contains rs row) judged ((members row).0 h)),

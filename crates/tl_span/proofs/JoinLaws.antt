@@ -4,8 +4,9 @@ use Rattle.std.specs.Prelude.{map, reverse}
 use Rattle.std.specs.List.{Contains}
 use Rattle.tl_definitions.specs.Rules.{Manager}
 use Rattle.tl_definitions.specs.Breaks.{rows_in}
-use Rattle.tl_definitions.specs.Judging.{Snapshot, snapshot, Pass, IsPass, IsChain, pass_beats}
-use Rattle.tl_definitions.specs.Judging as chain
+use Rattle.tl_definitions.specs.Judging.{Snapshot, snapshot, judging}
+use Rattle.tl_definitions.specs.Passes.{Pass, IsPass, IsChain, pass_beats}
+use Rattle.tl_definitions.specs.Passes as chain
 use Rattle.tl_definitions.proofs.JudgingLaws.{chains_are_whole}
 use Rattle.tl_definitions.specs.Coherence.{exceeds}
 use Rattle.tl_definitions.proofs.CoherenceLaws.{guarded_captures_are_coherent}
@@ -31,10 +32,10 @@ same_states_stand_for_the_same m count one two before stands same = record {
   shows = sym (same_shown one two same) ∙ stands.shows;
 }
 
-joined_chain : (m : Manager) (s : Snapshot) (entry : SpanState) (results : List Checked) → shown entry ≡ s → AreJoined m entry results → IsChain m s (map pass_of results)
+joined_chain : (m : Manager) (s : Snapshot) (entry : SpanState) (results : List Checked) → shown entry ≡ s → AreJoined m entry results → IsChain (judging m) s (map pass_of results)
 joined_chain m s entry [] is joined = tt
 joined_chain m s entry (result ∷ results) is joined = (
-  subst (λ k. IsPass k (pass_of result)) joined.1 joined.0.pass,
+  subst (λ k. IsPass (judging k) (pass_of result)) joined.1 joined.0.pass,
   sym (same_shown entry result.job.entry joined.2) ∙ is,
   joined_chain m (shown result.exit) result.exit results refl joined.3,
 )
@@ -55,7 +56,7 @@ joined_results_are_whole m count opening results stands joined =
         (λ has. subst (λ ps. Contains (rows_in m ps) row) beats ((whole.0 row).0 (pass_of has.0, contains_mapped pass_of results has.0 has.1, has.2))),
         (λ has. let found = (whole.0 row).1 (subst (λ ps. Contains (rows_in m ps) row) (sym beats) has) in
             let from = mapped_from pass_of results found.0 found.1 in
-            (from.0, from.1, subst (λ (p : Pass). Contains p.rows row) (sym from.2) found.2)),
+            (from.0, from.1, subst (λ (p : Pass Snapshot). Contains p.rows row) (sym from.2) found.2)),
       )),
       exit_is (snapshot m []) opening results stands.shows ∙ whole.1 ∙ ap (λ ps. snapshot m (reverse ps)) beats,
     )

@@ -10,7 +10,8 @@ use Rattle.tl_beats.specs.declared.Placed.{Placed}
 use Rattle.tl_beats.specs.declared.Row.{Row}
 use Rattle.tl_definitions.specs.Positions.{position_order, links_of}
 use Rattle.tl_definitions.specs.Rules.{Manager}
-use Rattle.tl_definitions.specs.Judging.{Pass, IsPass}
+use Rattle.tl_definitions.specs.Judging.{Snapshot, judging}
+use Rattle.tl_definitions.specs.Passes.{Pass, IsPass}
 use Rattle.tl_manager_rules.specs.Manager as managers
 use Rattle.tl_span.specs.declared.state.SpanState.{SpanState}
 use Rattle.tl_span.specs.States.{shown, IsOf}
@@ -46,11 +47,11 @@ pub record Checked : Type 0 where
   pub exit : SpanState
   pub rows : List Row
 
-abbrev pub pass_of : Checked → Pass
+abbrev pub pass_of : Checked → Pass Snapshot
 pass_of result = record { entry = shown result.job.entry; beats = result.job.beats; exit = shown result.exit; rows = result.rows }
 
 -- What each result keeps: it is the pass of its own job.
 pub record IsResult (result : Checked) : Type 0 where
   pub job : IsJob result.job
   pub exit : IsOf (manager_of result.job) (length result.job.links) result.exit
-  pub pass : IsPass (manager_of result.job) (pass_of result)
+  pub pass : IsPass (judging (manager_of result.job)) (pass_of result)

@@ -6,7 +6,8 @@ ghost use Rattle.std.specs.List.Sorted.{IsStrictlySortedBy};
 ghost use Rattle.tl_topology.specs.Regions.{areas_of};
 ghost use Rattle.tl_topology.specs.Topology.{IsSound};
 ghost use Rattle.tl_beats.specs.Beats.{IsWellFormed};
-ghost use Rattle.tl_definitions.specs.Judging.{IsPass, all_judged, all_next};
+ghost use Rattle.tl_definitions.specs.Judging.{judging};
+ghost use Rattle.tl_definitions.specs.Passes.{IsPass, rows_judged, left_after};
 ghost use Rattle.tl_definitions.specs.Managers.{declared_links, manager_at};
 ghost use Rattle.tl_definitions.specs.Positions.{position_order};
 ghost use Rattle.tl_definitions.specs.Report.{row_order};
@@ -121,10 +122,10 @@ fn check(
     requires within { All (λ p. p.link < length links.now) beats.now }
     requires entry { IsOf (manager_from links.now exponent (areas_of regions.now) entry.now) (length links.now) entry.now }
     ensures exit { IfOk result (λ x. IsOf (manager_from links.now exponent (areas_of regions.now) entry.now) (length links.now) x.0
-        × (shown x.0 ≡ all_next (manager_from links.now exponent (areas_of regions.now) entry.now) (shown entry.now) beats.now)) }
+        × (shown x.0 ≡ left_after (judging (manager_from links.now exponent (areas_of regions.now) entry.now)) (shown entry.now) beats.now)) }
     ensures rises { IfOk result (λ x. IsStrictlySortedBy row_order x.1.items) }
     ensures members { IfOk result (λ x. (row : Row) → Contains x.1.items row
-        ↔ Contains (all_judged (manager_from links.now exponent (areas_of regions.now) entry.now) (shown entry.now) beats.now) row) }
+        ↔ Contains (rows_judged (judging (manager_from links.now exponent (areas_of regions.now) entry.now)) (shown entry.now) beats.now) row) }
 {
     let mut state = entry.copy(alloc)?;
     let mut rows = Vec::new(alloc);
@@ -198,7 +199,7 @@ impl SpanResult {
 #[tactic(auto, using(crate::proofs::JobLaws::is_result))]
 pub fn span_check(alloc: Global, job: SpanJob) -> Result<SpanResult, SpanJob>
     ensures job { IfOk result (λ checked. checked.job ≡ job) }
-    ensures pass { IfOk result (λ checked. IsPass (manager_of job) (pass_of checked)) }
+    ensures pass { IfOk result (λ checked. IsPass (judging (manager_of job)) (pass_of checked)) }
     ensures back { IfErr result (λ back. back ≡ job) }
 {
     let checked = check(

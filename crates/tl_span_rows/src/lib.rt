@@ -6,6 +6,8 @@ mod cuts;
 #[cfg(test)]
 mod managers;
 #[cfg(test)]
+mod monitors;
+#[cfg(test)]
 mod states;
 #[cfg(test)]
 mod texts;

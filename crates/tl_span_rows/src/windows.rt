@@ -82,7 +82,7 @@ fn fits(topo: &Topo, last: Option<Placed>, at: &Placed) -> bool
 }
 
 /// The beats, where they can be those of a window.
-fn window(alloc: Global, topo: &Topo, beats: &[Placed]) -> Result<Vec<Placed>, Fail>
+pub(crate) fn window(alloc: Global, topo: &Topo, beats: &[Placed]) -> Result<Vec<Placed>, Fail>
     ensures formed { IfOk result (λ window. All (λ p. IsWellFormed p.beat) window.items) }
     ensures within { IfOk result (λ window. All (λ p. p.link < length topo.now.links) window.items) }
     ensures rises { IfOk result (λ window. IsStrictlySortedBy position_order window.items) }

@@ -6,7 +6,8 @@ use Rattle.tl_topology.specs.Regions.{areas_of}
 use Rattle.tl_beats.specs.declared.Placed.{Placed}
 use Rattle.tl_definitions.specs.Positions.{no_link}
 use Rattle.tl_definitions.specs.Rules.{Manager}
-use Rattle.tl_definitions.specs.Judging.{all_judged, all_next}
+use Rattle.tl_definitions.specs.Judging.{judging}
+use Rattle.tl_definitions.specs.Passes.{rows_judged, left_after}
 use Rattle.tl_span.specs.Jobs.{manager_from}
 use Rattle.tl_span.specs.States.{shown, Serves}
 use Rattle.tl_span.proofs.ListLaws.{same_item}
@@ -29,8 +30,8 @@ loop-at-init c =
     let same = sym (same_shown c.args.entry.now c.in_ok-state.state c.in_ok-state.ensures.same) in
     record {
       of = c.in_ok-state.ensures.kept m (length c.args.links.now) c.requires.entry;
-      exit = ap (λ s. all_next m s c.args.beats.now) same;
-      found = ap (λ rows. rows ++ all_judged m (shown c.in_ok-state.state) c.args.beats.now) c.new-rows.ensures.items ∙ ap (λ s. all_judged m s c.args.beats.now) same;
+      exit = ap (λ s. left_after (judging m) s c.args.beats.now) same;
+      found = ap (λ rows. rows ++ rows_judged (judging m) (shown c.in_ok-state.state) c.args.beats.now) c.new-rows.ensures.items ∙ ap (λ s. rows_judged (judging m) s c.args.beats.now) same;
     }
 
 pub loop-at-preserved : goal.loop-at-preserved

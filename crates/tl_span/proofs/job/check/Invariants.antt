@@ -1,6 +1,7 @@
 use Rattle.std.proofs.Common.{◌≡◌, ◌++◌, drop, length}
 use Rattle.tl_topology.specs.Regions.{areas_of}
-use Rattle.tl_definitions.specs.Judging.{all_judged, all_next}
+use Rattle.tl_definitions.specs.Judging.{judging}
+use Rattle.tl_definitions.specs.Passes.{rows_judged, left_after}
 use Rattle.tl_span.specs.Jobs.{manager_from}
 use Rattle.tl_span.specs.States.{shown, IsOf}
 use Rattle.tl_span.proofs.job.check.Given as goal
@@ -9,8 +10,8 @@ use Rattle.tl_span.proofs.job.check.Given as goal
 abbrev pub invariant-loop-at : goal.invariant-loop-at
 invariant-loop-at l = record {
   of : IsOf (manager_from l.links l.exponent (areas_of l.regions) l.entry) (length l.links) l.state;
-  exit : all_next (manager_from l.links l.exponent (areas_of l.regions) l.entry) (shown l.state) (drop l.at-index l.beats)
-      ≡ all_next (manager_from l.links l.exponent (areas_of l.regions) l.entry) (shown l.entry) l.beats;
-  found : l.rows.items ++ all_judged (manager_from l.links l.exponent (areas_of l.regions) l.entry) (shown l.state) (drop l.at-index l.beats)
-      ≡ all_judged (manager_from l.links l.exponent (areas_of l.regions) l.entry) (shown l.entry) l.beats;
+  exit : left_after (judging (manager_from l.links l.exponent (areas_of l.regions) l.entry)) (shown l.state) (drop l.at-index l.beats)
+      ≡ left_after (judging (manager_from l.links l.exponent (areas_of l.regions) l.entry)) (shown l.entry) l.beats;
+  found : l.rows.items ++ rows_judged (judging (manager_from l.links l.exponent (areas_of l.regions) l.entry)) (shown l.state) (drop l.at-index l.beats)
+      ≡ rows_judged (judging (manager_from l.links l.exponent (areas_of l.regions) l.entry)) (shown l.entry) l.beats;
 }

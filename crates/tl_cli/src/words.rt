@@ -84,7 +84,8 @@ of at most 1,048,576 bytes, FRAGMENT a fragment text of at most 8,388,608 bytes.
 Without words tlcheck reads both from standard input, the fragment right behind the topology, at most 67,108,864 bytes, \
 and does as once.\n\n\
 Exit status: 0 no rule is broken, 1 the report has rows, 2 a fault, told on standard error as `tlcheck: CODE` \
-or `tlcheck: CODE NUMBER`.";
+or `tlcheck: CODE NUMBER`; tlcheck explain CODE says more.\n\n\
+Example: cat examples/one_manager.topo examples/late_write_back.fragment | tlcheck";
 
 /// The entry that the words of `explain` name; another word is refused.
 fn explained<'a>(

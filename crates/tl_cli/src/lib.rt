@@ -1,9 +1,14 @@
 //! The program without its process: its words, its files, and what it writes.
 #![tactic(auto)]
 
+mod explain;
 mod fault;
+mod flow_entries;
+mod format_entries;
 pub mod laws;
 mod once;
+mod permission_entries;
+mod refusal_entries;
 mod report;
 mod run;
 mod words;

@@ -96,6 +96,18 @@ fn tell<E: ByteOut>(alloc: Global, err: &mut E, fault: Fault) -> u8
     FAULT
 }
 
+/// Writes a text that was asked for.
+fn tell_text<O: ByteOut, E: ByteOut>(alloc: Global, out: &mut O, err: &mut E, text: &str) -> u8
+    requires out { O.failure_count out.old < 2 ^ 63 }
+    requires err { E.failure_count err.old < 2 ^ 63 }
+    ensures { result ≤ 2 }
+{
+    match write_all(out, text.as_bytes()) {
+        Ok(()) => NO_ROWS,
+        Err(_) => tell(alloc, err, Fault::WRITE),
+    }
+}
+
 /// Writes clap's own text: help to the one, what it refuses to the other.
 fn tell_words<O: ByteOut, E: ByteOut>(
     alloc: Global,
@@ -114,14 +126,11 @@ fn tell_words<O: ByteOut, E: ByteOut>(
         let _ = write_all(err, text.as_bytes());
         return FAULT;
     }
-    match write_all(out, text.as_bytes()) {
-        Ok(()) => NO_ROWS,
-        Err(_) => tell(alloc, err, Fault::WRITE),
-    }
+    tell_text(alloc, out, err, text.as_str())
 }
 
 /// Does what the words ask for, the first of which is the program's own, and answers the exit status: 0 where the report
-/// has no rows or help was asked for, 1 where it has some rows, 2 for a fault, which is told in one line on `err`, and for words
+/// has no rows or a text was asked for, 1 where it has some rows, 2 for a fault, which is told in one line on `err`, and for words
 /// that are refused, of which `clap` tells on `err` in lines of its own. `input` stands for standard input.
 pub fn run_words<R: Files + AllocGlobal, I: ByteIn, O: ByteOut, E: ByteOut>(
     rt: &R,
@@ -143,6 +152,7 @@ pub fn run_words<R: Files + AllocGlobal, I: ByteIn, O: ByteOut, E: ByteOut>(
     let rows = match command {
         Command::Input => once_of_input(rt.alloc(), input, out),
         Command::Once { topology, fragment } => once_of_files(rt, topology, fragment, out),
+        Command::Explain { entry } => return tell_text(rt.alloc(), out, err, entry),
     };
     match rows {
         Ok(0) => NO_ROWS,

@@ -1,6 +1,8 @@
 //! The words of the command line.
 
-use clap::{Arg, ArgAction, Error};
+use crate::explain::entry_of;
+use clap::error::ErrorKind;
+use clap::{Arg, ArgAction, ArgMatches, Error};
 use std::alloc::Global;
 
 /// What the words ask for.
@@ -13,9 +15,13 @@ pub(crate) enum Command<'a> {
         topology: &'a str,
         fragment: &'a str,
     },
+    /// The entry of a rule or of a refusal.
+    Explain {
+        entry: &'static str,
+    },
 }
 
-fn path<'a>(alloc: Global, id: &'a str, help: &'a str) -> Arg<'a> {
+fn word<'a>(alloc: Global, id: &'a str, help: &'a str) -> Arg<'a> {
     Arg::new(alloc, id)
         .required(true)
         .action(ArgAction::Set)
@@ -23,31 +29,54 @@ fn path<'a>(alloc: Global, id: &'a str, help: &'a str) -> Arg<'a> {
 }
 
 fn once<'a>(alloc: Global) -> Result<clap::Command<'a>, Error> {
-    let topology = path(
+    let topology = word(
         alloc,
         "TOPO",
         "Path of the topology text, at most 1,048,576 bytes",
     );
-    let fragment = path(
+    let fragment = word(
         alloc,
         "FRAGMENT",
         "Path of the fragment text, at most 8,388,608 bytes",
     );
     let once = clap::Command::new(alloc, "once")
         .about("Checks one fragment of a capture and writes the report")
+        .after_help(ONCE_EXAMPLE)
         .arg(topology)?
         .arg(fragment)?;
     Ok(once)
 }
 
+fn explain<'a>(alloc: Global) -> Result<clap::Command<'a>, Error> {
+    let word = word(
+        alloc,
+        "WORD",
+        "Name of a rule, as in the last word of a row, or code of a refusal",
+    );
+    let explain = clap::Command::new(alloc, "explain")
+        .about("Says what a rule or a refusal means, and what to look at")
+        .after_help(EXPLAIN_EXAMPLE)
+        .arg(word)?;
+    Ok(explain)
+}
+
 fn program<'a>(alloc: Global) -> Result<clap::Command<'a>, Error> {
     let program = clap::Command::new(alloc, "tlcheck")
         .about("Checks recorded beats of SiFive TileLink 1.8")
+        .version(VERSION)
         .after_help(HELP)
         .subcommand_required(true)
-        .subcommand(once(alloc)?)?;
+        .subcommand(once(alloc)?)?
+        .subcommand(explain(alloc)?)?;
     Ok(program)
 }
+
+const VERSION: &str = "0.1.0";
+
+const ONCE_EXAMPLE: &str =
+    "Example: tlcheck once examples/one_manager.topo examples/late_write_back.fragment";
+
+const EXPLAIN_EXAMPLE: &str = "Examples: tlcheck explain P2, tlcheck explain 12";
 
 const HELP: &str =
     "tlcheck once TOPO FRAGMENT checks one fragment of a capture, from two files: TOPO is a topology text \
@@ -55,19 +84,38 @@ of at most 1,048,576 bytes, FRAGMENT a fragment text of at most 8,388,608 bytes.
 Without words tlcheck reads both from standard input, the fragment right behind the topology, at most 67,108,864 bytes, \
 and does as once.\n\n\
 Exit status: 0 no rule is broken, 1 the report has rows, 2 a fault, told on standard error as `tlcheck: CODE` \
-or `tlcheck: CODE NUMBER`.";
+or `tlcheck: CODE NUMBER`; tlcheck explain CODE says more.\n\n\
+Example: cat examples/one_manager.topo examples/late_write_back.fragment | tlcheck";
+
+/// The entry that the words of `explain` name; another word is refused.
+fn explained<'a>(
+    alloc: Global,
+    program: &mut clap::Command<'a>,
+    found: &ArgMatches<'a>,
+) -> Result<Command<'a>, Error> {
+    let word = found.get_str("WORD").unwrap_or("");
+    let Some(entry) = entry_of(word) else {
+        let text = format!(in alloc; "'{word}' is no rule and no code of a refusal")?;
+        return Err(program.error(ErrorKind::InvalidValue, text.as_str())?);
+    };
+    Ok(Command::Explain { entry })
+}
 
 /// The command that the words name; the first word is the program's own.
 pub(crate) fn read_words<'a>(alloc: Global, words: &'a [String]) -> Result<Command<'a>, Error> {
     if words.len() <= 1 {
         return Ok(Command::Input);
     }
-    let matches = program(alloc)?.try_get_matches_from(words)?;
-    let Some((_, once)) = matches.subcommand() else {
+    let mut program = program(alloc)?;
+    let matches = program.try_get_matches_from_mut(words)?;
+    let Some((name, found)) = matches.subcommand() else {
         return Ok(Command::Input);
     };
+    if name == "explain" {
+        return explained(alloc, &mut program, found);
+    }
     Ok(Command::Once {
-        topology: once.get_str("TOPO").unwrap_or(""),
-        fragment: once.get_str("FRAGMENT").unwrap_or(""),
+        topology: found.get_str("TOPO").unwrap_or(""),
+        fragment: found.get_str("FRAGMENT").unwrap_or(""),
     })
 }

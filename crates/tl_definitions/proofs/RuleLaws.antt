@@ -10,6 +10,7 @@ use Rattle.std.proofs.lemmas.Cmp.{nat_cmp_total, on_total}
 use Rattle.std.proofs.lemmas.List.Kept.{IsStrictlySortedBy-filter}
 use Rattle.tl_tables.specs.declared.Op.{Op}
 use Rattle.tl_tables.specs.declared.Rule.{Rule}
+use Rattle.tl_tables.specs.declared.Rule.TheVariants as rule
 use Rattle.tl_tables.specs.Rules.{rule_number}
 use Rattle.tl_topology.specs.declared.LinkDecl.{LinkDecl}
 use Rattle.tl_beats.specs.declared.Beat.{Beat}
@@ -61,22 +62,22 @@ manager_order_rises : IsStrictlySortedBy by_number manager_order
 unfolding IsStrictlySortedBy
 manager_order_rises = ((refl, (refl, tt)), ((refl, tt), (tt, tt)))
 
-format_below : AreBelow 12 format_order
+format_below : AreBelow (rule_number rule.S1) format_order
 format_below = (omega arith, (omega arith, (omega arith, (omega arith, (omega arith, (omega arith, (omega arith, (omega arith, (omega arith, tt)))))))))
 
-flow_below : AreBelow 21 flow_order
+flow_below : AreBelow (rule_number rule.P1) flow_order
 flow_below = (omega arith, (omega arith, (omega arith, (omega arith, (omega arith, (omega arith, (omega arith, (omega arith, (omega arith, tt)))))))))
 
-flow_from : AreFrom 12 flow_order
+flow_from : AreFrom (rule_number rule.S1) flow_order
 flow_from = (omega arith, (omega arith, (omega arith, (omega arith, (omega arith, (omega arith, (omega arith, (omega arith, (omega arith, tt)))))))))
 
-permission_below : AreBelow 29 permission_order
+permission_below : AreBelow (rule_number rule.M1) permission_order
 permission_below = (omega arith, (omega arith, (omega arith, (omega arith, (omega arith, (omega arith, (omega arith, (omega arith, tt))))))))
 
-permission_from : AreFrom 21 permission_order
+permission_from : AreFrom (rule_number rule.P1) permission_order
 permission_from = (omega arith, (omega arith, (omega arith, (omega arith, (omega arith, (omega arith, (omega arith, (omega arith, tt))))))))
 
-manager_from : AreFrom 29 manager_order
+manager_from : AreFrom (rule_number rule.M1) manager_order
 manager_from = (omega arith, (omega arith, (omega arith, tt)))
 
 four_rise : (f s p m : Rule → Bool) → IsStrictlySortedBy by_number (filter f format_order ++ filter s flow_order ++ filter p permission_order ++ filter m manager_order)
@@ -84,17 +85,17 @@ four_rise f s p m =
     let formats = filter f format_order in
     let flows = filter s flow_order in
     let permissions = filter p permission_order in
-    let formats_below : AreBelow 12 formats = kept_all (λ r. rule_number r < 12) f format_order format_below in
-    let flows_below : AreBelow 21 flows = kept_all (λ r. rule_number r < 21) s flow_order flow_below in
-    let two = joined 12 formats flows (IsStrictlySortedBy-filter by_number f format_order format_order_rises) (IsStrictlySortedBy-filter by_number s flow_order flow_order_rises)
-    formats_below (kept_all (λ r. 12 ≤ rule_number r) s flow_order flow_from) in
-    let two_below : AreBelow 21 (formats ++ flows) = all_both (λ r. rule_number r < 21) formats flows (wider 12 21 formats (omega arith) formats_below) flows_below in
-    let three = joined 21 (formats ++ flows) permissions two (IsStrictlySortedBy-filter by_number p permission_order permission_order_rises)
-    two_below (kept_all (λ r. 21 ≤ rule_number r) p permission_order permission_from) in
-    let three_below : AreBelow 29 (formats ++ flows ++ permissions) =
-    all_both (λ r. rule_number r < 29) (formats ++ flows) permissions (wider 21 29 (formats ++ flows) (omega arith) two_below) (kept_all (λ r. rule_number r < 29) p permission_order permission_below) in
-    joined 29 (formats ++ flows ++ permissions) (filter m manager_order) three (IsStrictlySortedBy-filter by_number m manager_order manager_order_rises)
-    three_below (kept_all (λ r. 29 ≤ rule_number r) m manager_order manager_from)
+    let formats_below : AreBelow (rule_number rule.S1) formats = kept_all (λ r. rule_number r < rule_number rule.S1) f format_order format_below in
+    let flows_below : AreBelow (rule_number rule.P1) flows = kept_all (λ r. rule_number r < rule_number rule.P1) s flow_order flow_below in
+    let two = joined (rule_number rule.S1) formats flows (IsStrictlySortedBy-filter by_number f format_order format_order_rises) (IsStrictlySortedBy-filter by_number s flow_order flow_order_rises)
+    formats_below (kept_all (λ r. rule_number rule.S1 ≤ rule_number r) s flow_order flow_from) in
+    let two_below : AreBelow (rule_number rule.P1) (formats ++ flows) = all_both (λ r. rule_number r < rule_number rule.P1) formats flows (wider (rule_number rule.S1) (rule_number rule.P1) formats (omega arith) formats_below) flows_below in
+    let three = joined (rule_number rule.P1) (formats ++ flows) permissions two (IsStrictlySortedBy-filter by_number p permission_order permission_order_rises)
+    two_below (kept_all (λ r. rule_number rule.P1 ≤ rule_number r) p permission_order permission_from) in
+    let three_below : AreBelow (rule_number rule.M1) (formats ++ flows ++ permissions) =
+    all_both (λ r. rule_number r < rule_number rule.M1) (formats ++ flows) permissions (wider (rule_number rule.P1) (rule_number rule.M1) (formats ++ flows) (omega arith) two_below) (kept_all (λ r. rule_number r < rule_number rule.M1) p permission_order permission_below) in
+    joined (rule_number rule.M1) (formats ++ flows ++ permissions) (filter m manager_order) three (IsStrictlySortedBy-filter by_number m manager_order manager_order_rises)
+    three_below (kept_all (λ r. rule_number rule.M1 ≤ rule_number r) m manager_order manager_from)
 
 head_rises : (m : Manager) (before : List Placed) (p : Placed) (found : Option Op) → IsStrictlySortedBy by_number (head_rules m before p found)
 unfolding IsStrictlySortedBy

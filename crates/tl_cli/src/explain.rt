@@ -1,0 +1,143 @@
+//! What a rule or a refusal means, in the words of `docs/RULES.md`.
+
+use crate::{flow_entries, format_entries, permission_entries, refusal_entries};
+use tl_tables::Rule;
+use tl_text::decimal;
+
+/// The greatest number that a word of a refusal's code may spell.
+const MOST_CODE: u64 = 255;
+
+/// The rule that a report calls so.
+fn rule_named(name: &str) -> Option<Rule> {
+    let rule = match name.as_bytes() {
+        b"F1" => Rule::F1,
+        b"F2" => Rule::F2,
+        b"F3" => Rule::F3,
+        b"F4" => Rule::F4,
+        b"F5" => Rule::F5,
+        b"F6" => Rule::F6,
+        b"F7" => Rule::F7,
+        b"F8" => Rule::F8,
+        b"F9" => Rule::F9,
+        b"F10" => Rule::F10,
+        b"U1" => Rule::U1,
+        b"S1" => Rule::S1,
+        b"S2" => Rule::S2,
+        b"S3" => Rule::S3,
+        b"S4" => Rule::S4,
+        b"S5" => Rule::S5,
+        b"S6" => Rule::S6,
+        b"S7" => Rule::S7,
+        b"S8" => Rule::S8,
+        b"S9" => Rule::S9,
+        b"P1" => Rule::P1,
+        b"P2" => Rule::P2,
+        b"P3" => Rule::P3,
+        b"P4" => Rule::P4,
+        b"P5" => Rule::P5,
+        b"P6" => Rule::P6,
+        b"P7" => Rule::P7,
+        b"P8" => Rule::P8,
+        b"M1" => Rule::M1,
+        b"M2" => Rule::M2,
+        b"M3" => Rule::M3,
+        b"X1" => Rule::X1,
+        _ => return None,
+    };
+    Some(rule)
+}
+
+/// The entry of a rule.
+fn rule_entry(rule: Rule) -> &'static str {
+    match rule {
+        Rule::F1 => format_entries::F1,
+        Rule::F2 => format_entries::F2,
+        Rule::F3 => format_entries::F3,
+        Rule::F4 => format_entries::F4,
+        Rule::F5 => format_entries::F5,
+        Rule::F6 => format_entries::F6,
+        Rule::F7 => format_entries::F7,
+        Rule::F8 => format_entries::F8,
+        Rule::F9 => format_entries::F9,
+        Rule::F10 => format_entries::F10,
+        Rule::U1 => format_entries::U1,
+        Rule::S1 => flow_entries::S1,
+        Rule::S2 => flow_entries::S2,
+        Rule::S3 => flow_entries::S3,
+        Rule::S4 => flow_entries::S4,
+        Rule::S5 => flow_entries::S5,
+        Rule::S6 => flow_entries::S6,
+        Rule::S7 => flow_entries::S7,
+        Rule::S8 => flow_entries::S8,
+        Rule::S9 => flow_entries::S9,
+        Rule::P1 => permission_entries::P1,
+        Rule::P2 => permission_entries::P2,
+        Rule::P3 => permission_entries::P3,
+        Rule::P4 => permission_entries::P4,
+        Rule::P5 => permission_entries::P5,
+        Rule::P6 => permission_entries::P6,
+        Rule::P7 => permission_entries::P7,
+        Rule::P8 => permission_entries::P8,
+        Rule::M1 => permission_entries::M1,
+        Rule::M2 => permission_entries::M2,
+        Rule::M3 => permission_entries::M3,
+        Rule::X1 => permission_entries::X1,
+    }
+}
+
+/// The entry of the refusal with this code, if there is one.
+fn refusal_entry(code: u64) -> Option<&'static str> {
+    let entry = match code {
+        1 => refusal_entries::BAD_LINE,
+        2 => refusal_entries::NAME_TWICE,
+        3 => refusal_entries::BAD_WIDTH,
+        4 => refusal_entries::BAD_BLOCK,
+        5 => refusal_entries::NO_MANAGER,
+        6 => refusal_entries::TOO_MANY_LINKS,
+        7 => refusal_entries::REGION_OVERLAP,
+        8 => refusal_entries::NO_REGION,
+        9 => refusal_entries::TOO_MANY_MANAGERS,
+        10 => refusal_entries::BAD_SIZE,
+        11 => refusal_entries::BAD_HEADER,
+        12 => refusal_entries::BAD_FIELD,
+        13 => refusal_entries::NOT_RISING,
+        14 => refusal_entries::OUT_OF_RANGE,
+        15 => refusal_entries::TRUNCATED,
+        16 => refusal_entries::TOO_MANY_BEATS,
+        17 => refusal_entries::READ_FAULT,
+        18 => refusal_entries::TOO_LONG,
+        19 => refusal_entries::WRITE_FAULT,
+        20 => refusal_entries::MEMORY,
+        21 => refusal_entries::UNKNOWN_LINK,
+        22 => refusal_entries::FRAGMENT_EXISTS,
+        23 => refusal_entries::NO_FRAGMENT,
+        24 => refusal_entries::RANGE_OVERLAP,
+        25 => refusal_entries::REGION_OVERLAP_OF_EDIT,
+        26 => refusal_entries::NO_REGION_OF_EDIT,
+        27 => refusal_entries::MONITOR_EXISTS,
+        28 => refusal_entries::NO_MONITOR,
+        29 => refusal_entries::WRONG_KIND,
+        30 => refusal_entries::LOG_FULL,
+        31 => refusal_entries::NOT_READY,
+        32 => refusal_entries::VERSION_FULL,
+        33 => refusal_entries::BOX_OUT,
+        34 => refusal_entries::TICKETS_SPENT,
+        35 => refusal_entries::UNKNOWN_MANAGER,
+        36 => refusal_entries::WRONG_BOX,
+        41 => refusal_entries::BAD_COMMAND,
+        42 => refusal_entries::SCRIPT_TRUNCATED,
+        43 => refusal_entries::NO_SUCH_EDIT,
+        44 => refusal_entries::FILE_TOO_LONG,
+        45 => refusal_entries::FILE_FAULT,
+        _ => return None,
+    };
+    Some(entry)
+}
+
+/// The entry of the rule with this name, or of the refusal with this code in decimal; None for any other word.
+pub(crate) fn entry_of(word: &str) -> Option<&'static str> {
+    match rule_named(word) {
+        Some(rule) => Some(rule_entry(rule)),
+        None => refusal_entry(decimal(word.as_bytes(), MOST_CODE)?),
+    }
+}

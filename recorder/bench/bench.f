@@ -1,0 +1,11 @@
++incdir+../topology
+tlul_pkg.sv
+bench_pkg.sv
+../tilelink_cycle_counter.sv
+../tilelink_recorder.sv
+bench_cache.sv
+bench_engine.sv
+bench_side.sv
+bench_directory.sv
+bench_dma.sv
+bench.sv

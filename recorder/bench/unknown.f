@@ -1,0 +1,3 @@
+../tilelink_cycle_counter.sv
+../tilelink_recorder.sv
+unknown.sv

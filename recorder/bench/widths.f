@@ -1,0 +1,2 @@
+../tilelink_recorder.sv
+widths.sv

@@ -124,6 +124,7 @@ fn refusal_entry(code: u64) -> Option<&'static str> {
         34 => refusal_entries::TICKETS_SPENT,
         35 => refusal_entries::UNKNOWN_MANAGER,
         36 => refusal_entries::WRONG_BOX,
+        37 => refusal_entries::STRICT_LEVEL,
         41 => refusal_entries::BAD_COMMAND,
         42 => refusal_entries::SCRIPT_TRUNCATED,
         43 => refusal_entries::NO_SUCH_EDIT,

@@ -3,7 +3,8 @@
 pub(crate) const P1: &str = "\
 P1: an Acquire grows from more than is held
 
-An Acquire grows from more than its client can hold: BtoT where that is N.
+An Acquire grows from more than its client can hold: BtoT where that is N. On a strict link it
+must grow from just what its client holds, so NtoB or NtoT of a block that is held has it too.
 
     fragment cpu0 1 0 99999
     10 A 7 2 6 0 1000 ff 0
@@ -24,7 +25,7 @@ pub(crate) const P2: &str = "\
 P2: a ProbeAck or Release of more than is held
 
 A ProbeAck or a Release says that its client held more of the block than it can: T where that is
-B or N, or B where it is N.
+B or N, or B where it is N. On a strict link it must say just what its client held.
 
     fragment cpu0 1 0 99999
     10 C 6 1 6 0 1000 0

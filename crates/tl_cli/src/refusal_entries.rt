@@ -3,11 +3,14 @@
 pub(crate) const BAD_LINE: &str = "\
 1: BadLine
 
-A line of the topology is none; the number is the line. The first line is `topo 1`, the last is
-`end`, and each other is one of
+A line of the topology is none; the number is the line. The first line is `topo 1` or `topo 2`,
+the last is `end`, and each other is one of
 
     manager NAME BLOCK
     link NAME MANAGER LEVEL WIDTH MAXSIZE SOURCES
+    link NAME MANAGER LEVEL WIDTH MAXSIZE SOURCES strict
+
+The last form is one behind `topo 2` alone.
 
 - Causes: two spaces, a space at an end, a tab, a carriage return, an empty line, a comment; a
   name that is not a lower-case letter and up to 15 lower-case letters, digits or _; a number in
@@ -55,7 +58,7 @@ after 1 and 2.
 pub(crate) const TOO_MANY_LINKS: &str = "\
 6: TooManyLinks
 
-A line declares the 65th link; the number is the line. In a line it is told after all others.
+A line declares the 257th link; the number is the line. In a line it is told after all others.
 
 - Do: check in parts. Links of different managers never meet in a rule, so give each manager a
   topology of its own.
@@ -351,6 +354,16 @@ A monitor is attached with a box of another watch, or with none.
 
 - Do: hand over the boxes in the order of the lines that attach them.
 - Today: no command answers it.
+";
+
+pub(crate) const STRICT_LEVEL: &str = "\
+37: StrictLevel
+
+A link of another level than `c` is declared strict; the number is the line. In a line it is told
+after 1, 2, 5, 3 and 10, and before 6.
+
+- Do: leave the word out. Strict is for a client that never drops a block in silence, and only a
+  link of level `c` has blocks.
 ";
 
 pub(crate) const BAD_COMMAND: &str = "\

@@ -130,7 +130,7 @@ found beats = found_with [] beats
 
 -- What it says where link 0 is strict.
 abbrev pub found_strict : List Placed → List Line
-found_strict beats = map line_of (report_of (record { manager = managing strict_decls []; beats = in_order beats } ∷ []))
+found_strict beats = map line_of (report_of (of_manager (managing strict_decls []) (in_order beats) ∷ []))
 
 -- The eight beats of a GrantData of a block of 64 bytes: from a cycle on, its cap, its sink.
 abbrev pub grant : ℕ → ℕ → ℕ → List Beat

@@ -21,7 +21,7 @@ use Rattle.tl_definitions.specs.Positions.{position_order}
 use Rattle.tl_definitions.specs.Rules.{Manager}
 use Rattle.tl_definitions.specs.Breaks.{rules_at, row_of, Breaks, rows_after, rows_in}
 use Rattle.tl_tables.specs.Rules.{rule_number}
-use Rattle.tl_definitions.specs.Report.{key_order, row_order, Capture, of_manager, of_monitor, captured, Finds, FindsIn, rows_of, all_rows, insert_row, sorted_rows, report_of, HasOnePlace, RowsAreBreaks, OneReport, SortedRowsAreTheReport, ReportsAreComputed}
+use Rattle.tl_definitions.specs.Report.{key_order, row_order, Capture, of_manager, of_monitor, captured, Finds, FindsIn, rows_of, all_rows, insert_row, sorted_rows, report_of, HasOnePlace, IsReport, RowsAreBreaks, OneReport, SortedRowsAreTheReport, ReportsAreComputed}
 use Rattle.tl_definitions.proofs.OrderLaws.{tie_first, tie_rest, both_tie, tied, one_chan}
 use Rattle.tl_definitions.proofs.RisingLaws.{row_with}
 use Rattle.tl_definitions.proofs.WatchLaws.{rows_are_flags}
@@ -183,7 +183,7 @@ pub same_position : (p q : Placed) (r s : Rule) → key_order (row_of p r) (row_
 same_position p q r s h = same_place p q r s None None h
 
 -- The beat of a row.
-stands_in : (capture : Capture) (row : Row) → Finds capture row → (p : Placed) × Contains (captured capture) p × (row ≡ row_with p row.rule row.monitor)
+pub stands_in : (capture : Capture) (row : Row) → Finds capture row → (p : Placed) × Contains (captured capture) p × (row ≡ row_with p row.rule row.monitor)
 stands_in (of_manager m beats) row r = (
   r.2,
   subst (λ ps. Contains ps r.2) (sym r.3) (Contains-append_right r.0 (r.2 ∷ r.1) r.2 (contains_here r.2 r.1)),
@@ -208,11 +208,17 @@ one_place captures place x y here there tie =
       ap (λ (z : Row). z.line) one.2 ∙ found.1 ∙ sym (ap (λ (z : Row). z.line) two.2),
     )
 
-pub sorted_rows_are_the_report : SortedRowsAreTheReport
-sorted_rows_are_the_report captures rows place rises same = record {
-  rises = rises_by_key rows (λ x y h g. one_place captures place x y (in_captures captures x ((same x).0 h)) (in_captures captures y ((same y).0 g))) rises;
-  members = λ row. ((λ h. in_captures captures row ((same row).0 h)), (λ r. (same row).1 (from_captures captures row r)));
+-- Rows in strict order that are found in the captures are their report.
+pub found_rows_are_the_report : (captures : List Capture) (rows : List Row) → HasOnePlace captures → IsStrictlySortedBy row_order rows
+    → ((row : Row) → Contains rows row ↔ FindsIn captures row) → IsReport captures rows
+found_rows_are_the_report captures rows place rises same = record {
+  rises = rises_by_key rows (λ x y h g. one_place captures place x y ((same x).0 h) ((same y).0 g)) rises;
+  members = same;
 }
+
+pub sorted_rows_are_the_report : SortedRowsAreTheReport
+sorted_rows_are_the_report captures rows place rises same =
+    found_rows_are_the_report captures rows place rises (λ row. ((λ h. in_captures captures row ((same row).0 h)), (λ r. (same row).1 (from_captures captures row r))))
 
 -- Rows that tie are one row.
 -- The rules by their numbers; the first stands in for number 0.

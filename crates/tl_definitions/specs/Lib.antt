@@ -16,3 +16,4 @@ pub mod Judging
 pub mod Tallies
 pub mod Managers
 pub mod WatchedRows
+pub mod Captures

@@ -4,4 +4,4 @@
 pub mod laws;
 mod manager;
 
-pub use manager::ManagerState;
+pub use manager::{ManagerState, clients_of};

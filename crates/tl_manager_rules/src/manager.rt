@@ -52,8 +52,8 @@ fn conflicts(set: Perm, bound: Perm) -> bool
     }
 }
 
-/// The numbers of the manager's links.
-fn clients_of(alloc: Global, topo: &Topo, manager: u16) -> Result<Vec<u16>, AllocError>
+/// The numbers of a manager's links, which are its clients, in rising order. AllocError where memory is refused.
+pub fn clients_of(alloc: Global, topo: &Topo, manager: u16) -> Result<Vec<u16>, AllocError>
     ensures { IfOk result (λ clients. clients.items ≡ clients_of manager (declared_links topo.now)) }
 {
     let mut clients = Vec::new(alloc);

@@ -165,6 +165,14 @@ impl Topo {
         self.links.len()
     }
 
+    /// How many managers there are, at most 64.
+    pub fn manager_count(&self) -> usize
+        ensures count { result ≡ length self.now.managers }
+        ensures limit { result ≤ 64 }
+    {
+        self.managers.len()
+    }
+
     /// The exponent of a manager's block, 3 to 12, or None past the last manager.
     pub fn block(&self, manager: u16) -> Option<u8>
         ensures { result ≡ option_map (λ p. p.1) (slice_get self.now.managers manager) }

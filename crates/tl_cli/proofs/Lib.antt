@@ -1,3 +1,3 @@
 pub mod Texts
-pub mod Rows
-pub mod OnceReport
+pub mod AddedLaws
+pub mod CleanLaws

@@ -100,7 +100,10 @@ impl From<OnceFault> for Fault {
 
     fn from(found: OnceFault) -> Fault {
         match found {
-            OnceFault::Refused { code, number } => Fault { code, number },
+            OnceFault::Refused { code, number } => Fault {
+                code,
+                number: number.map(u64::from),
+            },
             OnceFault::Memory => Fault::MEMORY,
             OnceFault::WriteFault => Fault::WRITE,
         }

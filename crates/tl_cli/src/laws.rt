@@ -2,8 +2,8 @@
 
 ghost use Rattle.tl_cli.specs.Once.{CleanReportsAreCoherent};
 
-/// Where the rows of a fragment have none of P1, P2 and M1, at every position and for every block, while one client may hold
-/// the block to write, no other client may hold it at all.
+/// Where a report has no row of P1, P2 and M1, at every position of each manager's beats and for every block, while one client
+/// may hold the block to write, no other client of the manager may hold it at all.
 pub fn clean_reports_are_coherent()
     ensures { CleanReportsAreCoherent }
 {}

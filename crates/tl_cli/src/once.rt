@@ -1,36 +1,45 @@
-//! The report of one fragment.
+//! The report of fragments.
 
-ghost use Rattle.std.specs.Prelude.{◌≡◌, ◌<◌, ◌+◌, ◌^◌, ◌↔◌, ℕ, None, Some, IfOk, IfErr, OnOk, length, take};
+ghost use Rattle.std.specs.Prelude.{◌≡◌, ◌<◌, ◌+◌, ◌^◌, ◌⊎◌, ℕ, List, [], Ok, Err, None, IfOk, IfErr, OnOk, length, take, map};
+ghost use Rattle.std.specs.Arc.{arc_value};
 ghost use Rattle.std.specs.Result.{IsErrOf};
 ghost use Rattle.std.specs.Io.KnownBytes.{Appends};
-ghost use Rattle.std.specs.List.{All};
-ghost use Rattle.std.specs.List.Sorted.{IsStrictlySortedBy};
-ghost use Rattle.tl_topology.specs.Topology.{number_of_name};
-ghost use Rattle.tl_beats.specs.Beats.{IsWellFormed};
-ghost use Rattle.tl_definitions.specs.Positions.{placed_from, position_order};
-ghost use Rattle.tl_cli.specs.Once.{rows_once, text_once, IsReportOnce, IsCoherentOnce, CanFail};
+ghost use Rattle.tl_beats.specs.declared.Row.{Row as AnyRow};
+ghost use Rattle.tl_cli.specs.Once.{Refusal, added, added_to, text_once, AreRowsOf};
 ghost use Rattle.tl_cli.specs.declared.once.OnceFault.TheVariants.{Memory, WriteFault as Unwritten};
 
 use crate::report::{Report, report_text};
 use std::alloc::{AllocError, Global};
+use std::sync::Arc;
 use thiserror::Error;
-use tl_beats::{ByteOut, Fragment, Placed, Row};
-use tl_span::{SpanJob, SpanState, span_check};
+use tl_beats::{ByteOut, Fragment};
+use tl_plain::scratch;
 use tl_text::{WriteFault, write_all};
-use tl_topology::{RegionMap, Topo};
+use tl_topology::Topo;
+use tl_windows::Present;
 
 const UNKNOWN_LINK: u8 = 21;
 
-/// Why a fragment has no report.
+const FRAGMENT_EXISTS: u8 = 22;
+
+const RANGE_OVERLAP: u8 = 24;
+
+const LOG_FULL: u8 = 30;
+
+/// The most edits that are accepted.
+const MOST_EDITS: usize = 65_536;
+
+/// Why fragments have no report.
 #[derive(Clone, Copy, Debug, Drop, Error, PartialEq, Eq)]
 pub enum OnceFault {
-    /// The fragment is refused.
+    /// A fragment is refused.
     #[error("refused with {code}")]
     Refused {
-        /// The number of the refusal: 21 for a link that the topology lacks, and no other.
+        /// The number of the refusal: 21 for a link that the topology lacks, 22 for a number that its link has already, 24 for
+        /// a range that shares a cycle with another of its link, 30 past the 65,536th fragment.
         code: u8,
-        /// What the refusal names besides: nothing, for an unknown link.
-        number: Option<u64>,
+        /// What the refusal names besides: with 24 the lowest number of such another fragment, else nothing.
+        number: Option<u32>,
     },
     /// A growth was refused; nothing was written.
     #[error("out of memory")]
@@ -56,83 +65,89 @@ impl From<WriteFault> for OnceFault {
     }
 }
 
-/// The beats of a fragment of the link with this number, each with the line that it is written on.
-fn placed(alloc: Global, link: u16, fragment: &Fragment) -> Result<Vec<Placed>, AllocError>
-    ensures exact { IfOk result (λ beats. beats.items ≡ placed_from link fragment.now.number 2 fragment.now.beats) }
-    ensures formed { IfOk result (λ beats. All (λ p. IsWellFormed p.beat) beats.items) }
-    ensures linked { IfOk result (λ beats. All (λ p. p.link ≡ link) beats.items) }
-    ensures rises { IfOk result (λ beats. IsStrictlySortedBy position_order beats.items) }
+/// A refusal that names no number.
+fn refused(code: u8) -> OnceFault
+    ensures { result ≡ OnceFault.Refused code None }
 {
-    let number = fragment.number();
-    let mut placed = Vec::new(alloc);
-    for (index, beat) in fragment.beats().iter().enumerate() {
-        placed.push(Placed {
-            link,
-            fragment: number,
-            line: index as u32 + 2,
-            beat: *beat,
-        })?;
-    }
-    Ok(placed)
+    OnceFault::Refused { code, number: None }
 }
 
-/// The rows of a fragment of the link with this number; they are its report.
-fn rows_once(
+/// Adds a fragment to those that stand, as the edit behind so many.
+fn add(
+    topo: &Topo,
+    edits: usize,
+    present: &mut Present,
+    fragment: Arc<Fragment>,
+) -> Result<(), OnceFault>
+    ensures ok { OnOk result (added_to topo.now edits present.old (arc_value fragment) ≡ Ok present.new) }
+    ensures refused { (code : ℕ) (number : Option ℕ) → IsErrOf result (OnceFault.Refused code number)
+        → added_to topo.now edits present.old (arc_value fragment) ≡ Err (record { code = code; number = number }) }
+    ensures written { IfErr result (λ fault. (fault ≡ Unwritten) → ⊥) }
+{
+    let Some(link) = topo.link_of(&fragment.link()) else {
+        return Err(refused(UNKNOWN_LINK));
+    };
+    if present.get(link, fragment.number()).is_some() {
+        return Err(refused(FRAGMENT_EXISTS));
+    }
+    if let Some(other) = present.overlapped(link, &fragment) {
+        return Err(OnceFault::Refused {
+            code: RANGE_OVERLAP,
+            number: Some(other),
+        });
+    }
+    if edits >= MOST_EDITS {
+        return Err(refused(LOG_FULL));
+    }
+    present.put(link, fragment)?;
+    Ok(())
+}
+
+/// What stands once the fragments were added, one after the other.
+fn all_added(
     alloc: Global,
     topo: &Topo,
-    link: u16,
-    fragment: &Fragment,
-) -> Result<Vec<Row>, AllocError>
-    requires within { link < length topo.now.links }
-    requires named { number_of_name topo.now.links fragment.now.link ≡ Some link }
-    ensures rows { IfOk result (λ rows. rows.items ≡ rows_once topo.now fragment.now) }
-    ensures links { IfOk result (λ rows. All (λ row. row.link < length topo.now.links) rows.items) }
-    ensures report { OnOk result (IsReportOnce topo.now fragment.now) }
+    fragments: &[Arc<Fragment>],
+) -> Result<Present, OnceFault>
+    ensures ok { IfOk result (λ present. added topo.now (map arc_value fragments.now) ≡ Ok present) }
+    ensures refused { (code : ℕ) (number : Option ℕ) → IsErrOf result (OnceFault.Refused code number)
+        → added topo.now (map arc_value fragments.now) ≡ Err (record { code = code; number = number }) }
+    ensures written { IfErr result (λ fault. (fault ≡ Unwritten) → ⊥) }
 {
-    let manager = topo.link(link).unwrap().manager;
-    let regions = RegionMap::new(alloc);
-    let entry = SpanState::opening(alloc, topo, manager)?;
-    let beats = placed(alloc, link, fragment)?;
-    let job = SpanJob::new(alloc, topo, manager, &regions, beats, entry)?;
-    let Ok(checked) = span_check(alloc, job) else {
-        return Err(AllocError);
-    };
-    Ok(checked.into_rows())
+    let mut present = Present::new(alloc);
+    for (edits, fragment) in fragments.iter().enumerate() {
+        add(topo, edits, &mut present, Arc::try_clone(fragment)?)?;
+    }
+    Ok(present)
 }
 
-/// Writes the report of a topology with this fragment alone, version 1 after edit 1, and answers the number of its rows:
-/// all rules of the definitions but those of monitors, F1 to F10, U1, S1 to S9, P1 to P8 and M1 to M3, without regions. Where
-/// no row is of P1, P2 or M1, each block had one writer or many readers throughout; with beats of one client alone it always
-/// has. Refused with 21 where the topology has no such link, Memory where memory is refused, WriteFault where a write fails.
+/// Adds the fragments to the captures of a topology, one after the other, checks all of it from the beginning, and writes the
+/// report, version 1 after as many edits as there are fragments; answers the number of its rows. They are the rows of all rules
+/// of the definitions but those of monitors, F1 to F10, U1, S1 to S9, P1 to P8 and M1 to M3, without regions.
+/// Refused where a fragment can't be added: the first such, with 21, 22, 24 or 30. Memory where memory is refused. WriteFault
+/// where a write fails.
 pub fn run_once<O: ByteOut>(
     alloc: Global,
     topo: &Topo,
-    fragment: Fragment,
+    fragments: &[Arc<Fragment>],
     out: &mut O,
 ) -> Result<u64, OnceFault>
     requires { O.failure_count out.old < 2 ^ 63 }
-    ensures count { IfOk result (λ count. count ≡ length (rows_once topo.now fragment)) }
-    ensures written { OnOk result (Appends (O.contents out.old) (O.contents out.new) (text_once topo.now fragment)) }
-    ensures report { OnOk result (IsReportOnce topo.now fragment) }
-    ensures coherent { OnOk result (IsCoherentOnce topo.now fragment) }
+    ensures written { IfOk result (λ count. (rows : List AnyRow) × AreRowsOf topo.now (map arc_value fragments.now) rows × (count ≡ length rows)
+        × Appends (O.contents out.old) (O.contents out.new) (text_once topo.now (length fragments.now) rows)) }
     ensures quiet { OnOk result (O.failure_count out.new ≡ O.failure_count out.old) }
 
     // A refusal and want of memory write nothing, and a write that fails leaves a front of the text.
-    ensures unknown { IsErrOf result (OnceFault.Refused 21 None) ↔ (number_of_name topo.now.links fragment.link ≡ None) }
-    ensures only { IfErr result CanFail }
-    ensures refused { IsErrOf result (OnceFault.Refused 21 None) → out.new ≡ out.old }
+    ensures refused { (code : ℕ) (number : Option ℕ) → IsErrOf result (OnceFault.Refused code number)
+        → (added topo.now (map arc_value fragments.now) ≡ Err (record { code = code; number = number })) × (out.new ≡ out.old) }
     ensures memory { IsErrOf result OnceFault.Memory → out.new ≡ out.old }
     ensures failed { IsErrOf result OnceFault.WriteFault → (O.failure_count out.new ≡ O.failure_count out.old + 1)
-        × ((n : ℕ) × Appends (O.contents out.old) (O.contents out.new) (take n (text_once topo.now fragment))) }
+        × ((rows : List AnyRow) × AreRowsOf topo.now (map arc_value fragments.now) rows
+        × ((n : ℕ) × Appends (O.contents out.old) (O.contents out.new) (take n (text_once topo.now (length fragments.now) rows)))) }
 {
-    let Some(link) = topo.link_of(&fragment.link()) else {
-        return Err(OnceFault::Refused {
-            code: UNKNOWN_LINK,
-            number: None,
-        });
-    };
-    let rows = rows_once(alloc, topo, link, &fragment)?;
-    let report = Report::new(1, 1, rows);
+    let present = all_added(alloc, topo, fragments)?;
+    let rows = scratch(alloc, topo, &present)?;
+    let report = Report::new(1, fragments.len() as u64, rows);
     let text = report_text(alloc, topo, &report)?;
     write_all(out, text.as_bytes())?;
     Ok(report.rows().len() as u64)

@@ -176,8 +176,8 @@ It is about two clients, so no fragment shows it by itself. The smallest capture
     30 D 4 0 6 0 2 0 0
     end
 
-Its row is cpu1 1 3 M1. Captures of two clients are tested in the crates: written captures
-(tl_definitions), tl_span_rows/src/windows.rt and tl_span_rows/src/cuts.rt.
+With both fragments in one call of once its row is cpu1 1 3 M1. Run:
+rows/cases/grants_to_two_writers. More captures of two clients are tested in the crates.
 
 - Topic: coherence; over all clients of the manager, and a denied Grant: own profile.
 - Designs: a directory forgets a sharer; a Grant goes out before the ProbeAck is in; a manager

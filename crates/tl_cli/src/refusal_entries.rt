@@ -224,7 +224,6 @@ pub(crate) const FRAGMENT_EXISTS: &str = "\
 A fragment is added under a number that its link has already.
 
 - Do: give it another number, or replace the one that is there.
-- Today: no command answers it.
 ";
 
 pub(crate) const NO_FRAGMENT: &str = "\
@@ -244,7 +243,6 @@ lowest such fragment.
 
 - Do: let ranges follow one another; a range that ends at 99 is followed by one that begins at
   100.
-- Today: no command answers it.
 ";
 
 pub(crate) const REGION_OVERLAP_OF_EDIT: &str = "\
@@ -299,7 +297,6 @@ pub(crate) const LOG_FULL: &str = "\
 65536 edits were accepted, and there is room for no more.
 
 - Do: begin anew with what is present now.
-- Today: no command answers it.
 ";
 
 pub(crate) const NOT_READY: &str = "\

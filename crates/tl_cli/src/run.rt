@@ -8,6 +8,7 @@ use crate::words::{Command, read_words};
 use std::alloc::Global;
 use std::fs;
 use std::rt::Files;
+use std::sync::Arc;
 use tl_beats::{ByteIn, ByteOut, Fragment, parse_whole_fragment, read_fragment};
 use tl_text::{CountedReader, read_text, write_all};
 use tl_topology::{Topo, TopoFault, read_topo};
@@ -53,18 +54,31 @@ fn fragment_of<R: Files + AllocGlobal>(rt: &R, path: &str) -> Result<Fragment, F
     Ok(fragment)
 }
 
-/// The report of a file's fragment; the number of its rows.
+/// The fragments of files, each read and parsed before the next is opened.
+fn fragments_of<R: Files + AllocGlobal>(
+    rt: &R,
+    paths: &[&str],
+) -> Result<Vec<Arc<Fragment>>, Fault> {
+    let mut fragments = Vec::new(rt.alloc());
+    for path in paths {
+        let fragment = Arc::new(rt.alloc(), fragment_of(rt, path)?)?;
+        fragments.push(fragment)?;
+    }
+    Ok(fragments)
+}
+
+/// The report of files' fragments; the number of its rows.
 fn once_of_files<R: Files + AllocGlobal, O: ByteOut>(
     rt: &R,
     topology: &str,
-    fragment: &str,
+    fragments: &[&str],
     out: &mut O,
 ) -> Result<u64, Fault>
     requires { O.failure_count out.old < 2 ^ 63 }
 {
     let topo = topology_of(rt, topology)?;
-    let fragment = fragment_of(rt, fragment)?;
-    let rows = run_once(rt.alloc(), &topo, fragment, out)?;
+    let fragments = fragments_of(rt, fragments)?;
+    let rows = run_once(rt.alloc(), &topo, &fragments, out)?;
     Ok(rows)
 }
 
@@ -81,7 +95,8 @@ fn once_of_input<I: ByteIn, O: ByteOut>(
     let text = read_text(alloc, input, MOST_INPUT)?;
     let (topo, used) = read_topo(alloc, &text)?;
     let fragment = parse_whole_fragment(alloc, &text[used..])?;
-    let rows = run_once(alloc, &topo, fragment, out)?;
+    let fragments = vec![in alloc; Arc::new(alloc, fragment)?]?;
+    let rows = run_once(alloc, &topo, &fragments, out)?;
     Ok(rows)
 }
 
@@ -151,7 +166,10 @@ pub fn run_words<R: Files + AllocGlobal, I: ByteIn, O: ByteOut, E: ByteOut>(
     };
     let rows = match command {
         Command::Input => once_of_input(rt.alloc(), input, out),
-        Command::Once { topology, fragment } => once_of_files(rt, topology, fragment, out),
+        Command::Once {
+            topology,
+            fragments,
+        } => once_of_files(rt, topology, &fragments, out),
         Command::Explain { entry } => return tell_text(rt.alloc(), out, err, entry),
     };
     match rows {

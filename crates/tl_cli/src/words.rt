@@ -10,10 +10,10 @@ use std::alloc::Global;
 pub(crate) enum Command<'a> {
     /// No words: a topology and a fragment on standard input.
     Input,
-    /// The report of one fragment, from files.
+    /// The report of fragments, from files.
     Once {
         topology: &'a str,
-        fragment: &'a str,
+        fragments: Vec<&'a str>,
     },
     /// The entry of a rule or of a refusal.
     Explain {
@@ -34,16 +34,18 @@ fn once<'a>(alloc: Global) -> Result<clap::Command<'a>, Error> {
         "TOPO",
         "Path of the topology text, at most 1,048,576 bytes",
     );
-    let fragment = word(
+    let fragments = word(
         alloc,
         "FRAGMENT",
-        "Path of the fragment text, at most 8,388,608 bytes",
-    );
+        "Path of a fragment text, at most 8,388,608 bytes; each is one edit",
+    )
+    .action(ArgAction::Append)
+    .num_args(1..);
     let once = clap::Command::new(alloc, "once")
-        .about("Checks one fragment of a capture and writes the report")
+        .about("Checks the fragments of a capture together and writes the report")
         .after_help(ONCE_EXAMPLE)
         .arg(topology)?
-        .arg(fragment)?;
+        .arg(fragments)?;
     Ok(once)
 }
 
@@ -79,9 +81,9 @@ const ONCE_EXAMPLE: &str =
 const EXPLAIN_EXAMPLE: &str = "Examples: tlcheck explain P2, tlcheck explain 12";
 
 const HELP: &str =
-    "tlcheck once TOPO FRAGMENT checks one fragment of a capture, from two files: TOPO is a topology text \
-of at most 1,048,576 bytes, FRAGMENT a fragment text of at most 8,388,608 bytes.\n\
-Without words tlcheck reads both from standard input, the fragment right behind the topology, at most 67,108,864 bytes, \
+    "tlcheck once TOPO FRAGMENT.. checks the fragments of a capture together, from files: TOPO is a topology text \
+of at most 1,048,576 bytes, each FRAGMENT a fragment text of at most 8,388,608 bytes.\n\
+Without words tlcheck reads a topology and one fragment right behind it from standard input, at most 67,108,864 bytes, \
 and does as once.\n\n\
 Exit status: 0 no rule is broken, 1 the report has rows, 2 a fault, told on standard error as `tlcheck: CODE` \
 or `tlcheck: CODE NUMBER`; tlcheck explain CODE says more.\n\n\
@@ -114,8 +116,12 @@ pub(crate) fn read_words<'a>(alloc: Global, words: &'a [String]) -> Result<Comma
     if name == "explain" {
         return explained(alloc, &mut program, found);
     }
+    let mut fragments = Vec::new(alloc);
+    if let Some(paths) = found.get_strs("FRAGMENT") {
+        fragments.extend_from_slice(paths)?;
+    }
     Ok(Command::Once {
         topology: found.get_str("TOPO").unwrap_or(""),
-        fragment: found.get_str("FRAGMENT").unwrap_or(""),
+        fragments,
     })
 }

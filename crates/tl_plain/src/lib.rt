@@ -1,0 +1,6 @@
+//! Checking from the beginning: one pass over the beats of each manager.
+#![tactic(auto)]
+
+mod scratch;
+
+pub use scratch::scratch;

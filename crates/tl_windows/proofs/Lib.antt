@@ -1,0 +1,11 @@
+pub mod OrderLemmas
+pub mod PresentLemmas
+pub mod EntryLemmas
+pub mod PutLemmas
+pub mod CutLemmas
+pub mod GatherLemmas
+pub mod ShareLemmas
+pub mod NumberLemmas
+pub mod WalkLemmas
+pub mod EditLemmas
+pub mod LawLemmas

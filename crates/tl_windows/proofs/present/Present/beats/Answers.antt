@@ -1,0 +1,22 @@
+use Rattle.std.proofs.Common.{◌≡◌, ◌++◌, List, sym, ap, subst, ◌∙◌}
+use Rattle.std.proofs.lemmas.Result.{IfOk-weaker}
+use Rattle.tl_beats.specs.declared.Placed.{Placed}
+use Rattle.tl_definitions.specs.Positions.{Recorded, beats_of, beats_of_all, all_placed}
+use Rattle.tl_windows.specs.Present.{IsPresent, of_link}
+use Rattle.tl_windows.specs.Windows.{is_within, beats_within, beats_in, lies_in, AreBeatsOf}
+use Rattle.tl_windows.proofs.PresentLemmas.{ranges_of}
+use Rattle.tl_windows.proofs.LawLemmas.{whole, of_span, of_none, formed_of, formed_of_all, kept_of, own_beats}
+use Rattle.tl_windows.proofs.present.Present.beats.Goals as goal
+
+pub returns-clause-exact : goal.returns-clause-exact
+returns-clause-exact c =
+    let ps : List Placed = beats_of_all c.args.links.now c.args.self.now in
+    let is = ranges_of c.args.self.now (subst IsPresent c.self.view_is c.self.invariant.0) in
+    IfOk-weaker c.gather.result (λ beats. beats.items ≡ beats_within 0 18446744073709551615 ps) (λ beats. beats.items ≡ ps) (λ beats h. h ∙ whole ps (formed_of_all c.args.links.now c.args.self.now is)) c.gather.ensures
+
+pub returns-clause-kept : goal.returns-clause-kept
+returns-clause-kept c =
+    let ps : List Placed = beats_of_all c.args.links.now c.args.self.now in
+    let is = ranges_of c.args.self.now (subst IsPresent c.self.view_is c.self.invariant.0) in
+    IfOk-weaker c.gather.result (λ beats. beats.items ≡ beats_within 0 18446744073709551615 ps) (λ beats. AreBeatsOf c.args.links.now beats.items)
+    (λ beats h. subst (AreBeatsOf c.args.links.now) (sym h) (kept_of (is_within 0 18446744073709551615) c.args.links.now c.args.self.now is)) c.gather.ensures

@@ -1,0 +1,17 @@
+use Rattle.std.proofs.Common.{◌≡◌, ◌++◌, List, sym, ap, subst, ◌∙◌}
+use Rattle.std.proofs.lemmas.Result.{IfOk-weaker}
+use Rattle.tl_beats.specs.declared.Placed.{Placed}
+use Rattle.tl_definitions.specs.Positions.{Recorded, beats_of, beats_of_all, all_placed}
+use Rattle.tl_windows.specs.Present.{IsPresent, of_link}
+use Rattle.tl_windows.specs.Windows.{is_within, beats_within, beats_in, lies_in, AreBeatsOf}
+use Rattle.tl_windows.proofs.PresentLemmas.{ranges_of}
+use Rattle.tl_windows.proofs.LawLemmas.{whole, of_span, of_none, formed_of, formed_of_all, kept_of, own_beats}
+use Rattle.tl_windows.proofs.present.Present.link_beats.Goals as goal
+
+pub returns : goal.returns
+returns c =
+    let is = ranges_of c.args.self.now (subst IsPresent c.self.view_is c.self.invariant.0) in
+    let own = own_beats c.args.link c.args.self.now is in
+    c.in_ok-push_link.ensures ∙ ap (λ ps. ps ++ beats_within 0 18446744073709551615 (all_placed (of_link c.args.link c.self.inside.ranges))) c.new-beats.ensures.items
+    ∙ ap (λ fs. beats_within 0 18446744073709551615 (all_placed (of_link c.args.link fs))) c.self.view_is ∙ ap (beats_within 0 18446744073709551615) (sym own)
+    ∙ whole (beats_of c.args.link c.args.self.now) (formed_of c.args.link c.args.self.now is)

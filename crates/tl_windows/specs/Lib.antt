@@ -1,0 +1,5 @@
+pub mod Present
+pub mod Windows
+pub mod Spans
+pub mod Ranges
+pub mod Shares

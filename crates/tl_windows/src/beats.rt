@@ -1,0 +1,100 @@
+//! The beats of links, whole and of one window.
+
+ghost use Rattle.std.specs.Prelude.{◌≡◌, ◌≤◌, IfOk};
+ghost use Rattle.std.specs.List.Sorted.{IsStrictlySortedBy};
+ghost use Rattle.std.specs.Ordering.{nat_cmp};
+ghost use Rattle.tl_definitions.specs.Positions.{beats_of, beats_of_all};
+ghost use Rattle.tl_windows.specs.Windows.{beats_in, beats_within, AreBeatsOf, AreWindows};
+
+use crate::order::{in_order, sort_once};
+use crate::present::Present;
+use crate::span::span_of;
+use std::alloc::{AllocError, Global};
+use tl_beats::Placed;
+
+impl Present {
+    /// The beats of a link, in the order of its fragments. AllocError where memory is refused.
+    pub fn link_beats(&self, alloc: Global, link: u16) -> Result<Vec<Placed>, AllocError>
+        ensures { IfOk result (λ beats. beats.items ≡ beats_of link self.now) }
+    {
+        let mut beats = Vec::new(alloc);
+        self.ranges.push_link(0, u64::MAX, link, &mut beats)?;
+        Ok(beats)
+    }
+
+    /// The beats of a link in a window. AllocError where memory is refused.
+    pub fn link_beats_in(
+        &self,
+        alloc: Global,
+        window: u64,
+        link: u16,
+    ) -> Result<Vec<Placed>, AllocError>
+        ensures { IfOk result (λ beats. beats.items ≡ beats_in window (beats_of link self.now)) }
+    {
+        let _ = &self.ranges;
+        let mut beats = Vec::new(alloc);
+        let Some((from, to)) = span_of(window) else {
+            return Ok(beats);
+        };
+        self.ranges.push_link(from, to, link, &mut beats)?;
+        Ok(beats)
+    }
+
+    /// The beats of these links, whose numbers rise, in the order of positions. AllocError where memory is refused.
+    pub fn beats(&self, alloc: Global, links: &[u16]) -> Result<Vec<Placed>, AllocError>
+        requires { IsStrictlySortedBy nat_cmp links.now }
+        ensures exact { IfOk result (λ beats. beats.items ≡ beats_of_all links.now self.now) }
+        ensures kept { IfOk result (λ beats. AreBeatsOf links.now beats.items) }
+    {
+        let _ = &self.ranges;
+        self.gather(alloc, 0, u64::MAX, links)
+    }
+
+    /// The beats of these links, whose numbers rise, in a window, in the order of positions. AllocError where memory is refused.
+    pub fn beats_in(
+        &self,
+        alloc: Global,
+        window: u64,
+        links: &[u16],
+    ) -> Result<Vec<Placed>, AllocError>
+        requires { IsStrictlySortedBy nat_cmp links.now }
+        ensures exact { IfOk result (λ beats. beats.items ≡ beats_in window (beats_of_all links.now self.now)) }
+        ensures kept { IfOk result (λ beats. AreBeatsOf links.now beats.items) }
+    {
+        let _ = &self.ranges;
+        match span_of(window) {
+            Some((from, to)) => self.gather(alloc, from, to, links),
+            None => Ok(Vec::new(alloc)),
+        }
+    }
+
+    /// The windows in which one of these links has a beat, each once, rising. AllocError where memory is refused.
+    pub fn windows(&self, alloc: Global, links: &[u16]) -> Result<Vec<u64>, AllocError>
+        ensures { IfOk result (λ windows. AreWindows (beats_of_all links.now self.now) windows.items) }
+    {
+        let mut windows = Vec::new(alloc);
+        for link in links {
+            self.ranges.push_windows(*link, &mut windows)?;
+        }
+        Ok(sort_once(windows))
+    }
+
+    /// The beats of a span of these links, whose numbers rise.
+    fn gather(
+        &self,
+        alloc: Global,
+        from: u64,
+        to: u64,
+        links: &[u16],
+    ) -> Result<Vec<Placed>, AllocError>
+        requires order { from ≤ to }
+        requires links { IsStrictlySortedBy nat_cmp links.now }
+        ensures { IfOk result (λ beats. beats.items ≡ beats_within from to (beats_of_all links.now self.now)) }
+    {
+        let mut beats = Vec::new(alloc);
+        for link in links {
+            self.ranges.push_link(from, to, *link, &mut beats)?;
+        }
+        Ok(in_order(beats))
+    }
+}

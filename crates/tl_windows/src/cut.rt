@@ -1,0 +1,51 @@
+//! The beats of one fragment in a span of cycles.
+
+ghost use Rattle.std.specs.Prelude.{◌≡◌, ◌≤◌, ◌++◌, OnOk, length, true, false};
+ghost use Rattle.std.specs.List.{AllWithin};
+ghost use Rattle.tl_definitions.specs.Positions.{placed_beats};
+ghost use Rattle.tl_windows.specs.Present.{recorded};
+ghost use Rattle.tl_windows.specs.Spans.{holds};
+ghost use Rattle.tl_windows.specs.Windows.{beats_within};
+
+use std::alloc::AllocError;
+use tl_beats::{Fragment, Placed};
+
+/// From where to where the beats of a span stand in a fragment.
+pub(crate) fn bounds(fragment: &Fragment, from: u64, to: u64) -> (usize, usize)
+    requires { from ≤ to }
+    ensures order { result.0 ≤ result.1 }
+    ensures within { result.1 ≤ length fragment.now.beats }
+    ensures before { AllWithin (λ b. holds from to b ≡ false) fragment.now.beats 0 result.0 }
+    ensures between { AllWithin (λ b. holds from to b ≡ true) fragment.now.beats result.0 result.1 }
+    ensures behind { AllWithin (λ b. holds from to b ≡ false) fragment.now.beats result.1 (length fragment.now.beats) }
+{
+    let beats = fragment.beats();
+    let start = beats.partition_point(|beat| beat.cycle < from);
+    let end = beats.partition_point(|beat| beat.cycle <= to);
+    (start, end)
+}
+
+/// Puts the beats of a span of a fragment on this link behind others. AllocError where memory is refused.
+pub(crate) fn push_beats(
+    from: u64,
+    to: u64,
+    link: u16,
+    fragment: &Fragment,
+    beats: &mut Vec<Placed>,
+) -> Result<(), AllocError>
+    requires { from ≤ to }
+    ensures { OnOk result (beats.new.items ≡ beats.old.items ++ beats_within from to (placed_beats (recorded link fragment.now))) }
+{
+    let number = fragment.number();
+    let (start, end) = bounds(fragment, from, to);
+    let own = fragment.beats();
+    for index in start..end {
+        beats.push(Placed {
+            link,
+            fragment: number,
+            line: index as u32 + 2,
+            beat: own[index],
+        })?;
+    }
+    Ok(())
+}

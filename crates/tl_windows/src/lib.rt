@@ -1,0 +1,17 @@
+//! The fragments that are present on links at one moment, and the beats of their windows.
+#![tactic(auto)]
+
+mod beats;
+mod cut;
+mod edits;
+pub mod laws;
+mod order;
+mod present;
+mod ranges;
+mod shares;
+mod span;
+mod walks;
+
+pub use present::Present;
+pub use shares::windows_of;
+pub use span::window_of;

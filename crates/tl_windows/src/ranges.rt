@@ -1,0 +1,157 @@
+//! Fragments by link and range.
+
+ghost use Rattle.std.specs.Prelude.{◌≡◌, ◌≤◌, ◌++◌, [], IfOk, OnOk, OnErr, false, map, slice_get};
+ghost use Rattle.std.specs.Arc.{arc_value};
+ghost use Rattle.std.specs.List.{AllByRecursion, find};
+ghost use Rattle.std.specs.Option.{option_map};
+ghost use Rattle.tl_definitions.specs.Positions.{all_placed};
+ghost use Rattle.tl_windows.specs.Present.{recorded, of_link, overlapped, put_in, shares};
+ghost use Rattle.tl_windows.specs.Ranges.{ends_at, without_end};
+ghost use Rattle.tl_windows.specs.Shares.{windows_of_all};
+ghost use Rattle.tl_windows.specs.Windows.{beats_within};
+
+use crate::walks::{all_of_link, first_number, lowest_other, push_all_windows, push_span};
+use std::alloc::{AllocError, Global};
+use std::collections::BTreeMap;
+use std::marker::Model;
+use std::sync::Arc;
+use tl_beats::{Fragment, Placed};
+
+/// The fragments by the number of their link and the last cycle of their range, which are apart on each link.
+#[derive(Drop)]
+pub(crate) struct Ranges {
+    ends: BTreeMap<(u16, u64), Arc<Fragment>>,
+}
+
+impl Model for Ranges {
+    ghost use Rattle.std.specs.Prelude.{List, map};
+    ghost use Rattle.std.specs.Arc.{arc_value};
+    ghost use Rattle.tl_definitions.specs.Positions.{Recorded};
+    ghost use Rattle.tl_windows.specs.Ranges.{AreEntries, shown};
+
+    ghost Value = { List Recorded };
+
+    ghost view = { λ r. map (shown arc_value) r.ends.entries };
+
+    ghost invariant = { λ r. AreEntries arc_value r.ends.entries };
+}
+
+impl Ranges {
+    /// No fragments.
+    pub(crate) fn new(alloc: Global) -> Ranges
+        ensures { result ≡ [] }
+    {
+        Ranges {
+            ends: BTreeMap::new(alloc),
+        }
+    }
+
+    /// The fragment of a link whose range ends with this cycle.
+    pub(crate) fn at(&self, link: u16, last: u64) -> Option<&Arc<Fragment>>
+        ensures { option_map (λ f. recorded link (arc_value f.now)) result ≡ find (ends_at link last) self.now }
+    {
+        self.ends.get(&(link, last))
+    }
+
+    /// Puts a fragment on a link, whose range is free there.
+    pub(crate) fn insert(&mut self, link: u16, fragment: Arc<Fragment>) -> Result<(), AllocError>
+        requires { AllByRecursion (λ f. shares link (arc_value fragment).first (arc_value fragment).last f ≡ false) self.old }
+        ensures ok { OnOk result (self.new ≡ put_in (recorded link (arc_value fragment)) self.old) }
+        ensures err { OnErr result (self.new ≡ self.old) }
+    {
+        let _ = fragment.beats();
+        let last = fragment.last();
+        self.ends.insert((link, last), fragment)?;
+        Ok(())
+    }
+
+    /// Takes out the fragment of a link whose range ends with this cycle.
+    pub(crate) fn remove(&mut self, link: u16, last: u64) -> Option<Arc<Fragment>>
+        ensures value { option_map (λ f. recorded link (arc_value f)) result ≡ find (ends_at link last) self.old }
+        ensures rest { self.new ≡ without_end link last self.old }
+    {
+        self.ends.remove(&(link, last))
+    }
+
+    /// Puts a fragment in the place of the one whose range ends with this cycle. Its range is free of the others.
+    pub(crate) fn replace(
+        &mut self,
+        link: u16,
+        last: u64,
+        fragment: Arc<Fragment>,
+    ) -> Result<(), AllocError>
+        requires { AllByRecursion (λ f. shares link (arc_value fragment).first (arc_value fragment).last f ≡ false) (without_end link last self.old) }
+        ensures ok { OnOk result (self.new ≡ put_in (recorded link (arc_value fragment)) (without_end link last self.old)) }
+        ensures err { OnErr result (self.new ≡ self.old) }
+    {
+        let _ = fragment.beats();
+        let end = fragment.last();
+        self.ends.insert((link, end), fragment)?;
+        if end == last {
+            return Ok(());
+        }
+        self.ends.remove(&(link, last));
+        Ok(())
+    }
+
+    /// The lowest number of another fragment of the link that shares a cycle with this one.
+    pub(crate) fn overlapped(&self, link: u16, fragment: &Fragment) -> Option<u32>
+        ensures { result ≡ overlapped (recorded link fragment.now) self.now }
+    {
+        lowest_other(
+            &self.ends,
+            link,
+            fragment.first(),
+            fragment.last(),
+            fragment.number(),
+        )
+    }
+
+    /// Puts the beats of a span of a link behind others. AllocError where memory is refused.
+    pub(crate) fn push_link(
+        &self,
+        from: u64,
+        to: u64,
+        link: u16,
+        beats: &mut Vec<Placed>,
+    ) -> Result<(), AllocError>
+        requires { from ≤ to }
+        ensures { OnOk result (beats.new.items ≡ beats.old.items ++ beats_within from to (all_placed (of_link link self.now))) }
+    {
+        push_span(&self.ends, from, to, link, beats)
+    }
+
+    /// Puts the windows in which a fragment of a link has a beat behind others. AllocError where memory is refused.
+    pub(crate) fn push_windows(&self, link: u16, windows: &mut Vec<u64>) -> Result<(), AllocError>
+        ensures { OnOk result (windows.new.items ≡ windows.old.items ++ windows_of_all (of_link link self.now)) }
+    {
+        push_all_windows(&self.ends, link, windows)
+    }
+
+    /// The fragments of a link, in the order of their ranges, shared and not copied. AllocError where memory is refused.
+    pub(crate) fn fragments(
+        &self,
+        alloc: Global,
+        link: u16,
+    ) -> Result<Vec<Arc<Fragment>>, AllocError>
+        ensures { IfOk result (λ fragments. map (λ f. recorded link (arc_value f)) fragments.items ≡ of_link link self.now) }
+    {
+        all_of_link(alloc, &self.ends, link)
+    }
+
+    /// The number of the first fragment of a link.
+    pub(crate) fn first(&self, link: u16) -> Option<u32>
+        ensures { result ≡ option_map (λ f. f.number) (slice_get (of_link link self.now) 0) }
+    {
+        first_number(&self.ends, link)
+    }
+
+    /// The same fragments, shared and not copied. AllocError where memory is refused.
+    pub(crate) fn copy(&self) -> Result<Ranges, AllocError>
+        ensures { IfOk result (λ copy. copy ≡ self.now) }
+    {
+        Ok(Ranges {
+            ends: self.ends.clone()?,
+        })
+    }
+}

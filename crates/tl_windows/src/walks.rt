@@ -1,0 +1,120 @@
+//! Walks over the fragments of one link, in the order of their ranges.
+
+ghost use Rattle.std.specs.Prelude.{◌≡◌, ◌≤◌, ◌++◌, Some, IfOk, OnOk, map, min, slice_get};
+ghost use Rattle.std.specs.Arc.{arc_value};
+ghost use Rattle.std.specs.Option.{option_map, option_map_or};
+ghost use Rattle.tl_windows.specs.Present.{recorded, least};
+ghost use Rattle.tl_windows.specs.Ranges.{from_key, walked, span_beats, own_windows, itself, other_number, nowhere, begins_after};
+
+use crate::cut::push_beats;
+use crate::shares::push_windows;
+use std::alloc::{AllocError, Global};
+use std::collections::BTreeMap;
+use std::sync::Arc;
+use tl_beats::{Fragment, Placed};
+
+/// Fragments by the number of their link and the last cycle of their range.
+type Ends = BTreeMap<(u16, u64), Arc<Fragment>>;
+
+/// The lowest number of a fragment of a link, but this one, that has a cycle from the first to the last.
+pub(crate) fn lowest_other(
+    ends: &Ends,
+    link: u16,
+    first: u64,
+    last: u64,
+    number: u32,
+) -> Option<u32>
+    ensures { result ≡ least (walked arc_value (other_number number) (begins_after last) link (from_key arc_value link first ends.now.entries)) }
+{
+    let mut lowest = None;
+    for ((of, _), other) in ends.range((link, first)..) {
+        if *of != link {
+            return lowest;
+        }
+        if last < other.first() {
+            return lowest;
+        }
+        if other.number() != number {
+            lowest = lower(lowest, other.number());
+        }
+    }
+    lowest
+}
+
+/// The lower of a number and the lowest so far.
+fn lower(lowest: Option<u32>, number: u32) -> Option<u32>
+    ensures { result ≡ Some (option_map_or (min number) lowest number) }
+{
+    match lowest {
+        Some(lowest) => Some(number.min(lowest)),
+        None => Some(number),
+    }
+}
+
+/// Puts the beats of a span of a link behind others.
+pub(crate) fn push_span(
+    ends: &Ends,
+    from: u64,
+    to: u64,
+    link: u16,
+    beats: &mut Vec<Placed>,
+) -> Result<(), AllocError>
+    requires { from ≤ to }
+    ensures { OnOk result (beats.new.items ≡ beats.old.items ++ walked arc_value (span_beats from to) (begins_after to) link (from_key arc_value link from ends.now.entries)) }
+{
+    for ((of, _), fragment) in ends.range((link, from)..) {
+        if *of != link {
+            return Ok(());
+        }
+        if to < fragment.first() {
+            return Ok(());
+        }
+        push_beats(from, to, link, fragment, beats)?;
+    }
+    Ok(())
+}
+
+/// Puts the windows in which a fragment of a link has a beat behind others.
+pub(crate) fn push_all_windows(
+    ends: &Ends,
+    link: u16,
+    windows: &mut Vec<u64>,
+) -> Result<(), AllocError>
+    ensures { OnOk result (windows.new.items ≡ windows.old.items ++ walked arc_value own_windows nowhere link (from_key arc_value link 0 ends.now.entries)) }
+{
+    for ((of, _), fragment) in ends.range((link, 0)..) {
+        if *of != link {
+            return Ok(());
+        }
+        push_windows(fragment.beats(), windows)?;
+    }
+    Ok(())
+}
+
+/// The fragments of a link.
+pub(crate) fn all_of_link(
+    alloc: Global,
+    ends: &Ends,
+    link: u16,
+) -> Result<Vec<Arc<Fragment>>, AllocError>
+    ensures { IfOk result (λ fragments. map (λ f. recorded link (arc_value f)) fragments.items ≡ walked arc_value itself nowhere link (from_key arc_value link 0 ends.now.entries)) }
+{
+    let mut fragments = Vec::new(alloc);
+    for ((of, _), fragment) in ends.range((link, 0)..) {
+        if *of != link {
+            return Ok(fragments);
+        }
+        fragments.push(fragment.clone()?)?;
+    }
+    Ok(fragments)
+}
+
+/// The number of the first fragment of a link.
+pub(crate) fn first_number(ends: &Ends, link: u16) -> Option<u32>
+    ensures { result ≡ option_map (λ f. f.number) (slice_get (walked arc_value itself nowhere link (from_key arc_value link 0 ends.now.entries)) 0) }
+{
+    match ends.range((link, 0)..).next() {
+        Some(((of, _), fragment)) if *of == link => Some(fragment.number()),
+        _ => None,
+    }
+}

@@ -1,6 +1,6 @@
 //! Checking from the beginning: one pass over the beats of each manager.
 #![tactic(auto)]
 
-mod scratch;
+mod checking;
 
-pub use scratch::scratch;
+pub use checking::scratch;

@@ -2,6 +2,7 @@
 
 use crate::topologies::ONE_MANAGER;
 use std::alloc::Global;
+use std::sync::Arc;
 use std::test::Fail;
 use tl_beats::parse_whole_fragment;
 use tl_cli::{OnceFault, Report, report_text, run_once};
@@ -14,9 +15,10 @@ fn once(alloc: Global, link: &str, beats: &str) -> Result<(Vec<u8>, Result<u64, 
     let (topo, _) = read_topo(alloc, ONE_MANAGER.as_bytes())?;
     let text = format!(in alloc; "fragment {link} 1 0 99999\n{beats}end\n")?;
     let fragment = parse_whole_fragment(alloc, text.as_bytes())?;
+    let fragments = vec![in alloc; Arc::new(alloc, fragment)?]?;
     let mut written = Vec::new(alloc);
     let mut out = CountedWriter::new(&mut written);
-    let answer = run_once(alloc, &topo, fragment, &mut out);
+    let answer = run_once(alloc, &topo, &fragments, &mut out);
     Ok((written, answer))
 }
 

@@ -4,7 +4,7 @@ use Rattle.std.specs.List.{Contains}
 use Rattle.tl_beats.specs.declared.Row.{Row}
 use Rattle.tl_definitions.specs.Captures.{captures_from, captures_of, no_regions}
 use Rattle.tl_definitions.specs.Report.{FindsIn}
-use Rattle.tl_plain.proofs.scratch.scratch.Given as goal
+use Rattle.tl_plain.proofs.checking.scratch.Given as goal
 
 -- what is found so far and what the managers that are left find are all
 abbrev pub invariant-loop-manager : goal.invariant-loop-manager

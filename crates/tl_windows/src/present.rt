@@ -1,9 +1,9 @@
 //! The fragments that are present on links at one moment.
 
-ghost use Rattle.std.specs.Prelude.{◌≡◌, [], IfOk, map};
+ghost use Rattle.std.specs.Prelude.{◌≡◌, ◌==◌, length, [], IfOk, map};
 ghost use Rattle.std.specs.Arc.{arc_value};
 ghost use Rattle.std.specs.Option.{option_map};
-ghost use Rattle.tl_windows.specs.Present.{recorded, numbered, of_link, overlapped};
+ghost use Rattle.tl_windows.specs.Present.{recorded, numbered, of_link, overlapped, IsPresent};
 
 use crate::ranges::Ranges;
 use std::alloc::{AllocError, Global};
@@ -44,6 +44,16 @@ impl Present {
             ranges: Ranges::new(alloc),
             numbers: BTreeMap::new(alloc),
         }
+    }
+
+    /// Whether no fragment is present.
+    pub fn is_empty(&self) -> bool
+        ensures exact { result ≡ (length self.now == 0) }
+        // Each is a fragment's, and no two of one link share a number or a cycle.
+        ensures kept { IsPresent self.now }
+    {
+        let _ = &self.numbers;
+        self.ranges.is_empty()
     }
 
     /// The fragment of a link with a number, if one is there.

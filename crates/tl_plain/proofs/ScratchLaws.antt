@@ -1,5 +1,11 @@
 -- One manager more.
-use Rattle.std.proofs.Common.{◌≡◌, ℕ, ◌⊎◌, inl, inr, List, [], ◌∷◌, ◌++◌, refl, sym, ap, subst, ◌∙◌}
+use Rattle.std.proofs.Common.{◌≡◌, ℕ, suc, ◌+◌, ◌<◌, ◌≤◌, ◌⊎◌, inl, inr, List, [], ◌∷◌, ◌++◌, length, drop, get_or, refl, sym, ap, subst, ◌∙◌, arith}
+use Rattle.std.proofs.Math.ListN.{drop_of_length-le}
+use Rattle.std.proofs.Math.Seq.{drop-cons}
+use Rattle.tl_topology.specs.Topology.{Topology}
+use Rattle.tl_definitions.specs.Captures.{captures_from, captures_of, no_regions}
+use Rattle.tl_definitions.specs.Positions.{Recorded}
+use Rattle.tl_plain.proofs.CaptureLaws.{capture_at}
 use Rattle.std.specs.Prelude.{◌↔◌}
 use Rattle.std.specs.List.{Contains}
 use Rattle.std.proofs.lemmas.List.Elements.{Contains-append_left, Contains-append_right, Contains-append_cases}
@@ -67,3 +73,22 @@ first_manager cs row = (λ h. elim h [ inl none ↦ absurd (contains_none row no
 
 pub last_manager : (rows : List Row) (row : Row) (All : Type 0) → ((Contains rows row ⊎ FindsIn [] row) ↔ All) → (Contains rows row ↔ All)
 last_manager rows row All known = (λ h. known.0 (inl h), λ a. elim (known.1 a) [ inl h ↦ h | inr none ↦ absurd (finds_none row none) ])
+
+-- ---- the managers that are left
+
+pub one_less : (topo : Topology) (fs : List Recorded) (k : ℕ) → k < length topo.managers → (row : Row) (rows : List Row)
+    → ((Contains rows row ⊎ FindsIn (captures_from topo no_regions fs k (drop k topo.managers)) row) ↔ FindsIn (captures_of topo no_regions fs) row)
+    → ((Contains rows row ⊎ FindsIn (capture_at topo fs k ∷ captures_from topo no_regions fs (k + 1) (drop (k + 1) topo.managers)) row) ↔ FindsIn (captures_of topo no_regions fs) row)
+one_less topo fs k below row rows known =
+    let next : k + 1 ≡ suc k = omega arith in
+    let first : drop k topo.managers ≡ get_or topo.managers k ([], 0) ∷ drop (k + 1) topo.managers = drop-cons topo.managers k ([], 0) below ∙ ap (λ n. get_or topo.managers k ([], 0) ∷ drop n topo.managers) (sym next) in
+    subst (λ (managers : List (List ℕ × ℕ)). (Contains rows row ⊎ FindsIn (captures_from topo no_regions fs k managers) row) ↔ FindsIn (captures_of topo no_regions fs) row) first known
+
+pub all_found : (topo : Topology) (fs : List Recorded) (k : ℕ) (rows sorted : List Row) → length topo.managers ≤ k
+    → ((row : Row) → (Contains rows row ⊎ FindsIn (captures_from topo no_regions fs k (drop k topo.managers)) row) ↔ FindsIn (captures_of topo no_regions fs) row)
+    → ((row : Row) → Contains sorted row ↔ Contains rows row) → (row : Row) → Contains sorted row ↔ FindsIn (captures_of topo no_regions fs) row
+all_found topo fs k rows sorted past known same row =
+    let none : drop k topo.managers ≡ [] = drop_of_length-le topo.managers past in
+    let all = last_manager rows row (FindsIn (captures_of topo no_regions fs) row)
+        (subst (λ (managers : List (List ℕ × ℕ)). (Contains rows row ⊎ FindsIn (captures_from topo no_regions fs k managers) row) ↔ FindsIn (captures_of topo no_regions fs) row) none (known row)) in
+    (λ h. all.0 ((same row).0 h), λ found. (same row).1 (all.1 found))

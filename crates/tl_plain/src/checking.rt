@@ -40,6 +40,7 @@ pub fn scratch(alloc: Global, topo: &Topo, present: &Present) -> Result<Vec<Row>
     ensures report { IfOk result (λ rows. IsReport (captures_of topo.now no_regions present.now) rows.items) }
     ensures links { IfOk result (λ rows. All (λ row. row.link < length topo.now.links) rows.items) }
 {
+    let _ = present.is_empty();
     let mut rows = Vec::new(alloc);
     for manager in 0..topo.manager_count() {
         let found = manager_rows(alloc, topo, present, manager as u16)?;

@@ -3,6 +3,7 @@
 ghost use Rattle.std.specs.Prelude.{◌≡◌};
 
 use crate::once::OnceFault;
+use std::alloc::AllocFailed;
 use std::fmt;
 use tl_beats::FragmentFault;
 use tl_text::TextFault;
@@ -44,6 +45,16 @@ impl fmt::Display for Fault {
             Some(number) => write!(f, "tlcheck: {code} {number}"),
             None => write!(f, "tlcheck: {code}"),
         }
+    }
+}
+
+impl<T: Drop> From<AllocFailed<T>> for Fault {
+    ghost use Rattle.std.specs.Prelude.{None};
+
+    ghost from_gives = { λ _ fault. fault ≡ record { code = 20; number = None } };
+
+    fn from(_error: AllocFailed<T>) -> Fault {
+        Fault::MEMORY
     }
 }
 

@@ -1,7 +1,5 @@
 //! Fragments that come, are replaced and go. Each call with ample memory.
 
-ghost use Rattle.std.specs.Prelude.{◌≡◌, IfOk};
-
 use std::alloc::Global;
 use std::sync::Arc;
 use std::test::Fail;

@@ -1,6 +1,6 @@
 -- The two maps after an edit.
-use Rattle.std.proofs.Common.{◌≡◌, ℕ, Bool, true, false, cond, not, ◌&&◌, List, [], ◌∷◌, Option, Some, None, refl, sym, ap, subst, ◌∙◌, arith}
-use Rattle.std.specs.Prelude.{map, ◌==◌, is_some}
+use Rattle.std.proofs.Common.{◌≡◌, ℕ, true, false, cond, not, ◌&&◌, List, Option, Some, None, refl, sym, ap, subst, ◌∙◌, arith}
+use Rattle.std.specs.Prelude.{◌==◌}
 use Rattle.std.specs.Option.{option_map}
 use Rattle.std.specs.BTreeMap.{is_at}
 use Rattle.std.specs.Map.{lookup}

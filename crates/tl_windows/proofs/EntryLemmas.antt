@@ -1,22 +1,22 @@
 -- Fragments as entries of a map, by link and end of range.
-use Rattle.std.proofs.Common.{◌≡◌, ℕ, ◌<◌, ◌≤◌, inl, inr, Bool, true, false, true≢false, cond, not, ◌&&◌, List, [], ◌∷◌, ◌++◌, refl, sym, ap, subst, ◌∙◌, arith}
+use Rattle.std.proofs.Common.{◌≡◌, ℕ, ◌<◌, ◌≤◌, inl, inr, Bool, true, false, cond, not, ◌&&◌, List, [], ◌∷◌, ◌++◌, refl, sym, ap, subst, ◌∙◌, arith}
 use Rattle.std.specs.Prelude.{filter, map, ◌==◌, nat_lt, nat_le}
 use Rattle.std.specs.declared.cmp.Ordering.{Ordering}
 use Rattle.std.specs.declared.cmp.Ordering.TheVariants.{Less, Equal, Greater}
 use Rattle.std.specs.Ordering.{nat_cmp, ordering_then, ordering_reverse, match_ordering, is_eq, is_lt, is_le}
-use Rattle.std.specs.Cmp.{IsTotalOrder, nat_cmp_is}
+use Rattle.std.specs.Cmp.{IsTotalOrder}
 use Rattle.std.specs.FinMap.{nat_cmp-IsAntisymmetric}
 use Rattle.std.specs.BTreeMap.{insert_entry, is_at}
 use Rattle.std.specs.Map.{keys_of, remove_entry}
-use Rattle.std.specs.List.{Contains, All, AllByRecursion}
+use Rattle.std.specs.List.{Contains, AllByRecursion}
 use Rattle.std.specs.List.Sorted.{IsStrictlySortedBy}
 use Rattle.std.proofs.lemmas.Bool.Decides.{nat_tests}
-use Rattle.std.proofs.lemmas.Cmp.{then_total, on_total, nat_cmp_total, tied_itself}
-use Rattle.std.proofs.lemmas.List.Elements.{All-head, All-tail, All-contains}
+use Rattle.std.proofs.lemmas.Cmp.{then_total, on_total, nat_cmp_total}
+use Rattle.std.proofs.lemmas.List.Elements.{All-head, All-contains}
 use Rattle.tl_beats.specs.Fragments.{Frag}
 use Rattle.tl_definitions.specs.Positions.{Recorded}
 use Rattle.tl_definitions.proofs.Lists.{contains_here, contains_there, none_kept, kept_from, all_of, all_by}
-use Rattle.tl_definitions.proofs.OrderLaws.{then_less, tie_then_less, tied, below}
+use Rattle.tl_definitions.proofs.OrderLaws.{then_less, tied, below}
 use Rattle.tl_windows.specs.Present.{range_order, of_link, put_in, shares, IsCapture}
 use Rattle.tl_windows.specs.Ranges.{Key, key_cmp, AreRanges, ends_at, without_end, shown, AreKeyed, AreEntries, from_key, walked}
 use Rattle.tl_windows.proofs.PresentLemmas.{less_cases, less_is, ranges_tail}

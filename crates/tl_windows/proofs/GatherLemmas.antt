@@ -11,9 +11,9 @@ use Rattle.std.proofs.lemmas.List.Kept.{IsStrictlySortedBy-filter}
 use Rattle.std.proofs.lemmas.List.Sorted.{Contains-permutation, IsPermutation-sym}
 use Rattle.tl_beats.specs.declared.Placed.{Placed}
 use Rattle.tl_definitions.specs.Positions.{Recorded, placed_beats, all_placed, position_order, AreInOrder, beats_of_all}
-use Rattle.tl_definitions.proofs.Lists.{contains_none, contains_here, contains_there, contains_cases, contains_kept, kept_from, all_of}
+use Rattle.tl_definitions.proofs.Lists.{contains_none, contains_here, contains_there, contains_kept, kept_from, all_of}
 use Rattle.tl_definitions.proofs.OrderLaws.{then_less, below}
-use Rattle.tl_definitions.proofs.PositionLaws.{beats_are_in_order, position_total, positions_are_ordered}
+use Rattle.tl_definitions.proofs.PositionLaws.{beats_are_in_order, position_total}
 use Rattle.tl_definitions.proofs.RisingLaws.{strict_both}
 use Rattle.tl_definitions.proofs.ReportLaws.{strict_one}
 use Rattle.tl_windows.specs.Ranges.{AreRanges}

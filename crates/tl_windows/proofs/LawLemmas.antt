@@ -1,11 +1,13 @@
 -- Windows and links of a manager's beats.
 use Rattle.std.proofs.Common.{◌≡◌, ℕ, ◌<◌, ◌≤◌, ◌+◌, ◌^◌, inl, inr, Bool, true, false, cond, ◌&&◌, List, [], ◌∷◌, ◌++◌, get_or, refl, sym, ap, subst, ◌∙◌, arith}
-use Rattle.std.specs.Prelude.{filter, ◌==◌, ◌||◌, ◌↔◌, nat_lt, nat_le}
+use Rattle.std.specs.Prelude.{filter, reverse, ◌==◌, ◌↔◌, nat_lt, nat_le}
 use Rattle.std.specs.declared.cmp.Ordering.{Ordering}
 use Rattle.std.specs.declared.cmp.Ordering.TheVariants.{Less}
 use Rattle.std.specs.Ordering.{nat_cmp, ordering_then}
-use Rattle.tl_tables.specs.Messages.{chan_number}
-use Rattle.std.specs.List.{All, AllByRecursion, Contains, list_any}
+use Rattle.tl_tables.specs.declared.Chan.{Chan}
+use Rattle.tl_tables.specs.Messages.{chan_number, same_chan}
+use Rattle.tl_definitions.specs.Heads.{before_on}
+use Rattle.std.specs.List.{AllByRecursion, Contains, list_any}
 use Rattle.std.specs.List.Sorted.{IsStrictlySortedBy}
 use Rattle.std.proofs.lemmas.Bool.Decides.{nat_tests}
 use Rattle.std.proofs.lemmas.List.Elements.{All-contains, Contains-get_or, Contains-append_left, Contains-append_right, Contains-append_cases}
@@ -16,21 +18,21 @@ use Rattle.tl_beats.specs.Fragments.{AreBeats}
 use Rattle.tl_beats.specs.declared.Beat.{Beat}
 use Rattle.tl_beats.specs.declared.Placed.{Placed}
 use Rattle.tl_definitions.specs.Positions.{Recorded, placed_from, placed_beats, all_placed, by_range, insert_by_range, position_order, beats_of, beats_of_all, clients_from}
-use Rattle.tl_definitions.proofs.Lists.{contains_none, contains_here, contains_there, contains_cases, contains_kept, kept_from, none_kept, all_of, all_by}
+use Rattle.tl_definitions.proofs.Lists.{contains_none, contains_here, contains_there, contains_cases, contains_kept, kept_from, none_kept, all_of, all_by, onto, onto_reverse}
 use Rattle.tl_definitions.proofs.OrderLaws.{then_less, tie_then_less, tied, below}
 use Rattle.tl_definitions.proofs.PositionLaws.{beats_are_in_order, beats_are_of_fragments, position_total, positions_are_ordered}
 use Rattle.tl_definitions.proofs.RisingLaws.{strict_both}
 use Rattle.tl_definitions.proofs.ReportLaws.{strict_one}
-use Rattle.tl_windows.specs.Present.{IsCapture, IsPresent, of_link, range_order}
+use Rattle.tl_windows.specs.Present.{IsCapture, of_link, range_order}
 use Rattle.tl_windows.specs.Ranges.{AreRanges}
 use Rattle.tl_windows.specs.Spans.{IsSpan}
 use Rattle.tl_windows.specs.Shares.{windows_from, windows_of_all}
-use Rattle.tl_windows.specs.Windows.{window_of, lies_in, beats_in, is_within, beats_within, HasBeat, AreWindows, AreBeatsOf, joined, WindowsAreWhole, LinksAreKept, OneLinkIsItsOwn, ClientsRise}
+use Rattle.tl_windows.specs.Windows.{window_of, lies_in, beats_in, is_within, beats_within, HasBeat, AreWindows, AreBeatsOf, joined, WindowsAreWhole, LinksAreKept, ChannelsAreKept, OneLinkIsItsOwn, ClientsRise}
 use Rattle.tl_windows.proofs.OrderLemmas.{link_order}
-use Rattle.tl_windows.proofs.PresentLemmas.{placed_at, beats_rise, placed_is_of, placed_from_some, some_placed, less_cases, less_is, ranges_of, ranges_tail, ranges_kept, placed_strict}
+use Rattle.tl_windows.proofs.PresentLemmas.{placed_at, beats_rise, placed_is_of, placed_from_some, less_cases, less_is, ranges_of, ranges_tail, ranges_kept, placed_strict}
 use Rattle.tl_windows.proofs.EntryLemmas.{all_kept, tie_then}
 use Rattle.tl_windows.proofs.NumberLemmas.{same_kept}
-use Rattle.tl_windows.proofs.GatherLemmas.{link_of_any, or_left, or_right, of_links}
+use Rattle.tl_windows.proofs.GatherLemmas.{link_of_any, or_left, or_right}
 use Rattle.tl_windows.proofs.ShareLemmas.{are_windows}
 use Rattle.tl_windows.proofs.ShareLemmas.{from_rise as windows_strict}
 
@@ -158,6 +160,31 @@ one_link_is_its_own link fs is =
     let there : found.0.link ≡ link = elim (contains_cases link [] found.0.link (link_of_any (link ∷ []) found.0.link found.2)) [ inl e ↦ sym e | inr r ↦ absurd (contains_none found.0.link r) ] in
     let same : p.link ≡ link = here ∙ there in grind (arith, nat_tests)))
     ∙ links_are_kept (link ∷ []) fs link is (contains_here link [])
+
+-- ---- the beats of one channel of a link
+
+on_one : (link : ℕ) (chan : Chan) (ps : List Placed) → before_on link chan (filter (λ (p : Placed). p.link == link) ps) ≡ before_on link chan ps
+on_one link chan [] = refl
+on_one link chan (p ∷ ps) =
+    let own : List Placed = filter (λ (q : Placed). q.link == link) ps in
+    elim (p.link == link) as (λ t. (p.link == link) ≡ t → before_on link chan (cond t (p ∷ own) own) ≡ cond (t && same_chan p.beat.chan chan) (p.beat ∷ before_on link chan ps) (before_on link chan ps)) [
+      | true ↦ λ e. ap (λ t. cond (t && same_chan p.beat.chan chan) (p.beat ∷ before_on link chan own) (before_on link chan own)) e
+          ∙ ap (λ bs. cond (same_chan p.beat.chan chan) (p.beat ∷ bs) bs) (on_one link chan ps)
+      | false ↦ λ e. on_one link chan ps
+    ] refl
+
+kept_onto : {X : Type 0} (p : X → Bool) (before xs : List X) → filter p (onto before xs) ≡ onto (filter p before) (filter p xs)
+kept_onto p before [] = refl
+kept_onto p before (x ∷ xs) = kept_onto p (x ∷ before) xs
+    ∙ elim (p x) as (λ t. onto (cond t (x ∷ filter p before) (filter p before)) (filter p xs) ≡ onto (filter p before) (cond t (x ∷ filter p xs) (filter p xs))) [ true ↦ refl | false ↦ refl ]
+
+kept_reverse : {X : Type 0} (p : X → Bool) (xs : List X) → filter p (reverse xs) ≡ reverse (filter p xs)
+kept_reverse p xs = ap (filter p) (sym (onto_reverse [] xs)) ∙ kept_onto p [] xs ∙ onto_reverse [] (filter p xs)
+
+pub channels_are_kept : ChannelsAreKept
+channels_are_kept links fs link chan is has =
+    sym (on_one link chan (reverse (beats_of_all links fs))) ∙ ap (before_on link chan) (kept_reverse (λ (p : Placed). p.link == link) (beats_of_all links fs))
+    ∙ ap (λ ps. before_on link chan (reverse ps)) (links_are_kept links fs link is has)
 
 -- ---- the links of a manager
 

@@ -1,17 +1,17 @@
 -- A fragment that comes among others, and what is left where one goes.
-use Rattle.std.proofs.Common.{◌≡◌, ℕ, ◌<◌, ◌≤◌, ◌⊎◌, inl, inr, Bool, true, false, cond, not, ◌&&◌, List, [], ◌∷◌, Option, Some, None, refl, sym, ap, subst, ◌∙◌, arith}
-use Rattle.std.specs.Prelude.{filter, map, ◌==◌, nat_lt, nat_le}
+use Rattle.std.proofs.Common.{◌≡◌, ℕ, ◌<◌, ◌≤◌, ◌⊎◌, inl, inr, true, false, cond, not, ◌&&◌, List, [], ◌∷◌, Some, refl, sym, ap, subst, ◌∙◌, arith}
+use Rattle.std.specs.Prelude.{map, ◌==◌, nat_lt}
 use Rattle.std.specs.Option.{option_map}
 use Rattle.std.specs.declared.cmp.Ordering.{Ordering}
 use Rattle.std.specs.declared.cmp.Ordering.TheVariants.{Less, Equal, Greater}
-use Rattle.std.specs.Ordering.{nat_cmp, ordering_then, is_lt}
+use Rattle.std.specs.Ordering.{nat_cmp, is_lt}
 use Rattle.std.specs.FinMap.{nat_cmp-IsAntisymmetric}
 use Rattle.std.specs.BTreeMap.{insert_entry, is_at}
 use Rattle.std.specs.Map.{keys_of, lookup, remove_entry}
-use Rattle.std.specs.List.{Contains, All, AllByRecursion, AllZip, find}
+use Rattle.std.specs.List.{Contains, AllByRecursion, AllZip, find}
 use Rattle.std.specs.List.Sorted.{IsStrictlySortedBy}
 use Rattle.std.proofs.lemmas.Bool.Decides.{nat_tests}
-use Rattle.std.proofs.lemmas.List.Elements.{All-nil, All-cons, All-head, All-tail, All-contains}
+use Rattle.std.proofs.lemmas.List.Elements.{All-nil, All-cons, All-head}
 use Rattle.tl_beats.specs.declared.Beat.{Beat}
 use Rattle.tl_beats.specs.Fragments.{Frag, AreBeats}
 use Rattle.tl_definitions.specs.Positions.{Recorded}
@@ -20,7 +20,7 @@ use Rattle.tl_definitions.proofs.OrderLaws.{then_less, tie_then_less, tied, belo
 use Rattle.tl_windows.specs.Present.{recorded, range_order, put_in, shares, IsCapture}
 use Rattle.tl_windows.specs.Ranges.{Key, key_cmp, AreRanges, ends_at, without_end, shown, AreKeyed, AreEntries}
 use Rattle.tl_windows.proofs.PresentLemmas.{less_cases, less_is, ranges_tail, ranges_kept}
-use Rattle.tl_windows.proofs.EntryLemmas.{at_ends, shown_insert, shown_remove, swapped, over, keyed_insert, keyed_remove, entries_tail}
+use Rattle.tl_windows.proofs.EntryLemmas.{at_ends, shown_insert, shown_remove, swapped, over, keyed_insert, keyed_remove}
 
 range_less : (f g : Recorded) → f.link < g.link → range_order f g ≡ Less
 range_less f g lt = then_less (nat_cmp f.link g.link) (nat_cmp f.last g.first) (below f.link g.link lt)

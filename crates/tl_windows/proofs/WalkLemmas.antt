@@ -1,18 +1,16 @@
 -- Walks over the fragments of one link.
-use Rattle.std.proofs.Common.{◌≡◌, ℕ, ◌<◌, ◌≤◌, Bool, true, false, cond, not, ◌&&◌, List, [], ◌∷◌, ◌++◌, Option, Some, None, Bor, refl, sym, ap, ◌∙◌, arith, append_assoc, append-nil}
+use Rattle.std.proofs.Common.{◌≡◌, ℕ, ◌≤◌, Bool, true, false, cond, not, ◌&&◌, List, [], ◌∷◌, ◌++◌, Option, Some, None, Bor, refl, sym, ap, ◌∙◌, arith}
 use Rattle.std.specs.Prelude.{filter, map, min, ◌==◌, nat_lt, nat_le}
 use Rattle.std.specs.Option.{option_map, option_map_or, option_copied}
-use Rattle.std.specs.List.{Contains}
 use Rattle.std.proofs.lemmas.Bool.Decides.{nat_tests}
 use Rattle.std.proofs.lemmas.List.Elements.{All-contains}
 use Rattle.tl_beats.specs.declared.Beat.{Beat}
-use Rattle.tl_beats.specs.declared.Placed.{Placed}
 use Rattle.tl_beats.specs.Fragments.{Frag}
 use Rattle.tl_definitions.specs.Positions.{Recorded, placed_beats, all_placed}
 use Rattle.tl_definitions.proofs.Lists.{none_kept, kept_of_both}
-use Rattle.tl_windows.specs.Present.{recorded, IsCapture, of_link, shares, least, overlapped}
+use Rattle.tl_windows.specs.Present.{IsCapture, of_link, shares, least}
 use Rattle.tl_windows.specs.Windows.{is_within, beats_within}
-use Rattle.tl_windows.specs.Shares.{windows_from, windows_of_all}
+use Rattle.tl_windows.specs.Shares.{windows_of_all}
 use Rattle.tl_windows.specs.Ranges.{Key, AreEntries, shown, from_key, walked, span_beats, own_windows, itself, other_number, nowhere, begins_after}
 use Rattle.tl_windows.proofs.PresentLemmas.{placed_is_of}
 use Rattle.tl_windows.proofs.EntryLemmas.{Tells, read_all, walk_tells}

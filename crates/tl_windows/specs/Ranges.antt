@@ -1,5 +1,5 @@
 -- The fragments as a map by link and end of range.
-use Rattle.std.specs.Prelude.{ℕ, ◌≡◌, ◌==◌, ◌&&◌, not, nat_lt, Bool, Option, List, [], ◌∷◌, ◌++◌, if◌then◌else◌, map, filter, false}
+use Rattle.std.specs.Prelude.{ℕ, ◌≡◌, ◌==◌, ◌&&◌, not, nat_lt, Bool, List, [], ◌∷◌, ◌++◌, if◌then◌else◌, map, filter, false}
 use Rattle.std.specs.Option.{option_map}
 use Rattle.std.specs.List.{All, AllByRecursion}
 use Rattle.std.specs.List.Sorted.{IsStrictlySortedBy}

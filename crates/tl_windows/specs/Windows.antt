@@ -1,11 +1,13 @@
 -- Windows: window k holds the cycles from 4096 * k on, 4096 of them.
-use Rattle.std.specs.Prelude.{ℕ, ◌≡◌, ◌/◌, ◌==◌, ◌&&◌, ◌↔◌, nat_le, Bool, List, [], ◌∷◌, ◌++◌, filter}
+use Rattle.std.specs.Prelude.{ℕ, ◌≡◌, ◌/◌, ◌==◌, ◌&&◌, ◌↔◌, nat_le, Bool, List, [], ◌∷◌, ◌++◌, filter, reverse}
 use Rattle.std.specs.List.{All, Contains}
 use Rattle.std.specs.List.Sorted.{IsStrictlySortedBy}
 use Rattle.std.specs.Ordering.{nat_cmp}
+use Rattle.tl_tables.specs.declared.Chan.{Chan}
 use Rattle.tl_topology.specs.declared.LinkDecl.{LinkDecl}
 use Rattle.tl_beats.specs.Beats.{IsWellFormed}
 use Rattle.tl_beats.specs.declared.Placed.{Placed}
+use Rattle.tl_definitions.specs.Heads.{before_on}
 use Rattle.tl_definitions.specs.Positions.{Recorded, position_order, beats_of, beats_of_all, clients_of}
 use Rattle.tl_windows.specs.Present.{IsPresent}
 
@@ -56,6 +58,11 @@ WindowsAreWhole = (links : List ℕ) (fs : List Recorded) (windows : List ℕ) �
 abbrev pub LinksAreKept : Type 0
 LinksAreKept = (links : List ℕ) (fs : List Recorded) (link : ℕ) → IsPresent fs → Contains links link
     → filter (λ p. p.link == link) (beats_of_all links fs) ≡ beats_of link fs
+
+-- So the beats of a channel of a link, the newest first, are the same in both.
+abbrev pub ChannelsAreKept : Type 0
+ChannelsAreKept = (links : List ℕ) (fs : List Recorded) (link : ℕ) (chan : Chan) → IsPresent fs → Contains links link
+    → before_on link chan (reverse (beats_of_all links fs)) ≡ before_on link chan (reverse (beats_of link fs))
 
 -- One link alone has its own list.
 abbrev pub OneLinkIsItsOwn : Type 0

@@ -1,6 +1,6 @@
 //! What follows for windows and links.
 
-ghost use Rattle.tl_windows.specs.Windows.{WindowsAreWhole, LinksAreKept, OneLinkIsItsOwn, ClientsRise};
+ghost use Rattle.tl_windows.specs.Windows.{WindowsAreWhole, LinksAreKept, ChannelsAreKept, OneLinkIsItsOwn, ClientsRise};
 
 /// The beats of the windows that have one, one behind the other, are all beats.
 pub fn windows_are_whole()
@@ -10,6 +10,11 @@ pub fn windows_are_whole()
 /// The list of a manager's beats has of each of its links that link's own list.
 pub fn links_are_kept()
     ensures { LinksAreKept }
+{}
+
+/// The beats of a channel of a link, the newest first, are those of the link's own list.
+pub fn channels_are_kept()
+    ensures { ChannelsAreKept }
 {}
 
 /// The list of one link alone is its own.

@@ -1,4 +1,4 @@
-use Rattle.std.proofs.Common.{◌≡◌, sym, ap, subst, ◌∙◌}
+use Rattle.std.proofs.Common.{sym, ap, subst, ◌∙◌}
 use Rattle.std.proofs.Common.{◌++◌}
 use Rattle.tl_beats.specs.Fragments.{AreBeats}
 use Rattle.tl_definitions.specs.Positions.{placed_beats}

@@ -1,4 +1,4 @@
-use Rattle.std.proofs.Common.{◌≡◌, sym, ap, ◌∙◌, subst, length, ◌<◌}
+use Rattle.std.proofs.Common.{sym, ap, ◌∙◌, subst, length, ◌<◌}
 use Rattle.tl_definitions.specs.Positions.{Recorded}
 use Rattle.std.specs.Prelude.{slice_get}
 use Rattle.std.specs.Option.{option_map}

@@ -1,7 +1,7 @@
 use Rattle.std.proofs.Common.{◌≡◌, ◌++◌, ◌≤◌, List, length, sym, ap, subst, ◌∙◌, arith, append-nil, drop_of_length-le}
-use Rattle.tl_definitions.specs.Positions.{Recorded, beats_of_all}
+use Rattle.tl_definitions.specs.Positions.{Recorded}
 use Rattle.tl_windows.specs.Present.{IsPresent}
-use Rattle.tl_windows.specs.Windows.{is_within, beats_within}
+use Rattle.tl_windows.specs.Windows.{is_within}
 use Rattle.tl_windows.proofs.PresentLemmas.{ranges_of}
 use Rattle.tl_windows.proofs.GatherLemmas.{pushed, gathered}
 use Rattle.tl_windows.proofs.present.Present.gather.Goals as goal

@@ -1,4 +1,4 @@
-use Rattle.std.proofs.Common.{◌≡◌, sym, ap, ◌∙◌}
+use Rattle.std.proofs.Common.{sym, ap, ◌∙◌}
 use Rattle.tl_windows.specs.Present.{numbered}
 use Rattle.tl_windows.proofs.EditLemmas.{found_end}
 use Rattle.tl_windows.proofs.present.Present.get.Goals as goal

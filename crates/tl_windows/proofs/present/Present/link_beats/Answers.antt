@@ -1,11 +1,9 @@
-use Rattle.std.proofs.Common.{◌≡◌, ◌++◌, List, sym, ap, subst, ◌∙◌}
-use Rattle.std.proofs.lemmas.Result.{IfOk-weaker}
-use Rattle.tl_beats.specs.declared.Placed.{Placed}
-use Rattle.tl_definitions.specs.Positions.{Recorded, beats_of, beats_of_all, all_placed}
+use Rattle.std.proofs.Common.{◌++◌, sym, ap, subst, ◌∙◌}
+use Rattle.tl_definitions.specs.Positions.{beats_of, all_placed}
 use Rattle.tl_windows.specs.Present.{IsPresent, of_link}
-use Rattle.tl_windows.specs.Windows.{is_within, beats_within, beats_in, lies_in, AreBeatsOf}
+use Rattle.tl_windows.specs.Windows.{beats_within}
 use Rattle.tl_windows.proofs.PresentLemmas.{ranges_of}
-use Rattle.tl_windows.proofs.LawLemmas.{whole, of_span, of_none, formed_of, formed_of_all, kept_of, own_beats}
+use Rattle.tl_windows.proofs.LawLemmas.{whole, formed_of, own_beats}
 use Rattle.tl_windows.proofs.present.Present.link_beats.Goals as goal
 
 pub returns : goal.returns

@@ -1,13 +1,11 @@
-use Rattle.std.proofs.Common.{◌≡◌, ◌++◌, ℕ, ◌<◌, ◌^◌, false, List, sym, ap, subst, ◌∙◌}
+use Rattle.std.proofs.Common.{◌≡◌, ◌++◌, ℕ, ◌<◌, ◌^◌, false, sym, ap, subst, ◌∙◌}
 use Rattle.std.specs.Prelude.{◌==◌, MatchOption}
 use Rattle.tl_windows.specs.Spans.{IsSpan}
-use Rattle.std.proofs.lemmas.Result.{IfOk-weaker}
-use Rattle.tl_beats.specs.declared.Placed.{Placed}
-use Rattle.tl_definitions.specs.Positions.{Recorded, beats_of, beats_of_all, all_placed}
+use Rattle.tl_definitions.specs.Positions.{beats_of, all_placed}
 use Rattle.tl_windows.specs.Present.{IsPresent, of_link}
-use Rattle.tl_windows.specs.Windows.{window_of, is_within, beats_within, beats_in, lies_in, AreBeatsOf}
+use Rattle.tl_windows.specs.Windows.{window_of, beats_within}
 use Rattle.tl_windows.proofs.PresentLemmas.{ranges_of}
-use Rattle.tl_windows.proofs.LawLemmas.{whole, of_span, of_none, formed_of, formed_of_all, kept_of, own_beats}
+use Rattle.tl_windows.proofs.LawLemmas.{of_span, of_none, formed_of, own_beats}
 use Rattle.tl_windows.proofs.present.Present.link_beats_in.Goals as goal
 
 pub returns : goal.returns

@@ -1,9 +1,6 @@
-use Rattle.std.proofs.Common.{◌≡◌, sym, ap, ◌∙◌}
-use Rattle.std.specs.Option.{option_map}
-use Rattle.std.specs.Arc.{arc_value}
-use Rattle.std.specs.List.{find}
-use Rattle.tl_windows.specs.Present.{recorded, numbered, without}
-use Rattle.tl_windows.proofs.EditLemmas.{gone, gone_none, without_none, found_end}
+use Rattle.std.proofs.Common.{sym, ap, ◌∙◌}
+use Rattle.tl_windows.specs.Present.{numbered, without}
+use Rattle.tl_windows.proofs.EditLemmas.{gone, gone_none, without_none}
 use Rattle.tl_windows.proofs.present.Present.take.Goals as goal
 
 pub returns-in_err-last-clause-rest : goal.returns-in_err-last-clause-rest

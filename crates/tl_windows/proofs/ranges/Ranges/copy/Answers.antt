@@ -1,4 +1,4 @@
-use Rattle.std.proofs.Common.{◌≡◌, ap, sym, ◌∙◌}
+use Rattle.std.proofs.Common.{◌∙◌}
 use Rattle.std.specs.Arc.{arc_value}
 use Rattle.tl_windows.proofs.PutLemmas.{copied_shown, copied_entries}
 use Rattle.tl_windows.proofs.ranges.Ranges.copy.Goals as goal

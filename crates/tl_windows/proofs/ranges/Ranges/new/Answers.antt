@@ -1,4 +1,4 @@
-use Rattle.std.proofs.Common.{◌≡◌, List, sym, subst}
+use Rattle.std.proofs.Common.{sym, subst}
 use Rattle.std.specs.Arc.{arc_value}
 use Rattle.tl_windows.specs.Ranges.{AreEntries}
 use Rattle.tl_windows.proofs.PresentLemmas.{no_ranges}

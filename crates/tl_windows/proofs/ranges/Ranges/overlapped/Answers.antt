@@ -1,8 +1,8 @@
-use Rattle.std.proofs.Common.{◌≡◌, ℕ, not, ◌&&◌, List, ap, ◌∙◌}
+use Rattle.std.proofs.Common.{ℕ, not, ◌&&◌, List, ap, ◌∙◌}
 use Rattle.std.specs.Prelude.{map, filter, ◌==◌}
 use Rattle.std.specs.Arc.{arc_value}
 use Rattle.tl_definitions.specs.Positions.{Recorded}
-use Rattle.tl_windows.specs.Present.{recorded, shares, least, overlapped}
+use Rattle.tl_windows.specs.Present.{shares, least}
 use Rattle.tl_windows.proofs.WalkLemmas.{numbers_walked}
 use Rattle.tl_windows.proofs.ranges.Ranges.overlapped.Goals as goal
 

@@ -172,7 +172,7 @@ pub(crate) const TOO_MANY_BEATS: &str = "\
 
 A fragment has more than 65536 beats. In a line it is told after 15 and 12.
 
-- Do: check a shorter time, from reset on. A command takes one fragment today.
+- Do: give the beats in several fragments, of ranges that follow one another.
 ";
 
 pub(crate) const READ_FAULT: &str = "\
@@ -190,7 +190,7 @@ pub(crate) const TOO_LONG: &str = "\
 
 A fragment is longer than 8388608 bytes. It is told before anything of its text.
 
-- Do: check a shorter time, from reset on. A command takes one fragment today.
+- Do: give the beats in several fragments, of ranges that follow one another.
 ";
 
 pub(crate) const WRITE_FAULT: &str = "\

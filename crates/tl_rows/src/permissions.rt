@@ -172,10 +172,7 @@ const STRICT_PERMISSIONS: [(&str, &str); 8] = [
     // It claims less than it holds, in an Acquire, a Release and a ProbeAck.
     ("40 A 7 2 6 0 1000 ff 0\n", "40 P1\n"),
     ("40 C 6 2 6 0 1000 0\n", "40 P2\n"),
-    (
-        "40 B 6 2 6 0 1000 ff 0\n50 C 4 5 6 0 1000 0\n",
-        "50 P2\n",
-    ),
+    ("40 B 6 2 6 0 1000 ff 0\n50 C 4 5 6 0 1000 0\n", "50 P2\n"),
     // And what it holds.
     ("40 C 6 1 6 0 1000 0\n", ""),
     ("40 B 6 2 6 0 1000 ff 0\n50 C 4 1 6 0 1000 0\n", ""),

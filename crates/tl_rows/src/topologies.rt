@@ -102,7 +102,9 @@ fn links_of_version_2_may_be_strict(rt: HostRuntime) -> Result<(), Fail> {
 #[test]
 fn a_link_without_the_word_is_not_strict(rt: HostRuntime) -> Result<(), Fail> {
     for version in 1..3u32 {
-        let text = format!(in rt.alloc(); "topo {version}\nmanager m0 64\nlink cpu0 m0 c 8 6 4\nend\n")?;
+        let text = format!(in rt.alloc();
+            "topo {version}\nmanager m0 64\nlink cpu0 m0 c 8 6 4\nend\n"
+        )?;
         let (topo, _) = read_topo(rt.alloc(), text.as_bytes())?;
         let bits = strict_bits(rt.alloc(), &topo)?;
         assert!(rt; bits.as_slice() == [false].as_slice());
@@ -296,7 +298,8 @@ fn there_are_256_links_and_64_managers(rt: HostRuntime) -> Result<(), Fail> {
         Some(TopoFault::TooManyManagers(66))
     );
     assert!(rt;
-        TopoFault::TooManyLinks(259).code() == 6 && TopoFault::TooManyLinks(259).number() == Some(259)
+        TopoFault::TooManyLinks(259).code() == 6
+            && TopoFault::TooManyLinks(259).number() == Some(259)
     );
     Ok(())
 }

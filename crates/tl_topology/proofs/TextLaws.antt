@@ -2,17 +2,17 @@
 use Rattle.std.proofs.Common.{◌≡◌, ℕ, false, List, [], ◌++◌, Result, Ok, Err, refl, sym, ap, ◌∙◌, inl, inr}
 use Rattle.std.specs.Prelude.{◌⊎◌}
 use Rattle.std.proofs.lemmas.List.{append-nil}
-use Rattle.std.proofs.lemmas.List.Elements.{All-from_recursion}
+use Rattle.std.proofs.lemmas.List.Elements.{All-from_recursion, recursion_from_All}
 use Rattle.tl_text.specs.Words.{lines_of}
 use Rattle.tl_topology.specs.declared.LinkDecl.{LinkDecl}
 use Rattle.tl_topology.specs.declared.fault.TopoFault.{TopoFault}
 use Rattle.tl_topology.specs.Topology.{Topology}
 use Rattle.tl_topology.specs.Reading.{topology_in}
 use Rattle.tl_topology.specs.Text.{Document, topology_text}
-use Rattle.tl_topology.specs.Declarations.{nothing, topology_of}
+use Rattle.tl_topology.specs.Declarations.{nothing, with_all, topology_of}
 use Rattle.tl_topology.specs.FirstFault.{IsFirstFault}
-use Rattle.tl_topology.specs.Laws.{OneTextOneTopology, NoTextBeginsAnother, OneFirstFault, BeginsWithTopology, FaultOrTopology, VersionTwoHasVersionOne}
-use Rattle.tl_topology.proofs.TopologyLaws.{lawful_whole, lawful_in_two, none_strict, one_front, one_fault, in_fails, bytes_taken, no_both}
+use Rattle.tl_topology.specs.Laws.{OneTextOneTopology, NoTextBeginsAnother, OneFirstFault, BeginsWithTopology, FaultOrTopology, VersionTwoAddsStrictLinks}
+use Rattle.tl_topology.proofs.TopologyLaws.{lawful_whole, lawful_in_two, lawful_in_one, none_strict, one_front, one_fault, in_fails, bytes_taken, no_both}
 
 pub one_text_one_topology : OneTextOneTopology
 one_text_one_topology a b first second e =
@@ -34,7 +34,10 @@ pub fault_or_topology : FaultOrTopology
 fault_or_topology bytes =
     (begins_or_fails bytes (topology_in (lines_of bytes)) refl, λ begins found faulty. no_both bytes begins.1 begins.0 found begins.2.0 begins.2.1 faulty)
 
-pub version_two_has_version_one : VersionTwoHasVersionOne
+pub version_two_adds_strict_links : VersionTwoAddsStrictLinks
 unfolding topology_of
-version_two_has_version_one ds lawful =
-    (lawful_in_two nothing ds lawful, none_strict nothing ds lawful (All-from_recursion (λ (p : List ℕ × LinkDecl). p.1.strict ≡ false) [] tt))
+version_two_adds_strict_links ds =
+    let P : List ℕ × LinkDecl → Type 0 = λ p. p.1.strict ≡ false in (
+      λ lawful. (lawful_in_two nothing ds lawful, All-from_recursion P (with_all nothing ds).links (none_strict nothing ds lawful tt)),
+      λ both. lawful_in_one nothing ds both.0 (recursion_from_All P (with_all nothing ds).links both.1),
+    )

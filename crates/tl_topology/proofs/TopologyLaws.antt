@@ -1,8 +1,7 @@
 -- A topology is read from its text, and from no other, and a refusal is the text's first fault.
 use Rattle.std.proofs.Common.{◌≡◌, ℕ, suc, ◌+◌, ◌-◌, Bool, true, false, not, cond, List, [], ◌∷◌, ◌++◌, length, map, take, Option, Some, None, Result, Ok, Err, refl, sym, ap, subst, ◌∙◌, append_assoc, length-append, arith}
 use Rattle.std.specs.Prelude.{codes}
-use Rattle.std.specs.List.{join_with_byte, All}
-use Rattle.std.proofs.lemmas.List.Elements.{All-append, All-from_recursion}
+use Rattle.std.specs.List.{join_with_byte, AllByRecursion}
 use Rattle.std.specs.Str.{bytes_eq}
 use Rattle.std.proofs.lemmas.Option.{none-some, same_Some}
 use Rattle.std.proofs.lemmas.Bool.{false≢true, and_from}
@@ -480,7 +479,28 @@ pub no_both : (bytes rest : List ℕ) (doc : Document) (found : TopoFault) → I
 no_both bytes rest doc found lawful is faulty =
     ok-err _ _ (sym (text_again doc rest lawful) ∙ ap (λ (l : List ℕ). topology_in (lines_of l)) (sym is) ∙ in_fails_again (lines_of bytes) found faulty)
 
--- ---- from version 1 to version 2
+-- ---- what version 2 adds
+
+-- no link is strict
+abbrev pub NoneStrict : Topology → Type 0
+NoneStrict topo = AllByRecursion (λ p. p.1.strict ≡ false) topo.links
+
+abbrev Named : Type 0
+Named = List ℕ × LinkDecl
+
+none_with : (links : List Named) (last : Named) → AllByRecursion (λ (p : Named). p.1.strict ≡ false) links → last.1.strict ≡ false → AllByRecursion (λ (p : Named). p.1.strict ≡ false) (links ++ last ∷ [])
+none_with [] last none is = (is, tt)
+none_with (link ∷ links) last none is = (none.0, none_with links last none.1 is)
+
+none_of_front : (links : List Named) (last : Named) → AllByRecursion (λ (p : Named). p.1.strict ≡ false) (links ++ last ∷ []) → AllByRecursion (λ (p : Named). p.1.strict ≡ false) links × (last.1.strict ≡ false)
+none_of_front [] last none = (tt, none.0)
+none_of_front (link ∷ links) last none =
+    let parts = none_of_front links last none.1 in
+    ((none.0, parts.0), parts.1)
+
+unmarked_is : (t : Bool) → not t ≡ true → t ≡ false
+unmarked_is false e = refl
+unmarked_is true e = absurd (false≢true e)
 
 spelled_in_two : (d : Declaration) → IsSpelled version.One d → IsSpelled version.Two d
 spelled_in_two (a_manager manager) is = is
@@ -490,22 +510,36 @@ pub lawful_in_two : (topo : Topology) (ds : List Declaration) → AreLawful vers
 lawful_in_two topo [] lawful = tt
 lawful_in_two topo (d ∷ ds) lawful = (record { spelled = spelled_in_two d lawful.0.spelled; kept = lawful.0.kept }, lawful_in_two (with_declaration topo d) ds lawful.1)
 
--- no link is strict
-abbrev pub NoneStrict : Topology → Type 0
-NoneStrict topo = All (λ p. p.1.strict ≡ false) topo.links
-
-unmarked_is : (t : Bool) → not t ≡ true → t ≡ false
-unmarked_is false e = refl
-unmarked_is true e = absurd (false≢true e)
-
 none_strict_with : (topo : Topology) (d : Declaration) → IsSpelled version.One d → NoneStrict topo → NoneStrict (with_declaration topo d)
 unfolding with_declaration
 none_strict_with topo (a_manager manager) is none = none
-none_strict_with topo (a_link link) is none =
-    let P : List ℕ × LinkDecl → Type 0 = λ p. p.1.strict ≡ false in
-    let one : List (List ℕ × LinkDecl) = (link.name, link_made topo link) ∷ [] in
-    All-append P topo.links one none (All-from_recursion P one (unmarked_is link.strict is.strict, tt))
+none_strict_with topo (a_link link) is none = none_with topo.links (link.name, link_made topo link) none (unmarked_is link.strict is.strict)
 
 pub none_strict : (topo : Topology) (ds : List Declaration) → AreLawful version.One topo ds → NoneStrict topo → NoneStrict (with_all topo ds)
 none_strict topo [] lawful none = none
 none_strict topo (d ∷ ds) lawful none = none_strict (with_declaration topo d) ds lawful.1 (none_strict_with topo d lawful.0.spelled none)
+
+-- and back again
+
+none_before : (topo : Topology) (d : Declaration) → NoneStrict (with_declaration topo d) → NoneStrict topo
+unfolding with_declaration
+none_before topo (a_manager manager) none = none
+none_before topo (a_link link) none = (none_of_front topo.links (link.name, link_made topo link) none).0
+
+none_at_first : (topo : Topology) (ds : List Declaration) → NoneStrict (with_all topo ds) → NoneStrict topo
+none_at_first topo [] none = none
+none_at_first topo (d ∷ ds) none = none_before topo d (none_at_first (with_declaration topo d) ds none)
+
+spelled_in_one : (topo : Topology) (d : Declaration) → IsSpelled version.Two d → NoneStrict (with_declaration topo d) → IsSpelled version.One d
+unfolding with_declaration
+spelled_in_one topo (a_manager manager) is none = is
+spelled_in_one topo (a_link link) is none =
+    let last = (none_of_front topo.links (link.name, link_made topo link) none).1 in
+    record { name = is.name; manager = is.manager; width = is.width; max_size = is.max_size; some_source = is.some_source; sources = is.sources; strict = ap not last }
+
+pub lawful_in_one : (topo : Topology) (ds : List Declaration) → AreLawful version.Two topo ds → NoneStrict (with_all topo ds) → AreLawful version.One topo ds
+lawful_in_one topo [] lawful none = tt
+lawful_in_one topo (d ∷ ds) lawful none = (
+  record { spelled = spelled_in_one topo d lawful.0.spelled (none_at_first (with_declaration topo d) ds none); kept = lawful.0.kept },
+  lawful_in_one (with_declaration topo d) ds lawful.1 none,
+)

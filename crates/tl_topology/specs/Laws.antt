@@ -1,5 +1,5 @@
 -- What the texts of topologies keep among themselves.
-use Rattle.std.specs.Prelude.{◌≡◌, ℕ, ◌⊎◌, false, List, [], ◌++◌}
+use Rattle.std.specs.Prelude.{◌≡◌, ℕ, ◌⊎◌, ◌↔◌, false, List, [], ◌++◌}
 use Rattle.std.specs.List.{All}
 use Rattle.tl_text.specs.Words.{lines_of}
 use Rattle.tl_topology.specs.declared.reading.Version.TheVariants as version
@@ -30,8 +30,8 @@ abbrev pub FaultOrTopology : Type 0
 FaultOrTopology = (bytes : List ℕ) → (BeginsWithTopology bytes ⊎ ((found : TopoFault) × IsFirstFault (lines_of bytes) found))
     × (BeginsWithTopology bytes → (found : TopoFault) → IsFirstFault (lines_of bytes) found → ⊥)
 
--- Declarations that are lawful in version 1 are lawful in version 2, where they make the same topology, and none of its
--- links is strict.
-abbrev pub VersionTwoHasVersionOne : Type 0
-VersionTwoHasVersionOne = (declarations : List Declaration) → IsDeclaredInOrder (record { version = version.One; declarations = declarations })
-    → IsDeclaredInOrder (record { version = version.Two; declarations = declarations }) × All (λ p. p.1.strict ≡ false) (topology_of declarations).links
+-- Version 2 adds strict links: declarations are lawful in version 1 exactly where they are lawful in version 2 and make no
+-- strict link.
+abbrev pub VersionTwoAddsStrictLinks : Type 0
+VersionTwoAddsStrictLinks = (declarations : List Declaration) → IsDeclaredInOrder (record { version = version.One; declarations = declarations })
+    ↔ (IsDeclaredInOrder (record { version = version.Two; declarations = declarations }) × All (λ p. p.1.strict ≡ false) (topology_of declarations).links)

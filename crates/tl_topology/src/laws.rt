@@ -1,6 +1,6 @@
 //! What the texts of topologies keep among themselves.
 
-ghost use Rattle.tl_topology.specs.Laws.{OneTextOneTopology, NoTextBeginsAnother, OneFirstFault, FaultOrTopology, VersionTwoHasVersionOne};
+ghost use Rattle.tl_topology.specs.Laws.{OneTextOneTopology, NoTextBeginsAnother, OneFirstFault, FaultOrTopology, VersionTwoAddsStrictLinks};
 
 /// Two documents with one text are equal, in version and declarations, and so are their topologies.
 #[tactic(auto, using(crate::proofs::TextLaws::one_text_one_topology))]
@@ -24,8 +24,8 @@ pub fn fault_or_topology()
     ensures { FaultOrTopology }
 {}
 
-/// Version 2 has the lawful declarations of version 1, and these have no strict link.
-#[tactic(auto, using(crate::proofs::TextLaws::version_two_has_version_one))]
-pub fn version_two_has_version_one()
-    ensures { VersionTwoHasVersionOne }
+/// Declarations are lawful in version 1 exactly where they are lawful in version 2 and make no strict link.
+#[tactic(auto, using(crate::proofs::TextLaws::version_two_adds_strict_links))]
+pub fn version_two_adds_strict_links()
+    ensures { VersionTwoAddsStrictLinks }
 {}

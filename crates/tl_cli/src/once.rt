@@ -104,11 +104,7 @@ fn add(
 }
 
 /// What stands once the fragments were added, one after the other.
-fn all_added(
-    alloc: Global,
-    topo: &Topo,
-    fragments: &[Arc<Fragment>],
-) -> Result<Present, OnceFault>
+fn all_added(alloc: Global, topo: &Topo, fragments: &[Arc<Fragment>]) -> Result<Present, OnceFault>
     ensures ok { IfOk result (λ present. added topo.now (map arc_value fragments.now) ≡ Ok present) }
     ensures refused { (code : ℕ) (number : Option ℕ) → IsErrOf result (OnceFault.Refused code number)
         → added topo.now (map arc_value fragments.now) ≡ Err (record { code = code; number = number }) }

@@ -202,7 +202,7 @@ one_place captures place x y here there tie =
     let p : Placed = one.0 in
     let q : Placed = two.0 in
     let tie_there : key_order (row_with p x.rule x.monitor) (row_with q y.rule y.monitor) ≡ Equal =
-        sym (ap (λ z. key_order z (row_with q y.rule y.monitor)) one.2) ∙ sym (ap (key_order x) two.2) ∙ tie in
+    sym (ap (λ z. key_order z (row_with q y.rule y.monitor)) one.2) ∙ sym (ap (key_order x) two.2) ∙ tie in
     let found = place here.0 there.0 p q here.1 there.1 one.1 two.1 (same_place p q x.rule y.rule x.monitor y.monitor tie_there) in (
       ap (λ (z : Row). z.fragment) one.2 ∙ found.0 ∙ sym (ap (λ (z : Row). z.fragment) two.2),
       ap (λ (z : Row). z.line) one.2 ∙ found.1 ∙ sym (ap (λ (z : Row). z.line) two.2),

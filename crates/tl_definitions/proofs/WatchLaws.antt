@@ -97,7 +97,7 @@ watched_chains_are_whole monitor w passes h chain =
         (λ has. chain_from (watching monitor w) 0 passes chain row (subst (λ rows. Contains rows row) (sym all) has)),
       )),
       chain_ends (watching monitor w) 0 passes chain ∙ ap (λ t. left_after (watching monitor w) t (pass_beats passes)) (tally_none w)
-      ∙ all_tallied monitor w [] (pass_beats passes) ∙ ap (tally_of w) (onto_reverse [] (pass_beats passes)),
+          ∙ all_tallied monitor w [] (pass_beats passes) ∙ ap (tally_of w) (onto_reverse [] (pass_beats passes)),
     )
 
 -- ---- the rows of a watch

@@ -67,11 +67,11 @@ module _ (topo : Topology) (fs : List Recorded) where
     one_place =
         rising_beats_have_one_place (captures_of topo no_regions fs)
         (λ capture h. let at = captures_are 0 topo.managers capture h in
-            subst (λ c. IsStrictlySortedBy position_order (captured c)) (sym at.1) (beats_rise (clients_of at.0 (declared_links topo)) fs (ranges_of fs is)))
+        subst (λ c. IsStrictlySortedBy position_order (captured c)) (sym at.1) (beats_rise (clients_of at.0 (declared_links topo)) fs (ranges_of fs is)))
         (λ here there p q at_here at_there h g linked.
-            let one = captures_are 0 topo.managers here at_here in
-            let two = captures_are 0 topo.managers there at_there in
-            own_list one.0 here p p.link one.1 h refl ∙ sym (own_list two.0 there q p.link two.1 g (sym linked)))
+        let one = captures_are 0 topo.managers here at_here in
+        let two = captures_are 0 topo.managers there at_there in
+        own_list one.0 here p p.link one.1 h refl ∙ sym (own_list two.0 there q p.link two.1 g (sym linked)))
 
     -- A row that is found is of a link of the topology.
     pub row_linked : (row : Row) → FindsIn (captures_of topo no_regions fs) row → row.link < length topo.links

@@ -90,5 +90,5 @@ pub all_found : (topo : Topology) (fs : List Recorded) (k : ℕ) (rows sorted : 
 all_found topo fs k rows sorted past known same row =
     let none : drop k topo.managers ≡ [] = drop_of_length-le topo.managers past in
     let all = last_manager rows row (FindsIn (captures_of topo no_regions fs) row)
-        (subst (λ (managers : List (List ℕ × ℕ)). (Contains rows row ⊎ FindsIn (captures_from topo no_regions fs k managers) row) ↔ FindsIn (captures_of topo no_regions fs) row) none (known row)) in
+    (subst (λ (managers : List (List ℕ × ℕ)). (Contains rows row ⊎ FindsIn (captures_from topo no_regions fs k managers) row) ↔ FindsIn (captures_of topo no_regions fs) row) none (known row)) in
     (λ h. all.0 ((same row).0 h), λ found. (same row).1 (all.1 found))

@@ -17,8 +17,12 @@ returns-in_err-push-clause-err g c =
     let beats = c.args.beats.now in
     let start = kept_tally c.args.monitor.now.watch c.args.tally in
     let p = err_from_is_err_and c.from_residual.result c.from_residual.ensures.1 in
-    rw p.1 (take (i + 1) beats, drop (i + 1) beats, sym (take-append-drop (i + 1) beats),
-    held_more c.args.number c.args.monitor.now c.loop-at.monitor c.see.new.self start beats i _ c.loop-at-test.true c.loop-at.invariant.held c.see.ensures.counts)
+    rw p.1 (
+      take (i + 1) beats,
+      drop (i + 1) beats,
+      sym (take-append-drop (i + 1) beats),
+      held_more c.args.number c.args.monitor.now c.loop-at.monitor c.see.new.self start beats i _ c.loop-at-test.true c.loop-at.invariant.held c.see.ensures.counts,
+    )
 
 pub loop-at-preserved : goal.loop-at-preserved
 loop-at-preserved g c =

@@ -1,0 +1,2 @@
+pub mod InputLaws
+pub mod LogLaws

@@ -3,8 +3,8 @@ use Rattle.std.specs.Prelude.{◌≡◌, ℕ, ◌==◌, ◌&&◌, not, Bool, tru
 use Rattle.std.specs.List.{list_any}
 use Rattle.std.specs.List.Sorted.{IsStrictlySortedBy}
 use Rattle.std.specs.Ordering.{nat_cmp}
-use Rattle.std.specs.BTreeMap.{is_at}
-use Rattle.std.specs.Map.{lookup}
+use Rattle.std.specs.BTreeMap.{insert_entry, is_at}
+use Rattle.std.specs.Map.{lookup, remove_entry}
 use Rattle.tl_tables.specs.declared.Op.{Op}
 use Rattle.tl_tables.specs.declared.Op.TheVariants as op
 use Rattle.tl_topology.specs.declared.region.Permits.{Permits}
@@ -51,6 +51,13 @@ overlapping number area entries = option_map (λ e. e.0) (find (λ e. not (e.0 =
 -- The region of a number.
 abbrev pub area_at : ℕ → List (ℕ × Area) → Option Area
 area_at number entries = lookup (is_at (nat_cmp number)) entries
+
+-- With a region under a number, in place of the one that was there; and without the region of a number.
+abbrev pub put_area : ℕ → Area → List (ℕ × Area) → List (ℕ × Area)
+put_area number area entries = insert_entry nat_cmp entries number area
+
+abbrev pub without_area : ℕ → List (ℕ × Area) → List (ℕ × Area)
+without_area number entries = remove_entry (is_at (nat_cmp number)) entries
 
 -- Regions of different numbers share no address.
 abbrev pub AreApart : List (ℕ × Area) → Type 0

@@ -2,8 +2,8 @@
 
 ghost use Rattle.std.specs.Prelude.{◌≡◌, ◌↔◌, ◌≤◌, ◌==◌, ℕ, Bool, false, Some, None, Ok, IfErr, OnOk, OnErr, IfOk, is_some, nat_le, if◌then◌else◌, [], length};
 ghost use Rattle.std.specs.Result.{IsErrOf};
-ghost use Rattle.tl_topology.specs.Regions.{permits_kind, permits_in, is_permitted, overlaps, overlapping, area_at, areas_of, AreRegions};
-ghost use Rattle.std.specs.Option.{ok_or};
+ghost use Rattle.tl_topology.specs.Regions.{permits_kind, permits_in, is_permitted, overlaps, overlapping, area_at, areas_of, put_area, without_area, AreRegions};
+ghost use Rattle.std.specs.Option.{ok_or, option_copied};
 ghost use Rattle.tl_topology.specs.Faults.{region_code_of, region_number_of};
 ghost use Rattle.tl_topology.specs.declared.region.RegionFault.TheVariants.{Memory};
 
@@ -201,8 +201,16 @@ impl RegionMap {
         self.regions.is_empty()
     }
 
-    /// The lowest number of another region that shares an address with this one.
-    fn overlapping(&self, number: u8, region: &Region) -> Option<u8>
+    /// The region of a number, if one is there.
+    pub fn get(&self, number: u8) -> Option<&Region>
+        ensures { option_copied result ≡ area_at number self.now }
+    {
+        self.regions.get(&number)
+    }
+
+    /// The lowest number of another region that shares an address with this one. The one of the same number, which this one
+    /// would replace, isn't asked.
+    pub fn overlapping(&self, number: u8, region: &Region) -> Option<u8>
         ensures { result ≡ overlapping number region.now self.now }
     {
         for (other, present) in self.regions.iter() {
@@ -217,6 +225,7 @@ impl RegionMap {
     /// where it shares an address with a region of another number. Nothing has changed at a refusal.
     #[tactic(auto, using(crate::proofs::RegionLaws::apart_put, crate::proofs::RegionLaws::other_key))]
     pub fn set(&mut self, number: u8, region: Region) -> Result<(), RegionFault>
+        ensures exact { OnOk result (self.new ≡ put_area number region self.old) }
         ensures put { OnOk result (area_at number self.new ≡ Some region) }
         ensures others { (other : ℕ) → (other == number) ≡ false → area_at other self.new ≡ area_at other self.old }
         ensures overlap { (n : ℕ) → IsErrOf result (RegionFault.RegionOverlap n) ↔ (overlapping number region self.old ≡ Some n) }
@@ -234,6 +243,7 @@ impl RegionMap {
     #[tactic(auto, using(crate::proofs::RegionLaws::apart_taken, crate::proofs::RegionLaws::other_key))]
     pub fn remove(&mut self, number: u8) -> Result<Region, RegionFault>
         ensures exact { result ≡ ok_or (area_at number self.old) RegionFault.NoRegion }
+        ensures rest { self.new ≡ without_area number self.old }
         ensures taken { area_at number self.new ≡ None }
         ensures others { (other : ℕ) → (other == number) ≡ false → area_at other self.new ≡ area_at other self.old }
         ensures refused { OnErr result (self.new ≡ self.old) }

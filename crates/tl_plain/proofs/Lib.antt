@@ -1,2 +1,4 @@
 pub mod CaptureLaws
+pub mod CleanLaws
+pub mod MonitorLaws
 pub mod ScratchLaws

@@ -1,25 +1,32 @@
--- One manager more.
-use Rattle.std.proofs.Common.{◌≡◌, ℕ, suc, ◌+◌, ◌<◌, ◌≤◌, ◌⊎◌, inl, inr, List, [], ◌∷◌, ◌++◌, length, drop, get_or, refl, sym, ap, subst, ◌∙◌, arith}
+-- One capture more.
+use Rattle.std.proofs.Common.{◌≡◌, ℕ, suc, ◌+◌, ◌<◌, ◌≤◌, ◌⊎◌, inl, inr, List, [], ◌∷◌, ◌++◌, length, drop, get_or, Option, Some, None, Bor, nat_lt, sym, ap, subst, ◌∙◌, arith}
+use Rattle.std.specs.List.{Contains}
+use Rattle.std.specs.Option.{IfSome, option_map_or, unwrap_or}
+use Rattle.std.specs.Prelude.{is_some, ◌↔◌}
 use Rattle.std.proofs.Math.ListN.{drop_of_length-le}
 use Rattle.std.proofs.Math.Seq.{drop-cons}
-use Rattle.tl_topology.specs.Topology.{Topology}
-use Rattle.tl_definitions.specs.Captures.{captures_from, captures_of, no_regions}
-use Rattle.tl_definitions.specs.Positions.{Recorded}
-use Rattle.tl_plain.proofs.CaptureLaws.{capture_at}
-use Rattle.std.specs.Prelude.{◌↔◌}
-use Rattle.std.specs.List.{Contains}
+use Rattle.std.proofs.lemmas.Bool.Decides.{nat_tests}
 use Rattle.std.proofs.lemmas.List.Elements.{Contains-append_left, Contains-append_right, Contains-append_cases}
+use Rattle.std.proofs.lemmas.Option.{slice_get-get_or, slice_get_past}
+use Rattle.tl_topology.specs.Regions.{Area, areas_of}
+use Rattle.tl_topology.specs.Topology.{Topology}
 use Rattle.tl_beats.specs.declared.Placed.{Placed}
 use Rattle.tl_beats.specs.declared.Row.{Row}
-use Rattle.tl_definitions.specs.Judging.{snapshot, judging}
-use Rattle.tl_definitions.specs.Passes.{IsPass}
-use Rattle.tl_definitions.specs.Report.{Capture, of_manager, Finds, FindsIn, IsReport}
-use Rattle.tl_definitions.specs.Rules.{Manager}
+use Rattle.tl_beats.specs.declared.watch.Watch.{Watch}
 use Rattle.tl_definitions.proofs.Lists.{contains_none, contains_here, contains_there, contains_cases}
 use Rattle.tl_definitions.proofs.PassLaws.{first_passes_are_reports}
+use Rattle.tl_definitions.specs.Captures.{captures_from}
+use Rattle.tl_definitions.specs.Judging.{snapshot, judging}
+use Rattle.tl_definitions.specs.Passes.{IsPass}
+use Rattle.tl_definitions.specs.Positions.{Recorded}
+use Rattle.tl_definitions.specs.Report.{Capture, of_manager, Finds, FindsIn, IsReport}
+use Rattle.tl_definitions.specs.Rules.{Manager}
 use Rattle.tl_span.specs.Jobs.{Job, Checked, manager_of, pass_of}
 use Rattle.tl_span.specs.States.{shown}
 use Rattle.tl_span.specs.declared.state.SpanState.{SpanState}
+use Rattle.tl_plain.proofs.CaptureLaws.{capture_with}
+use Rattle.tl_plain.specs.Captured.{areas_at, watch_capture, watch_captures}
+use Rattle.tl_plain.specs.Found.{AreFound}
 
 -- A window of these beats from the beginning has their report.
 pub checked_report : (m : Manager) (beats : List Placed) (job : Job) (entry : SpanState) (checked : Checked) → manager_of job ≡ m → job.beats ≡ beats → job.entry ≡ entry → shown entry ≡ snapshot m []
@@ -64,31 +71,78 @@ module _ (c : Capture) (cs : List Capture) (old found new : List Row) (put : new
     ]
   ]
 
-  pub next_manager : (All : Type 0) → ((Contains old row ⊎ FindsIn (c ∷ cs) row) ↔ All) → ((Contains new row ⊎ FindsIn cs row) ↔ All)
-  next_manager All known = (still All known.0, λ a. also (known.1 a))
+  pub next_capture : (All : Type 0) → ((Contains old row ⊎ FindsIn (c ∷ cs) row) ↔ All) → ((Contains new row ⊎ FindsIn cs row) ↔ All)
+  next_capture All known = (still All known.0, λ a. also (known.1 a))
 
 -- Before the first, and behind the last.
-pub first_manager : (cs : List Capture) (row : Row) → (Contains [] row ⊎ FindsIn cs row) ↔ FindsIn cs row
-first_manager cs row = (λ h. elim h [ inl none ↦ absurd (contains_none row none) | inr found ↦ found ], λ found. inr found)
+pub first_capture : (cs : List Capture) (row : Row) → (Contains [] row ⊎ FindsIn cs row) ↔ FindsIn cs row
+first_capture cs row = (λ h. elim h [ inl none ↦ absurd (contains_none row none) | inr found ↦ found ], λ found. inr found)
 
-pub last_manager : (rows : List Row) (row : Row) (All : Type 0) → ((Contains rows row ⊎ FindsIn [] row) ↔ All) → (Contains rows row ↔ All)
-last_manager rows row All known = (λ h. known.0 (inl h), λ a. elim (known.1 a) [ inl h ↦ h | inr none ↦ absurd (finds_none row none) ])
+pub last_capture : (rows : List Row) (row : Row) (All : Type 0) → ((Contains rows row ⊎ FindsIn [] row) ↔ All) → (Contains rows row ↔ All)
+last_capture rows row All known = (λ h. known.0 (inl h), λ a. elim (known.1 a) [ inl h ↦ h | inr none ↦ absurd (finds_none row none) ])
 
--- ---- the managers that are left
+-- ---- the captures that are left
 
-pub one_less : (topo : Topology) (fs : List Recorded) (k : ℕ) → k < length topo.managers → (row : Row) (rows : List Row)
-    → ((Contains rows row ⊎ FindsIn (captures_from topo no_regions fs k (drop k topo.managers)) row) ↔ FindsIn (captures_of topo no_regions fs) row)
-    → ((Contains rows row ⊎ FindsIn (capture_at topo fs k ∷ captures_from topo no_regions fs (k + 1) (drop (k + 1) topo.managers)) row) ↔ FindsIn (captures_of topo no_regions fs) row)
-one_less topo fs k below row rows known =
-    let next : k + 1 ≡ suc k = omega arith in
-    let first : drop k topo.managers ≡ get_or topo.managers k ([], 0) ∷ drop (k + 1) topo.managers = drop-cons topo.managers k ([], 0) below ∙ ap (λ n. get_or topo.managers k ([], 0) ∷ drop n topo.managers) (sym next) in
-    subst (λ (managers : List (List ℕ × ℕ)). (Contains rows row ⊎ FindsIn (captures_from topo no_regions fs k managers) row) ↔ FindsIn (captures_of topo no_regions fs) row) first known
+module _ (topo : Topology) (regions : ℕ → List Area) (fs : List Recorded) (k : ℕ) (rows : List Row) where
+  pub one_manager_less : k < length topo.managers → (row : Row) (All : Type 0)
+      → ((Contains rows row ⊎ FindsIn (captures_from topo regions fs k (drop k topo.managers)) row) ↔ All)
+      → ((Contains rows row ⊎ FindsIn (capture_with topo regions fs k ∷ captures_from topo regions fs (k + 1) (drop (k + 1) topo.managers)) row) ↔ All)
+  one_manager_less below row All known =
+      let next : k + 1 ≡ suc k = omega arith in
+      let first : drop k topo.managers ≡ get_or topo.managers k ([], 0) ∷ drop (k + 1) topo.managers = drop-cons topo.managers k ([], 0) below ∙ ap (λ n. get_or topo.managers k ([], 0) ∷ drop n topo.managers) (sym next) in
+      subst (λ (managers : List (List ℕ × ℕ)). (Contains rows row ⊎ FindsIn (captures_from topo regions fs k managers) row) ↔ All) first known
 
-pub all_found : (topo : Topology) (fs : List Recorded) (k : ℕ) (rows sorted : List Row) → length topo.managers ≤ k
-    → ((row : Row) → (Contains rows row ⊎ FindsIn (captures_from topo no_regions fs k (drop k topo.managers)) row) ↔ FindsIn (captures_of topo no_regions fs) row)
-    → ((row : Row) → Contains sorted row ↔ Contains rows row) → (row : Row) → Contains sorted row ↔ FindsIn (captures_of topo no_regions fs) row
-all_found topo fs k rows sorted past known same row =
-    let none : drop k topo.managers ≡ [] = drop_of_length-le topo.managers past in
-    let all = last_manager rows row (FindsIn (captures_of topo no_regions fs) row)
-    (subst (λ (managers : List (List ℕ × ℕ)). (Contains rows row ⊎ FindsIn (captures_from topo no_regions fs k managers) row) ↔ FindsIn (captures_of topo no_regions fs) row) none (known row)) in
-    (λ h. all.0 ((same row).0 h), λ found. (same row).1 (all.1 found))
+  pub no_manager_left : length topo.managers ≤ k → (row : Row) (All : Type 0)
+      → ((Contains rows row ⊎ FindsIn (captures_from topo regions fs k (drop k topo.managers)) row) ↔ All) → (Contains rows row ↔ All)
+  no_manager_left past row All known =
+      let none : drop k topo.managers ≡ [] = drop_of_length-le topo.managers past in
+      last_capture rows row All (subst (λ (managers : List (List ℕ × ℕ)). (Contains rows row ⊎ FindsIn (captures_from topo regions fs k managers) row) ↔ All) none known)
+
+module _ (topo : Topology) (fs : List Recorded) (watches : List (ℕ × Watch)) (k : ℕ) (rows : List Row) where
+  pub one_watch_less : (e : ℕ × Watch) → e ≡ get_or watches k e → k < length watches → (row : Row) (All : Type 0)
+      → ((Contains rows row ⊎ FindsIn (watch_captures topo fs (drop k watches)) row) ↔ All)
+      → ((Contains rows row ⊎ FindsIn (watch_capture topo fs e ∷ watch_captures topo fs (drop (k + 1) watches)) row) ↔ All)
+  one_watch_less e at below row All known =
+      let next : suc k ≡ k + 1 = omega arith in
+      let first : drop k watches ≡ e ∷ drop (k + 1) watches =
+      drop-cons watches k e below ∙ ap (λ n. get_or watches k e ∷ drop n watches) next ∙ ap (λ x. x ∷ drop (k + 1) watches) (sym at) in
+      subst (λ ws. (Contains rows row ⊎ FindsIn (watch_captures topo fs ws) row) ↔ All) first known
+
+  pub no_watch_left : length watches ≤ k → (row : Row) (All : Type 0)
+      → ((Contains rows row ⊎ FindsIn (watch_captures topo fs (drop k watches)) row) ↔ All) → (Contains rows row ↔ All)
+  no_watch_left past row All known =
+      let none : drop k watches ≡ [] = drop_of_length-le watches past in
+      last_capture rows row All (subst (λ ws. (Contains rows row ⊎ FindsIn (watch_captures topo fs ws) row) ↔ All) none known)
+
+-- What is read of the regions of all managers at a number, or none, is what the manager has.
+pub own_areas : (regions : List (List (ℕ × Area))) (k : ℕ) (got : Option (Bor (List (ℕ × Area)))) (none own : Bor (List (ℕ × Area)))
+    → own ≡ unwrap_or got none → none.now ≡ [] → is_some got ≡ nat_lt k (length regions) → IfSome got (λ x. x.now ≡ get_or regions k x.now)
+    → areas_of own.now ≡ areas_at regions k
+own_areas regions k None none own is empty test at =
+    let past : length regions ≤ k = grind (arith, nat_tests) in
+    ap (λ (r : Bor (List (ℕ × Area))). areas_of r.now) is ∙ ap areas_of empty ∙ sym (ap (λ found. option_map_or areas_of found []) (slice_get_past regions k past))
+own_areas regions k (Some x) none own is empty test at =
+    let below : k < length regions = grind (arith, nat_tests) in
+    ap (λ (r : Bor (List (ℕ × Area))). areas_of r.now) is ∙ ap areas_of at
+    ∙ sym (ap (λ found. option_map_or areas_of found []) (slice_get-get_or regions k x.now below))
+
+-- ---- managers and monitors together
+
+finds_left : (cs ds : List Capture) (row : Row) → FindsIn cs row → FindsIn (cs ++ ds) row
+finds_left cs ds row found = (found.0, Contains-append_left cs ds found.0 found.1, found.2)
+
+finds_right : (cs ds : List Capture) (row : Row) → FindsIn ds row → FindsIn (cs ++ ds) row
+finds_right cs ds row found = (found.0, Contains-append_right cs ds found.0 found.1, found.2)
+
+pub both_found : (cs ds : List Capture) (old found rows sorted : List Row) → AreFound cs old → AreFound ds found → rows ≡ old ++ found
+    → ((row : Row) → Contains sorted row ↔ Contains rows row) → AreFound (cs ++ ds) sorted
+both_found cs ds old found rows sorted first second put same row = (
+  (λ h. elim (Contains-append_cases old found row (subst (λ rs. Contains rs row) put ((same row).0 h))) [
+    | inl a ↦ finds_left cs ds row ((first row).0 a)
+    | inr b ↦ finds_right cs ds row ((second row).0 b)
+  ]),
+  (λ is. (same row).1 (subst (λ rs. Contains rs row) (sym put) (elim (Contains-append_cases cs ds is.0 is.1) [
+    | inl a ↦ Contains-append_left old found row ((first row).1 (is.0, a, is.2))
+    | inr b ↦ Contains-append_right old found row ((second row).1 (is.0, b, is.2))
+  ]))),
+)

@@ -1,0 +1,3 @@
+pub mod Captured
+pub mod Clean
+pub mod Found

@@ -1,7 +1,9 @@
-//! Tests of fragments that come and go, and of the beats of their windows.
+//! Tests of fragments that come and go, of the beats of their windows, and of reports with regions and monitors.
 #![tactic(auto)]
 
 #[cfg(test)]
 mod beats;
 #[cfg(test)]
 mod edits;
+#[cfg(test)]
+mod reports;

@@ -1,4 +1,4 @@
-use Rattle.std.proofs.Common.{◌≡◌, ◌+◌, ◌<◌, ℕ, List, [], length, get_or, sym, ap, subst, ◌∙◌, arith}
+use Rattle.std.proofs.Common.{ℕ, List, [], get_or, sym, ap, subst, ◌∙◌, arith}
 use Rattle.std.proofs.Common.{◌∷◌}
 use Rattle.std.specs.List.{Contains}
 use Rattle.std.specs.List.Sorted.{IsStrictlySortedBy}
@@ -8,11 +8,8 @@ use Rattle.std.specs.Ordering.{nat_cmp}
 use Rattle.std.proofs.lemmas.List.{length-map}
 use Rattle.tl_topology.specs.Regions.{areas_of}
 use Rattle.tl_topology.specs.declared.LinkDecl.{LinkDecl}
-use Rattle.tl_definitions.specs.Judging.{snapshot}
 use Rattle.tl_definitions.specs.Managers.{declared_links, manager_at}
 use Rattle.tl_definitions.specs.Positions.{beats_of_all}
-use Rattle.tl_span.specs.Jobs.{manager_of}
-use Rattle.tl_span.specs.States.{shown}
 use Rattle.tl_windows.proofs.LawLemmas.{clients_rise}
 use Rattle.tl_plain.proofs.CaptureLaws.{clients_below}
 use Rattle.tl_plain.proofs.ScratchLaws.{checked_report}
@@ -31,15 +28,16 @@ new-requires-clause-within c k d below =
     omega (arith, lt, length-map c.args.topo.now.links (λ (p : List ℕ × LinkDecl). p.1))
 
 pub new-requires-clause-entry : goal.new-requires-clause-entry
-new-requires-clause-entry c = (c.in_ok-entry.ensures (areas_of c.new-regions.result)).is_of
+new-requires-clause-entry c = (c.in_ok-entry.ensures (areas_of c.args.regions.now)).is_of
 
 pub returns : goal.returns
 returns c =
     let topo = c.args.topo.now in
-    let none : areas_of c.new-regions.result ≡ [] = ap areas_of c.new-regions.ensures in
+    let areas = areas_of c.args.regions.now in
+    let beats = manager_beats topo c.args.present.now c.args.manager in
     let are = c.deref.ensures.value ∙ c.in_ok-links.ensures in
-    subst (λ rows. IsReport (of_manager (manager_at topo c.args.manager []) (manager_beats topo c.args.present.now c.args.manager) ∷ []) rows) (sym c.into_rows.ensures.exact)
-    (checked_report (manager_at topo c.args.manager []) (manager_beats topo c.args.present.now c.args.manager) c.in_ok-job.job c.in_ok-entry.entry c.in-Ok.checked
-    (c.in_ok-job.ensures.manager ∙ ap (manager_at topo c.args.manager) none)
+    subst (λ rows. IsReport (of_manager (manager_at topo c.args.manager areas) beats ∷ []) rows) (sym c.into_rows.ensures.exact)
+    (checked_report (manager_at topo c.args.manager areas) beats c.in_ok-job.job c.in_ok-entry.entry c.in-Ok.checked
+    c.in_ok-job.ensures.manager
     (c.in_ok-job.ensures.keeps.0 ∙ c.in_ok-beats.ensures.exact ∙ ap (λ links. beats_of_all links c.args.present.now) are)
-    c.in_ok-job.ensures.keeps.1 (c.in_ok-entry.ensures []).shows c.in-Ok.ensures.job c.in-Ok.ensures.pass)
+    c.in_ok-job.ensures.keeps.1 (c.in_ok-entry.ensures areas).shows c.in-Ok.ensures.job c.in-Ok.ensures.pass)

@@ -7,8 +7,8 @@ use Rattle.tl_beats.specs.declared.fault.FragmentFault.TheVariants as fault
 use Rattle.tl_beats.specs.Faults as fragment
 use Rattle.tl_text.specs.declared.input.TextFault.{TextFault}
 use Rattle.tl_text.specs.declared.input.TextFault.TheVariants as text
-use Rattle.tl_cli.specs.declared.once.OnceFault.{OnceFault}
-use Rattle.tl_cli.specs.declared.once.OnceFault.TheVariants as once
+use Rattle.tl_report.specs.declared.once.OnceFault.{OnceFault}
+use Rattle.tl_report.specs.declared.once.OnceFault.TheVariants as once
 use Rattle.tl_cli.specs.declared.fault.Fault.{Fault}
 
 abbrev pub of_topology : TopoFault → Fault

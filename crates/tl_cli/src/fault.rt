@@ -2,10 +2,10 @@
 
 ghost use Rattle.std.specs.Prelude.{◌≡◌};
 
-use crate::once::OnceFault;
 use std::alloc::AllocFailed;
 use std::fmt;
 use tl_beats::FragmentFault;
+use tl_report::OnceFault;
 use tl_text::TextFault;
 use tl_topology::TopoFault;
 

@@ -3,13 +3,13 @@
 ghost use Rattle.std.specs.Prelude.{◌≡◌, ◌<◌, ◌≤◌, ◌^◌};
 
 use crate::fault::Fault;
-use crate::once::run_once;
 use crate::words::{Command, read_words};
 use std::alloc::Global;
 use std::fs;
 use std::rt::Files;
 use std::sync::Arc;
 use tl_beats::{ByteIn, ByteOut, Fragment, parse_whole_fragment, read_fragment};
+use tl_report::run_once;
 use tl_text::{CountedReader, read_text, write_all};
 use tl_topology::{Topo, TopoFault, read_topo};
 

@@ -5,8 +5,8 @@ use std::alloc::Global;
 use std::sync::Arc;
 use std::test::Fail;
 use tl_beats::parse_whole_fragment;
-use tl_cli::{OnceFault, Report, report_text, run_once};
 use tl_format_rules::RuleList;
+use tl_report::{OnceFault, Report, report_text, run_once};
 use tl_text::CountedWriter;
 use tl_topology::read_topo;
 

@@ -1,7 +1,7 @@
 use Rattle.std.proofs.Common.{◌≡◌, Ok, map, take}
 use Rattle.std.specs.Arc.{arc_value}
-use Rattle.tl_cli.specs.Once.{added}
-use Rattle.tl_cli.proofs.once.all_added.Given as goal
+use Rattle.tl_report.specs.Once.{added}
+use Rattle.tl_report.proofs.once.all_added.Given as goal
 
 -- what stands is what the fragments so far leave
 abbrev pub invariant-loop-edits : goal.invariant-loop-edits

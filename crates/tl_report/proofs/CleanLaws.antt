@@ -7,7 +7,7 @@ use Rattle.tl_definitions.specs.Positions.{Recorded}
 use Rattle.tl_definitions.proofs.CoherenceLaws.{reported_captures_are_coherent}
 use Rattle.tl_definitions.proofs.Lists.{contains_here, contains_there}
 use Rattle.tl_plain.proofs.CaptureLaws.{capture_at}
-use Rattle.tl_cli.specs.Once.{CleanReportsAreCoherent}
+use Rattle.tl_report.specs.Once.{CleanReportsAreCoherent}
 
 -- Each manager has its capture.
 captures_have : {X : Type 0} (topo : Topology) (stand : List Recorded) (number k : ℕ) (managers : List X) → k < length managers

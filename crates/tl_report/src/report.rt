@@ -2,7 +2,7 @@
 
 ghost use Rattle.std.specs.Prelude.{◌≡◌, ◌<◌, IfOk, length, string_bytes};
 ghost use Rattle.std.specs.List.{All};
-ghost use Rattle.tl_cli.specs.Output.{row_text, head_text, report_bytes};
+ghost use Rattle.tl_report.specs.Output.{row_text, head_text, report_bytes};
 
 use std::alloc::{AllocError, Global};
 use std::marker::Model;
@@ -19,7 +19,7 @@ pub struct Report {
 }
 
 impl Model for Report {
-    ghost use Rattle.tl_cli.specs.Output.{Rows};
+    ghost use Rattle.tl_report.specs.Output.{Rows};
 
     ghost Value = { Rows };
 

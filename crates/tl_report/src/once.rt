@@ -5,8 +5,8 @@ ghost use Rattle.std.specs.Arc.{arc_value};
 ghost use Rattle.std.specs.Result.{IsErrOf};
 ghost use Rattle.std.specs.Io.KnownBytes.{Appends};
 ghost use Rattle.tl_beats.specs.declared.Row.{Row as AnyRow};
-ghost use Rattle.tl_cli.specs.Once.{Refusal, added, added_to, text_once, AreRowsOf};
-ghost use Rattle.tl_cli.specs.declared.once.OnceFault.TheVariants.{Memory, WriteFault as Unwritten};
+ghost use Rattle.tl_report.specs.Once.{Refusal, added, added_to, text_once, AreRowsOf};
+ghost use Rattle.tl_report.specs.declared.once.OnceFault.TheVariants.{Memory, WriteFault as Unwritten};
 
 use crate::report::{Report, report_text};
 use std::alloc::{AllocError, Global};

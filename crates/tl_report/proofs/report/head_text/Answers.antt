@@ -1,7 +1,7 @@
 use Rattle.std.proofs.Common.{refl}
-use Rattle.tl_cli.specs.Output.{head_text}
-use Rattle.tl_cli.proofs.Texts.{in_words}
-use Rattle.tl_cli.proofs.report.head_text.Goals as goal
+use Rattle.tl_report.specs.Output.{head_text}
+use Rattle.tl_report.proofs.Texts.{in_words}
+use Rattle.tl_report.proofs.report.head_text.Goals as goal
 
 pub returns : goal.returns
 unfolding head_text

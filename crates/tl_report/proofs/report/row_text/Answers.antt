@@ -1,8 +1,8 @@
 use Rattle.std.proofs.Common.{◌≡◌, ◌∙◌, sym, ap, refl, rules, Some, None}
 use Rattle.std.specs.Option.{option_copied}
-use Rattle.tl_cli.specs.Output.{row_text, link_text}
-use Rattle.tl_cli.proofs.Texts.{in_words, link_named}
-use Rattle.tl_cli.proofs.report.row_text.Goals as goal
+use Rattle.tl_report.specs.Output.{row_text, link_text}
+use Rattle.tl_report.proofs.Texts.{in_words, link_named}
+use Rattle.tl_report.proofs.report.row_text.Goals as goal
 
 pub returns-in-Some : goal.returns-in-Some
 unfolding row_text

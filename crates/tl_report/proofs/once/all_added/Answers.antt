@@ -1,11 +1,11 @@
 use Rattle.std.proofs.Common.{◌≡◌, ◌+◌, Ok, get_or, ap, subst, sym, ◌∙◌}
 use Rattle.std.specs.Result.{IsErrOf}
-use Rattle.tl_cli.specs.declared.once.OnceFault.TheVariants as fault
+use Rattle.tl_report.specs.declared.once.OnceFault.TheVariants as fault
 use Rattle.std.specs.Arc.{arc_value}
 use Rattle.std.proofs.lemmas.Result.{err_from_is_err_and}
-use Rattle.tl_cli.specs.Once.{added_to}
-use Rattle.tl_cli.proofs.AddedLaws.{added_more, refused_at}
-use Rattle.tl_cli.proofs.once.all_added.Goals as goal
+use Rattle.tl_report.specs.Once.{added_to}
+use Rattle.tl_report.proofs.AddedLaws.{added_more, refused_at}
+use Rattle.tl_report.proofs.once.all_added.Goals as goal
 
 pub returns-in_err-add-clause-refused : goal.returns-in_err-add-clause-refused
 returns-in_err-add-clause-refused c code number h =

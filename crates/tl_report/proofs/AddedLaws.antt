@@ -5,7 +5,7 @@ use Rattle.std.proofs.lemmas.List.{map-append, length-map, length-take-le}
 use Rattle.tl_topology.specs.Topology.{Topology}
 use Rattle.tl_beats.specs.Fragments.{Frag}
 use Rattle.tl_definitions.specs.Positions.{Recorded}
-use Rattle.tl_cli.specs.Once.{Refusal, added_to, and_added, added}
+use Rattle.tl_report.specs.Once.{Refusal, added_to, and_added, added}
 
 and_added-more : (topo : Topology) (edits : ℕ) (fs : List Frag) (f : Frag) (before : Result (List Recorded) Refusal) (stand : List Recorded)
     → and_added topo edits fs before ≡ Ok stand → and_added topo edits (fs ++ f ∷ []) before ≡ added_to topo (edits + length fs) stand f

@@ -12,7 +12,7 @@ use Rattle.tl_definitions.specs.Managers.{manager_at}
 use Rattle.tl_definitions.specs.Positions.{Recorded}
 use Rattle.tl_definitions.specs.Report.{IsReport}
 use Rattle.tl_windows.specs.Present.{recorded, numbered, overlapped, put_in}
-use Rattle.tl_cli.specs.Output.{report_bytes}
+use Rattle.tl_report.specs.Output.{report_bytes}
 
 -- A refusal by name: its code, and the number that it names.
 pub record Refusal : Type 0 where

@@ -1,0 +1,3 @@
+pub mod Texts
+pub mod AddedLaws
+pub mod CleanLaws

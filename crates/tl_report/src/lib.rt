@@ -1,0 +1,9 @@
+//! The report of fragments and its text.
+#![tactic(auto)]
+
+pub mod laws;
+mod once;
+mod report;
+
+pub use once::{OnceFault, run_once};
+pub use report::{Report, report_text};

@@ -22,7 +22,7 @@ use Rattle.tl_script.specs.Reading.{carried_at, command_behind, command_in}
 use Rattle.tl_script.specs.Text.{permits_text, watch_text, line_of, command_text, IsCommand}
 use Rattle.tl_script.specs.Laws.{SpellingsAreRead, ReadsAreSpelled, SpellingsTellCommandsApart}
 use Rattle.tl_script.proofs.WordTexts.{joined}
-use Rattle.tl_script.proofs.LineTexts.{Orders, order_takes, withdraw_again, clear_again, region_again, unregion_again, attach_again, retune_again, detach_again, line_free}
+use Rattle.tl_script.proofs.LineTexts.{order_takes, withdraw_again, clear_again, region_again, unregion_again, attach_again, retune_again, detach_again, line_free}
 
 -- ---- a reading that found something
 

@@ -1,5 +1,5 @@
 -- A line is read as the command that it spells, and as no other.
-use Rattle.std.proofs.Common.{◌≡◌, ℕ, ◌-◌, ◌^◌, ◌<◌, ◌≤◌, Bool, true, false, cond, leb, List, [], ◌∷◌, ◌++◌, length, Option, Some, None, refl, sym, ap, ◌∙◌, subst, arith}
+use Rattle.std.proofs.Common.{◌≡◌, ℕ, ◌-◌, ◌^◌, ◌<◌, ◌≤◌, Bool, true, false, cond, leb, List, [], length, Option, Some, None, refl, ap, ◌∙◌, subst, arith}
 use Rattle.std.specs.Prelude.{codes}
 use Rattle.std.specs.Str.{bytes_eq}
 use Rattle.std.proofs.lemmas.Option.{none-some, same_Some}
@@ -12,7 +12,6 @@ use Rattle.tl_text.proofs.Numerals.{bind_some, number_again}
 use Rattle.tl_text.proofs.Spelling.{name_free, name_line, decimal_line, number_line, spaced_free, word_step, number_step, field_step, field_again}
 use Rattle.tl_topology.specs.Naming.{name_at}
 use Rattle.tl_topology.specs.Regions.{Area}
-use Rattle.tl_topology.specs.declared.region.Permits.{Permits}
 use Rattle.tl_topology.proofs.LineLaws.{same_text}
 use Rattle.tl_beats.specs.Text.{chan_text}
 use Rattle.tl_beats.specs.declared.watch.Class.{Class}
@@ -23,7 +22,7 @@ use Rattle.tl_script.specs.declared.command.Command.TheVariants as command
 use Rattle.tl_script.specs.Commands.{bytes_of}
 use Rattle.tl_script.specs.Lines.{budget_at, after_at, watch_at, attach_at, area_at, region_at, unregion_at, withdraw_at, retune_at, order_at}
 use Rattle.tl_script.specs.Text.{permits_text, watch_text, line_of, IsWatch, IsArea, IsCommand}
-use Rattle.tl_script.proofs.WordTexts.{joined, name_step, name_again, chan_space, chan_line, IsClass, class_step, class_again, permits_takes, permits_again, permits_line}
+use Rattle.tl_script.proofs.WordTexts.{joined, name_step, name_again, chan_space, chan_line, class_step, class_again, permits_takes, permits_again, permits_line}
 
 -- ---- numbers
 

@@ -1,6 +1,6 @@
 -- All commands of a script, one behind the other.
-use Rattle.std.proofs.Common.{◌≡◌, ℕ, zero, suc, ◌+◌, ◌-◌, ◌<◌, ◌≤◌, List, [], ◌∷◌, ◌++◌, append_assoc, append-nil, length, length-append, length-drop, take, drop, Option, Some, None, Result, Ok, Err, refl, sym, ap, ◌∙◌, subst, arith}
-use Rattle.std.specs.List.{flat_map, AllByRecursion}
+use Rattle.std.proofs.Common.{◌≡◌, ℕ, zero, suc, ◌≤◌, List, [], ◌∷◌, ◌++◌, append_assoc, append-nil, length, length-drop, drop, Option, Some, None, Result, Ok, Err, refl, sym, ap, ◌∙◌, subst, arith}
+use Rattle.std.specs.List.{AllByRecursion}
 use Rattle.std.proofs.lemmas.List.Concat.{flat_map-cons}
 use Rattle.std.proofs.Math.Seq.{drop-append_seam}
 use Rattle.tl_text.specs.Words.{line_at}
@@ -15,9 +15,9 @@ use Rattle.tl_script.specs.declared.fault.ScriptFault.{ScriptFault}
 use Rattle.tl_script.specs.declared.fault.ScriptFault.TheVariants as fault
 use Rattle.tl_script.specs.Commands.{monitor_of}
 use Rattle.tl_script.specs.Reading.{command_behind, command_in}
-use Rattle.tl_script.specs.Scripts.{Script, onto_script, script_by, commands_within, commands_of, attached}
+use Rattle.tl_script.specs.Scripts.{Script, onto_script, script_by, commands_within, commands_of, fault_of, attached}
 use Rattle.tl_script.specs.Text.{command_text, script_text, IsCommand}
-use Rattle.tl_script.specs.Laws.{FirstCommandThenOthers, IsLeft, CommandsAreRead, ScriptsAreCommands}
+use Rattle.tl_script.specs.Laws.{FirstCommandThenOthers, IsLeft, CommandsAreRead, ScriptsAreCommands, FaultsAreNumbered}
 use Rattle.tl_script.proofs.CommandTexts.{then_ok, in_starts, takes_some, spellings_are_read}
 
 abbrev Read : Type 0
@@ -80,6 +80,9 @@ commands_are_read (c ∷ commands) rest found are is =
     let one : commands_of (command_text c ++ behind) ≡ onto_script c (commands_of (drop (length (command_text c)) (command_text c ++ behind))) = at_command (command_text c ++ behind) c (length (command_text c)) (spellings_are_read c behind are.0) in
     ap (λ (l : List ℕ). commands_of l) text ∙ one ∙ ap (λ (l : List ℕ). onto_script c (commands_of l)) (drop-append_seam (command_text c) behind)
     ∙ ap (onto_script c) (commands_are_read commands rest found are.1 is)
+
+pub faults_are_numbered : FaultsAreNumbered
+faults_are_numbered commands rest found are is = ap fault_of (commands_are_read commands rest (Some found) are is)
 
 -- ---- and each script is such
 

@@ -1,9 +1,9 @@
 -- Channels, classes, permits and names: each word is read as what it spells, and as nothing else.
-use Rattle.std.proofs.Common.{◌≡◌, ℕ, ◌<◌, ◌≤◌, Bool, true, false, cond, eqb, not, List, [], ◌∷◌, ◌++◌, Option, Some, None, refl, sym, ap, ◌∙◌, subst, arith}
+use Rattle.std.proofs.Common.{◌≡◌, ℕ, ◌≤◌, Bool, true, false, cond, eqb, not, List, [], ◌∷◌, ◌++◌, Option, Some, None, refl, subst, arith}
 use Rattle.std.proofs.lemmas.Option.{none-some, same_Some}
 use Rattle.std.proofs.lemmas.Bool.{eqb-true, eq-eqb, and_from}
 use Rattle.tl_text.specs.Words.{◌>>=◌, ◌␣◌}
-use Rattle.tl_text.specs.Numbers.{number_at, numeral}
+use Rattle.tl_text.specs.Numbers.{numeral}
 use Rattle.tl_text.specs.Names.{is_name}
 use Rattle.tl_text.proofs.Cuts.{is_free}
 use Rattle.tl_text.proofs.Numerals.{bind_some, number_again}

@@ -1,10 +1,10 @@
 -- What scripts and the spellings of commands keep among themselves.
-use Rattle.std.specs.Prelude.{◌≡◌, ℕ, ◌<◌, ◌≤◌, List, [], ◌++◌, length, drop, Option, Some, None, Result, Ok, Err}
+use Rattle.std.specs.Prelude.{◌≡◌, ℕ, ◌+◌, List, [], ◌++◌, length, drop, Option, Some, None, Ok, Err}
 use Rattle.std.specs.List.{AllByRecursion}
 use Rattle.tl_script.specs.declared.command.Command.{Command}
 use Rattle.tl_script.specs.declared.fault.ScriptFault.{ScriptFault}
 use Rattle.tl_script.specs.Reading.{command_in}
-use Rattle.tl_script.specs.Scripts.{Script, script_by, commands_of}
+use Rattle.tl_script.specs.Scripts.{script_by, commands_of, fault_of}
 use Rattle.tl_script.specs.Text.{command_text, script_text, IsCommand}
 
 -- A command's spelling, whatever follows, is read as that command, and takes exactly its bytes.
@@ -38,3 +38,8 @@ CommandsAreRead = (commands : List Command) (rest : List ℕ) (found : Option Sc
 abbrev pub ScriptsAreCommands : Type 0
 ScriptsAreCommands = (bytes : List ℕ) → AllByRecursion IsCommand (commands_of bytes).commands
     × ((rest : List ℕ) × (bytes ≡ script_text (commands_of bytes).commands ++ rest) × IsLeft rest (commands_of bytes).fault)
+
+-- A fault is that of the command behind those before it, counted from 1.
+abbrev pub FaultsAreNumbered : Type 0
+FaultsAreNumbered = (commands : List Command) (rest : List ℕ) (found : ScriptFault) → AllByRecursion IsCommand commands → command_in rest ≡ Err found
+    → fault_of (commands_of (script_text commands ++ rest)) ≡ Some (length commands + 1, found)

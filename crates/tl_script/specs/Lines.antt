@@ -1,5 +1,5 @@
 -- What the line of a command says. Each reading answers None where the words spell nothing.
-use Rattle.std.specs.Prelude.{◌≡◌, ℕ, ◌-◌, ◌^◌, ◌==◌, Bool, true, false, List, [], ◌∷◌, codes, Option, Some, None, nat_le, if◌then◌else◌}
+use Rattle.std.specs.Prelude.{ℕ, ◌-◌, ◌^◌, ◌==◌, Bool, true, false, List, [], ◌∷◌, codes, Option, Some, None, nat_le, if◌then◌else◌}
 use Rattle.std.specs.Str.{bytes_eq}
 use Rattle.tl_text.specs.Words.{◌>>=◌, word_at}
 use Rattle.tl_text.specs.Numbers.{number_at}

@@ -1,7 +1,7 @@
 //! What scripts and the spellings of commands keep among themselves. These calls do nothing: each is there for what it
 //! promises.
 
-ghost use Rattle.tl_script.specs.Laws.{SpellingsAreRead, ReadsAreSpelled, SpellingsTellCommandsApart, FirstCommandThenOthers, CommandsAreRead, ScriptsAreCommands};
+ghost use Rattle.tl_script.specs.Laws.{SpellingsAreRead, ReadsAreSpelled, SpellingsTellCommandsApart, FirstCommandThenOthers, CommandsAreRead, ScriptsAreCommands, FaultsAreNumbered};
 
 /// A command's spelling, whatever follows, is read as that command, and takes exactly its bytes.
 #[tactic(auto, using(crate::proofs::CommandTexts::spellings_are_read))]
@@ -36,4 +36,10 @@ pub fn commands_are_read()
 /// Each script is the spellings of its commands, and behind them what is refused with its fault, or nothing.
 pub fn scripts_are_commands()
     ensures { ScriptsAreCommands }
+{}
+
+/// A fault is that of the command behind those before it, counted from 1.
+#[tactic(auto, using(crate::proofs::ScriptLaws::faults_are_numbered))]
+pub fn faults_are_numbered()
+    ensures { FaultsAreNumbered }
 {}

@@ -1,6 +1,7 @@
 //! The line of a command.
 
-ghost use Rattle.std.specs.Prelude.{◌≡◌};
+ghost use Rattle.std.specs.Prelude.{◌≡◌, ◌-◌, ◌^◌};
+ghost use Rattle.tl_text.specs.Numbers.{number_at};
 ghost use Rattle.tl_script.specs.Lines.{chan_at, class_at, budget_at, after_at, watch_at, attach_at, permit_at, permits_at, region_at, unregion_at, withdraw_at, retune_at, order_at};
 
 use crate::command::Command;
@@ -15,6 +16,18 @@ const MOST_NUMBER: u64 = 4_294_967_295;
 const LAST_REGION: u64 = 255;
 
 const LAST_CODE: u64 = 7;
+
+fn number_of(word: &[u8]) -> Option<u32>
+    ensures { result ≡ number_at 10 (2 ^ 32 - 1) word.now }
+{
+    Some(decimal(word, MOST_NUMBER)? as u32)
+}
+
+fn region_number(word: &[u8]) -> Option<u8>
+    ensures { result ≡ number_at 10 255 word.now }
+{
+    Some(decimal(word, LAST_REGION)? as u8)
+}
 
 #[tactic(auto, unfolding(crate::specs::Lines::chan_at))]
 fn chan_of(word: &[u8]) -> Option<Chan>
@@ -47,7 +60,7 @@ fn budget_of(link: Name, words: &[u8]) -> Option<Watch>
     let (chan, words) = word(words)?;
     let (opcode, limit) = word(words)?;
     let class = class_of(chan, opcode)?;
-    let limit = decimal(limit, MOST_NUMBER)? as u32;
+    let limit = number_of(limit)?;
     Some(Watch::Budget { link, class, limit })
 }
 
@@ -90,7 +103,7 @@ fn attach_of<'a>(words: &[u8]) -> Option<Command<'a>>
     ensures { result ≡ attach_at words.now }
 {
     let (number, words) = word(words)?;
-    let number = decimal(number, MOST_NUMBER)? as u32;
+    let number = number_of(number)?;
     let watch = watch_of(words)?;
     Some(Command::Attach { number, watch })
 }
@@ -132,7 +145,7 @@ fn region_of<'a>(words: &[u8]) -> Option<Command<'a>>
     let (manager, words) = word(words)?;
     let manager = Name::new(manager)?;
     let (number, words) = word(words)?;
-    let number = decimal(number, LAST_REGION)? as u8;
+    let number = region_number(number)?;
     let (first, words) = word(words)?;
     let first = hexadecimal(first)?;
     let (last, permits) = word(words)?;
@@ -152,7 +165,7 @@ fn unregion_of<'a>(words: &[u8]) -> Option<Command<'a>>
 {
     let (manager, number) = word(words)?;
     let manager = Name::new(manager)?;
-    let number = decimal(number, LAST_REGION)? as u8;
+    let number = region_number(number)?;
     Some(Command::RemoveRegion { manager, number })
 }
 
@@ -162,7 +175,7 @@ fn withdraw_of<'a>(words: &[u8]) -> Option<Command<'a>>
 {
     let (link, number) = word(words)?;
     let link = Name::new(link)?;
-    let number = decimal(number, MOST_NUMBER)? as u32;
+    let number = number_of(number)?;
     Some(Command::Withdraw { link, number })
 }
 
@@ -171,8 +184,8 @@ fn retune_of<'a>(words: &[u8]) -> Option<Command<'a>>
     ensures { result ≡ retune_at words.now }
 {
     let (number, limit) = word(words)?;
-    let number = decimal(number, MOST_NUMBER)? as u32;
-    let limit = decimal(limit, MOST_NUMBER)? as u32;
+    let number = number_of(number)?;
+    let limit = number_of(limit)?;
     Some(Command::Retune { number, limit })
 }
 
@@ -195,7 +208,7 @@ pub(crate) fn order_of<'a>(kind: &[u8], words: &[u8]) -> Option<Command<'a>>
     } else if kind == b"retune".as_slice() {
         retune_of(words)
     } else if kind == b"detach".as_slice() {
-        let number = decimal(words, MOST_NUMBER)? as u32;
+        let number = number_of(words)?;
         Some(Command::Detach { number })
     } else {
         None

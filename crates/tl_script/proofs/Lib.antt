@@ -1,0 +1,4 @@
+pub mod WordTexts
+pub mod LineTexts
+pub mod CommandTexts
+pub mod ScriptLaws

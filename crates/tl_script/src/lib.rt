@@ -1,0 +1,14 @@
+//! The text of a script: the edits of captures, regions and monitors, command by command.
+#![tactic(auto)]
+
+mod command;
+mod fault;
+pub mod laws;
+mod line;
+mod reading;
+#[cfg(test)]
+mod tests;
+
+pub use command::{Command, Text};
+pub use fault::ScriptFault;
+pub use reading::{monitors_of, read_command};

@@ -5,7 +5,7 @@ ghost use Rattle.std.specs.Arc.{arc_value};
 ghost use Rattle.std.specs.Result.{IsErrOf};
 ghost use Rattle.tl_inputs.specs.Edits.{plain};
 ghost use Rattle.tl_inputs.specs.Inputs.{InputData, refusal};
-ghost use Rattle.tl_inputs.specs.Log.{LogData, inputs_after};
+ghost use Rattle.tl_inputs.specs.Log.{LogData, IsLog, inputs_after};
 
 use crate::edit::Edit;
 use crate::fault::{EditFault, PastFault};
@@ -58,7 +58,10 @@ impl Log {
 
     /// What stands now.
     pub fn inputs(&self) -> &Inputs
-        ensures { result.now ≡ inputs_after self.now.topo self.now.edits }
+        ensures exact { result.now ≡ inputs_after self.now.topo self.now.edits }
+        ensures topo { result.now.topo ≡ self.now.topo }
+        // Each edit was accepted behind those before it.
+        ensures kept { IsLog self.now }
     {
         &self.inputs
     }

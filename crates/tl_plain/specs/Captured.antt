@@ -10,6 +10,7 @@ use Rattle.tl_beats.specs.declared.watch.Watch.{Watch}
 use Rattle.tl_definitions.specs.Captures.{captures_of}
 use Rattle.tl_definitions.specs.Positions.{Recorded, beats_of}
 use Rattle.tl_definitions.specs.Report.{Capture, of_monitor}
+use Rattle.tl_inputs.specs.Inputs.{InputData, attached}
 
 -- The regions of a manager, from a list of those of all managers by number. A manager without an entry has none.
 abbrev pub areas_at : List (List (ℕ × Area)) → ℕ → List Area
@@ -29,3 +30,7 @@ watch_captures topo fragments watches = map (watch_capture topo fragments) watch
 -- The managers first, then the monitors.
 abbrev pub captures_with : Topology → List Recorded → List (List (ℕ × Area)) → List (ℕ × Watch) → List Capture
 captures_with topo fragments regions watches = captures_of topo (areas_at regions) fragments ++ watch_captures topo fragments watches
+
+-- The captures of what edits leave.
+abbrev pub captures_after : InputData → List Capture
+captures_after now = captures_with now.topo now.fragments now.regions (attached now.monitors)

@@ -77,12 +77,3 @@ pub fn check_all(
     rows.extend_from_slice(&flagged)?;
     Ok(sort_rows(rows))
 }
-
-/// The report of the fragments that are present on the links of a topology, whose managers have no regions, without monitors:
-/// each manager's beats are judged one after the other, from the first on. AllocError where memory is refused.
-pub fn scratch(alloc: Global, topo: &Topo, present: &Present) -> Result<Vec<Row>, AllocError>
-    ensures report { IfOk result (λ rows. IsReport (captures_of topo.now no_regions present.now) rows.items) }
-    ensures links { IfOk result (λ rows. All (λ row. row.link < length topo.now.links) rows.items) }
-{
-    check_all(alloc, topo, present, &[], &[])
-}

@@ -3,7 +3,9 @@
 
 mod checking;
 mod laws;
+mod standing;
 mod watching;
 
-pub use checking::{check_all, scratch};
+pub use checking::check_all;
 pub use laws::guarded_reports_are_coherent;
+pub use standing::{audit, scratch};

@@ -1,3 +1,2 @@
 pub mod Texts
 pub mod AddedLaws
-pub mod CleanLaws

@@ -1,7 +1,6 @@
 //! The report of fragments and its text.
 #![tactic(auto)]
 
-pub mod laws;
 mod once;
 mod report;
 

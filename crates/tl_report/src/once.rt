@@ -1,11 +1,11 @@
 //! The report of fragments.
 
-ghost use Rattle.std.specs.Prelude.{◌≡◌, ◌<◌, ◌+◌, ◌^◌, ℕ, List, Option, Ok, Err, None, IfOk, IfErr, OnOk, length, take, map};
+ghost use Rattle.std.specs.Prelude.{◌≡◌, ◌<◌, ◌+◌, ◌^◌, ℕ, List, Option, None, IfOk, IfErr, OnOk, length, take, map};
 ghost use Rattle.std.specs.Arc.{arc_value};
 ghost use Rattle.std.specs.Result.{IsErrOf};
 ghost use Rattle.std.specs.Io.KnownBytes.{Appends};
 ghost use Rattle.tl_beats.specs.declared.Row.{Row as AnyRow};
-ghost use Rattle.tl_report.specs.Once.{Refusal, added, added_to, text_once, AreRowsOf};
+ghost use Rattle.tl_report.specs.Once.{adds, first_refusal, of_edit, text_once, AreRowsOf, IsRefusal};
 ghost use Rattle.tl_report.specs.declared.once.OnceFault.TheVariants.{Memory, WriteFault as Unwritten};
 
 use crate::report::{Report, report_text};
@@ -13,21 +13,10 @@ use std::alloc::{AllocError, Global};
 use std::sync::Arc;
 use thiserror::Error;
 use tl_beats::{ByteOut, Fragment};
+use tl_inputs::{Change, Edit, EditFault, Log};
 use tl_plain::scratch;
 use tl_text::{WriteFault, write_all};
 use tl_topology::Topo;
-use tl_windows::Present;
-
-const UNKNOWN_LINK: u8 = 21;
-
-const FRAGMENT_EXISTS: u8 = 22;
-
-const RANGE_OVERLAP: u8 = 24;
-
-const LOG_FULL: u8 = 30;
-
-/// The most edits that are accepted.
-const MOST_EDITS: usize = 65_536;
 
 /// Why fragments have no report.
 #[derive(Clone, Copy, Debug, Drop, Error, PartialEq, Eq)]
@@ -57,6 +46,20 @@ impl From<AllocError> for OnceFault {
     }
 }
 
+impl From<EditFault> for OnceFault {
+    ghost from_gives = { λ found fault. fault ≡ of_edit found };
+
+    fn from(found: EditFault) -> OnceFault {
+        match found {
+            EditFault::Memory => OnceFault::Memory,
+            _ => OnceFault::Refused {
+                code: found.code(),
+                number: found.number(),
+            },
+        }
+    }
+}
+
 impl From<WriteFault> for OnceFault {
     ghost from_gives = { λ _ e. e ≡ Unwritten };
 
@@ -65,56 +68,20 @@ impl From<WriteFault> for OnceFault {
     }
 }
 
-/// A refusal that names no number.
-fn refused(code: u8) -> OnceFault
-    ensures { result ≡ OnceFault.Refused code None }
-{
-    OnceFault::Refused { code, number: None }
-}
-
-/// Adds a fragment to those that stand, as the edit behind so many.
-fn add(
-    topo: &Topo,
-    edits: usize,
-    present: &mut Present,
-    fragment: Arc<Fragment>,
-) -> Result<(), OnceFault>
-    ensures ok { OnOk result (added_to topo.now edits present.old (arc_value fragment) ≡ Ok present.new) }
+/// The log of these fragments, each of which is one edit.
+fn all_added(alloc: Global, topo: &Topo, fragments: &[Arc<Fragment>]) -> Result<Log, OnceFault>
+    ensures ok { IfOk result (λ log. log ≡ record { topo = topo.now; edits = adds (map arc_value fragments.now) }) }
+    ensures accepted { OnOk result (first_refusal topo.now (map arc_value fragments.now) ≡ None) }
     ensures refused { (code : ℕ) (number : Option ℕ) → IsErrOf result (OnceFault.Refused code number)
-        → added_to topo.now edits present.old (arc_value fragment) ≡ Err (record { code = code; number = number }) }
+        → IsRefusal topo.now (map arc_value fragments.now) code number }
     ensures written { IfErr result (λ fault. (fault ≡ Unwritten) → ⊥) }
 {
-    let Some(link) = topo.link_of(&fragment.link()) else {
-        return Err(refused(UNKNOWN_LINK));
-    };
-    if present.get(link, fragment.number()).is_some() {
-        return Err(refused(FRAGMENT_EXISTS));
+    let mut log = Log::new(alloc, topo.copy(alloc)?)?;
+    for fragment in fragments {
+        let shared = Arc::try_clone(fragment)?;
+        log.push(Edit::Change(Change::Add(shared)))?;
     }
-    if let Some(other) = present.overlapped(link, &fragment) {
-        return Err(OnceFault::Refused {
-            code: RANGE_OVERLAP,
-            number: Some(other),
-        });
-    }
-    if edits >= MOST_EDITS {
-        return Err(refused(LOG_FULL));
-    }
-    present.put(link, fragment)?;
-    Ok(())
-}
-
-/// What stands once the fragments were added, one after the other.
-fn all_added(alloc: Global, topo: &Topo, fragments: &[Arc<Fragment>]) -> Result<Present, OnceFault>
-    ensures ok { IfOk result (λ present. added topo.now (map arc_value fragments.now) ≡ Ok present) }
-    ensures refused { (code : ℕ) (number : Option ℕ) → IsErrOf result (OnceFault.Refused code number)
-        → added topo.now (map arc_value fragments.now) ≡ Err (record { code = code; number = number }) }
-    ensures written { IfErr result (λ fault. (fault ≡ Unwritten) → ⊥) }
-{
-    let mut present = Present::new(alloc);
-    for (edits, fragment) in fragments.iter().enumerate() {
-        add(topo, edits, &mut present, Arc::try_clone(fragment)?)?;
-    }
-    Ok(present)
+    Ok(log)
 }
 
 /// Adds the fragments to the captures of a topology, one after the other, checks all of it from the beginning, and writes the
@@ -135,14 +102,14 @@ pub fn run_once<O: ByteOut>(
 
     // A refusal and want of memory write nothing, and a write that fails leaves a front of the text.
     ensures refused { (code : ℕ) (number : Option ℕ) → IsErrOf result (OnceFault.Refused code number)
-        → (added topo.now (map arc_value fragments.now) ≡ Err (record { code = code; number = number })) × (out.new ≡ out.old) }
+        → IsRefusal topo.now (map arc_value fragments.now) code number × (out.new ≡ out.old) }
     ensures memory { IsErrOf result OnceFault.Memory → out.new ≡ out.old }
     ensures failed { IsErrOf result OnceFault.WriteFault → (O.failure_count out.new ≡ O.failure_count out.old + 1)
         × ((rows : List AnyRow) × AreRowsOf topo.now (map arc_value fragments.now) rows
         × ((n : ℕ) × Appends (O.contents out.old) (O.contents out.new) (take n (text_once topo.now (length fragments.now) rows)))) }
 {
-    let present = all_added(alloc, topo, fragments)?;
-    let rows = scratch(alloc, topo, &present)?;
+    let log = all_added(alloc, topo, fragments)?;
+    let rows = scratch(alloc, log.inputs())?;
     let report = Report::new(1, fragments.len() as u64, rows);
     let text = report_text(alloc, topo, &report)?;
     write_all(out, text.as_bytes())?;

@@ -1,24 +1,26 @@
-use Rattle.std.proofs.Common.{◌≡◌, ◌+◌, Ok, get_or, ap, subst, sym, ◌∙◌}
-use Rattle.std.specs.Result.{IsErrOf}
-use Rattle.tl_report.specs.declared.once.OnceFault.TheVariants as fault
+use Rattle.std.proofs.Common.{rules, ◌≡◌, ap, subst, ◌∙◌}
 use Rattle.std.specs.Arc.{arc_value}
+use Rattle.std.specs.Result.{IsErrOf}
 use Rattle.std.proofs.lemmas.Result.{err_from_is_err_and}
-use Rattle.tl_report.specs.Once.{added_to}
-use Rattle.tl_report.proofs.AddedLaws.{added_more, refused_at}
+use Rattle.tl_inputs.specs.Edits.{add}
+use Rattle.tl_report.specs.Once.{of_edit}
+use Rattle.tl_report.specs.declared.once.OnceFault.TheVariants as fault
+use Rattle.tl_report.proofs.AddedLaws.{next_log, first_why, told_of}
 use Rattle.tl_report.proofs.once.all_added.Goals as goal
 
-pub returns-in_err-add-clause-refused : goal.returns-in_err-add-clause-refused
-returns-in_err-add-clause-refused c code number h =
-    let d = c.index-fragments-edits.result in
-    let v : arc_value c.in_ok-try_clone.field-0 ≡ arc_value (get_or c.args.fragments.now c.loop-edits.edits d) = c.in_ok-try_clone.ensures ∙ ap arc_value c.index-fragments-edits.is in
-    let p = err_from_is_err_and c.from_residual-in_err-add.result c.from_residual-in_err-add.ensures.1 in
+pub returns-in_err-push-clause-refused : goal.returns-in_err-push-clause-refused
+returns-in_err-push-clause-refused c code number h =
+    let it = ap add (c.in_ok-shared.ensures ∙ ap arc_value c.fragment-item.is) in
+    let p = err_from_is_err_and c.from_residual-in_err-push.result c.from_residual-in_err-push.ensures.1 in
     let told = subst (λ r. IsErrOf r (fault.Refused code number)) p.1 h in
-    refused_at arc_value c.args.topo.now c.args.fragments.now c.loop-edits.edits d c.loop-edits-test.true c.loop-edits.present c.loop-edits.invariant _
-    (ap (added_to c.args.topo.now c.loop-edits.edits c.loop-edits.present) (sym v) ∙ c.in_err-add.ensures.refused code number (cc (p.2, told)))
+    let is : of_edit c.in_err-push.field-0.0 ≡ fault.Refused code number = cc (p.2, told) in
+    let why = told_of c.in_err-push.field-0.0 code number is in
+    let first = first_why arc_value c.args.topo.now c.args.fragments.now c.loop-fragment.fragment-index c.fragment-item.result c.loop-fragment-test.true
+    c.loop-fragment.log c.loop-fragment.invariant.0 c.loop-fragment.invariant.1 (add (arc_value c.in_ok-shared.shared)) it c.in_err-push.field-0.0 (c.in_err-push.ensures.refused why.0) in
+    (c.in_err-push.field-0.0, first, why.1, why.2)
 
-pub loop-edits-preserved : goal.loop-edits-preserved
-loop-edits-preserved c =
-    let d = c.index-fragments-edits.result in
-    let v : arc_value c.in_ok-try_clone.field-0 ≡ arc_value (get_or c.args.fragments.now c.loop-edits.edits d) = c.in_ok-try_clone.ensures ∙ ap arc_value c.index-fragments-edits.is in
-    added_more arc_value c.args.topo.now c.args.fragments.now c.loop-edits.edits d c.loop-edits-test.true c.loop-edits.present c.loop-edits.invariant _
-    (ap (added_to c.args.topo.now c.loop-edits.edits c.loop-edits.present) (sym v) ∙ c.in_ok-add.ensures.ok)
+pub loop-fragment-preserved : goal.loop-fragment-preserved
+loop-fragment-preserved c =
+    let it = ap add (c.in_ok-shared.ensures ∙ ap arc_value c.fragment-item.is) in
+    next_log arc_value c.args.topo.now c.args.fragments.now c.loop-fragment.fragment-index c.fragment-item.result c.loop-fragment-test.true
+    c.loop-fragment.log c.loop-fragment.invariant.0 c.loop-fragment.invariant.1 (add (arc_value c.in_ok-shared.shared)) it c.push.new.self c.in_ok-push.ensures.ok c.in_ok-push.ensures.accepted

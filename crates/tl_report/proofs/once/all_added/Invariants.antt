@@ -1,8 +1,10 @@
-use Rattle.std.proofs.Common.{◌≡◌, Ok, map, take}
+use Rattle.std.proofs.Common.{◌≡◌, None, map, take}
 use Rattle.std.specs.Arc.{arc_value}
-use Rattle.tl_report.specs.Once.{added}
+use Rattle.tl_report.specs.Once.{adds, first_refusal}
 use Rattle.tl_report.proofs.once.all_added.Given as goal
 
--- what stands is what the fragments so far leave
-abbrev pub invariant-loop-edits : goal.invariant-loop-edits
-invariant-loop-edits l = added l.topo (map arc_value (take l.edits l.fragments)) ≡ Ok l.present
+-- the fragments so far are added, and none of them was refused
+abbrev pub invariant-loop-fragment : goal.invariant-loop-fragment
+invariant-loop-fragment l =
+    (l.log ≡ record { topo = l.topo; edits = adds (map arc_value (take l.fragment-index l.fragments)) })
+    × (first_refusal l.topo (map arc_value (take l.fragment-index l.fragments)) ≡ None)

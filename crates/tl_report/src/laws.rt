@@ -1,9 +1,0 @@
-//! What a clean report means.
-
-ghost use Rattle.tl_report.specs.Once.{CleanReportsAreCoherent};
-
-/// Where a report has no row of P1, P2 and M1, at every position of each manager's beats and for every block, while one client
-/// may hold the block to write, no other client of the manager may hold it at all.
-pub fn clean_reports_are_coherent()
-    ensures { CleanReportsAreCoherent }
-{}

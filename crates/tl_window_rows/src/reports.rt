@@ -3,10 +3,10 @@
 use crate::edits::{add, fragment};
 use std::alloc::Global;
 use std::test::Fail;
-use tl_beats::{Class, Watch};
+use tl_beats::{Class, Row, Watch};
 use tl_plain::check_all;
 use tl_tables::{Chan, rule_text};
-use tl_topology::{Name, Permits, Region, RegionMap, read_topo};
+use tl_topology::{Name, Permits, Region, RegionMap, Topo, read_topo};
 use tl_windows::Present;
 
 /// One manager with three clients.
@@ -33,8 +33,20 @@ const GET: Class = Class {
     opcode: 4,
 };
 
-/// The rows of a fragment of dma0: link, fragment, line and rule of each, and the monitor where there is one.
-fn told(
+/// Rows as a report tells them: link, fragment, line and rule of each, and the monitor, or 0.
+fn told(alloc: Global, topo: &Topo, rows: &[Row]) -> Result<String, Fail> {
+    let mut text = String::new(alloc);
+    for row in rows {
+        let name = topo.link(row.link).ok_or("a link")?.name;
+        let (fragment, line, rule) = (row.fragment, row.line, rule_text(row.rule));
+        let monitor = row.monitor.unwrap_or(0);
+        text.push_str(&format!(in alloc; "{name} {fragment} {line} {rule} {monitor}\n")?)?;
+    }
+    Ok(text)
+}
+
+/// The rows of a fragment of dma0.
+fn rows_of(
     alloc: Global,
     lines: &str,
     regions: &[RegionMap],
@@ -44,17 +56,8 @@ fn told(
     let link = topo.link_of(&dma0()?).ok_or("a link")?;
     let mut present = Present::new(alloc);
     add(&mut present, link, fragment(alloc, 1, (0, 99999), lines)?)?;
-    let mut text = String::new(alloc);
-    for row in &check_all(alloc, &topo, &present, regions, watches)? {
-        let name = topo.link(row.link).ok_or("a link")?.name;
-        let (fragment, line, rule) = (row.fragment, row.line, rule_text(row.rule));
-        text.push_str(&format!(in alloc; "{name} {fragment} {line} {rule}")?)?;
-        if let Some(monitor) = row.monitor {
-            text.push_str(&format!(in alloc; " {monitor}")?)?;
-        }
-        text.push_str("\n")?;
-    }
-    Ok(text)
+    let rows = check_all(alloc, &topo, &present, regions, watches)?;
+    told(alloc, &topo, &rows)
 }
 
 /// The link that is watched.
@@ -87,8 +90,8 @@ fn region(first: u64, last: u64, get: bool) -> Result<Region, Fail> {
 fn a_get_outside_the_regions_is_found(rt: HostRuntime) -> Result<(), Fail> {
     let mut own = RegionMap::new(rt.alloc());
     own.set(1, region(0x8000, 0x8fff, false)?)?;
-    let rows = told(rt.alloc(), ONE_GET, &[own], &[])?;
-    assert!(rt; rows.as_str() == "dma0 1 2 F10\n");
+    let rows = rows_of(rt.alloc(), ONE_GET, &[own], &[])?;
+    assert!(rt; rows.as_str() == "dma0 1 2 F10 0\n");
     Ok(())
 }
 
@@ -97,21 +100,21 @@ fn a_get_in_a_region_is_permitted(rt: HostRuntime) -> Result<(), Fail> {
     let mut own = RegionMap::new(rt.alloc());
     own.set(0, region(0, 0x1fff, true)?)?;
     own.set(1, region(0x8000, 0x8fff, false)?)?;
-    let rows = told(rt.alloc(), ONE_GET, &[own], &[])?;
+    let rows = rows_of(rt.alloc(), ONE_GET, &[own], &[])?;
     assert!(rt; rows.is_empty());
     Ok(())
 }
 
 #[test]
 fn a_budget_flags(rt: HostRuntime) -> Result<(), Fail> {
-    let rows = told(rt.alloc(), ONE_GET, &[], &[(5, budget(0)?)])?;
+    let rows = rows_of(rt.alloc(), ONE_GET, &[], &[(5, budget(0)?)])?;
     assert!(rt; rows.as_str() == "dma0 1 2 X1 5\n");
     Ok(())
 }
 
 #[test]
 fn a_large_budget_flags_nothing(rt: HostRuntime) -> Result<(), Fail> {
-    let rows = told(rt.alloc(), ONE_GET, &[], &[(5, budget(4294967295)?)])?;
+    let rows = rows_of(rt.alloc(), ONE_GET, &[], &[(5, budget(4294967295)?)])?;
     assert!(rt; rows.is_empty());
     Ok(())
 }
@@ -119,7 +122,7 @@ fn a_large_budget_flags_nothing(rt: HostRuntime) -> Result<(), Fail> {
 #[test]
 fn two_monitors_flag_one_beat(rt: HostRuntime) -> Result<(), Fail> {
     let watches = [(3, budget(0)?), (5, budget(0)?)];
-    let rows = told(rt.alloc(), ONE_GET, &[], &watches)?;
+    let rows = rows_of(rt.alloc(), ONE_GET, &[], &watches)?;
     assert!(rt; rows.as_str() == "dma0 1 2 X1 3\ndma0 1 2 X1 5\n");
     Ok(())
 }
@@ -131,7 +134,7 @@ fn an_after_flags_the_second(rt: HostRuntime) -> Result<(), Fail> {
         first: GET,
         second: GET,
     };
-    let rows = told(rt.alloc(), TWO_GETS, &[], &[(6, after)])?;
+    let rows = rows_of(rt.alloc(), TWO_GETS, &[], &[(6, after)])?;
     assert!(rt; rows.as_str() == "dma0 1 4 X1 6\n");
     Ok(())
 }

@@ -74,7 +74,7 @@ pub record Reads (line behind : List ℕ) (c : Command) : Type 0 where
   pub rest : List ℕ
   pub joins : behind ≡ bytes_of c ++ rest
 
-abbrev by_word : Bool → Bool → List ℕ → List ℕ → List ℕ → Result Command ScriptFault
+abbrev pub by_word : Bool → Bool → List ℕ → List ℕ → List ℕ → Result Command ScriptFault
 by_word s t kind words behind =
     cond s (carried_at words behind >>> λ text. Ok (command.Add text)) (cond t (carried_at words behind >>> λ text. Ok (command.Replace text)) (or_fault (order_at kind words) fault.BadCommand))
 
@@ -95,7 +95,7 @@ word_reads false false line kind words behind c e p q k =
     let law = order_takes kind words c (given_ok (order_at kind words) fault.BadCommand c k) in
     record { spelled = e ∙ law.spelled; lawful = law.lawful; rest = behind; joins = ap (λ (l : List ℕ). l ++ behind) (sym law.bare) }
 
-abbrev by_line : Bool → List ℕ → List ℕ → Result Command ScriptFault
+abbrev pub by_line : Bool → List ℕ → List ℕ → Result Command ScriptFault
 by_line t line behind = cond t (Ok command.Publish) (or_fault (word_at line) fault.BadCommand >>> λ kind. by_word (bytes_eq kind.0 (codes "add")) (bytes_eq kind.0 (codes "replace")) kind.0 kind.1 behind)
 
 line_reads : (t : Bool) (line behind : List ℕ) (c : Command) → (t ≡ true → line ≡ codes "publish") → by_line t line behind ≡ Ok c → Reads line behind c
@@ -130,19 +130,19 @@ behind_again command.Publish rest is = refl
 abbrev pub Found : Type 0
 Found = Option (Command × ℕ)
 
-abbrev Line : Type 0
+abbrev pub Line : Type 0
 Line = List ℕ × List ℕ
 
 -- what a line and what follows it are read as
-abbrev line_found : Line → Result Found ScriptFault
+abbrev pub line_found : Line → Result Found ScriptFault
 line_found line = command_behind line.0 line.1 >>> λ c. Ok (Some (c, length line.0 + 1 + length (bytes_of c)))
 
-line_in : (bytes : List ℕ) (line : Line) → line_at bytes ≡ Some line → command_in bytes ≡ line_found line
+pub line_in : (bytes : List ℕ) (line : Line) → line_at bytes ≡ Some line → command_in bytes ≡ line_found line
 unfolding command_in line_at
 line_in [] line e = absurd (none-some line e)
 line_in (b ∷ bytes) line e = rw e refl
 
-line_again : (line behind : List ℕ) → is_free 10 line ≡ true → line_at (line ++ 10 ∷ behind) ≡ Some (line, behind)
+pub line_again : (line behind : List ℕ) → is_free 10 line ≡ true → line_at (line ++ 10 ∷ behind) ≡ Some (line, behind)
 unfolding line_at
 line_again line behind free = rw (cut_again 10 line behind free) refl
 

@@ -2,3 +2,4 @@ pub mod WordTexts
 pub mod LineTexts
 pub mod CommandTexts
 pub mod ScriptLaws
+pub mod FaultLaws

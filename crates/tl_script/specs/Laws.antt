@@ -1,11 +1,13 @@
 -- What scripts and the spellings of commands keep among themselves.
-use Rattle.std.specs.Prelude.{◌≡◌, ℕ, ◌+◌, List, [], ◌++◌, length, drop, Option, Some, None, Ok, Err}
-use Rattle.std.specs.List.{AllByRecursion}
+use Rattle.std.specs.Prelude.{◌≡◌, ◌↔◌, ℕ, ◌+◌, ◌<◌, ◌==◌, Bool, true, not, List, [], ◌∷◌, ◌++◌, length, drop, Option, Some, None, Ok, Err}
+use Rattle.std.specs.List.{AllByRecursion, list_all}
 use Rattle.tl_script.specs.declared.command.Command.{Command}
 use Rattle.tl_script.specs.declared.fault.ScriptFault.{ScriptFault}
+use Rattle.tl_script.specs.declared.fault.ScriptFault.TheVariants as fault
+use Rattle.tl_script.specs.Commands.{bytes_of}
 use Rattle.tl_script.specs.Reading.{command_in}
 use Rattle.tl_script.specs.Scripts.{script_by, commands_of, fault_of}
-use Rattle.tl_script.specs.Text.{command_text, script_text, IsCommand}
+use Rattle.tl_script.specs.Text.{command_text, script_text, line_of, IsCommand}
 
 -- A command's spelling, whatever follows, is read as that command, and takes exactly its bytes.
 abbrev pub SpellingsAreRead : Type 0
@@ -43,3 +45,22 @@ ScriptsAreCommands = (bytes : List ℕ) → AllByRecursion IsCommand (commands_o
 abbrev pub FaultsAreNumbered : Type 0
 FaultsAreNumbered = (commands : List Command) (rest : List ℕ) (found : ScriptFault) → AllByRecursion IsCommand commands → command_in rest ≡ Err found
     → fault_of (commands_of (script_text commands ++ rest)) ≡ Some (length commands + 1, found)
+
+-- ---- which fault is told
+
+-- no newline stands in it
+abbrev pub is_line : List ℕ → Bool
+is_line bytes = list_all (λ b. not (b == 10)) bytes
+
+-- What is left and has no newline ends inside a line, whatever it says.
+abbrev pub LinesEnd : Type 0
+LinesEnd = (b : ℕ) (bytes : List ℕ) → is_line (b ∷ bytes) ≡ true → command_in (b ∷ bytes) ≡ Err fault.Truncated
+
+-- Behind the line of a command that fewer bytes follow than are its, the script ends inside these.
+abbrev pub BytesEnd : Type 0
+BytesEnd = (c : Command) (behind : List ℕ) → IsCommand c → length behind < length (bytes_of c) → command_in (line_of c ++ 10 ∷ behind) ≡ Err fault.Truncated
+
+-- A line is bad exactly where it is the line of no command.
+abbrev pub BadLines : Type 0
+BadLines = (line behind : List ℕ) → is_line line ≡ true
+    → (command_in (line ++ 10 ∷ behind) ≡ Err fault.BadCommand) ↔ ((c : Command) → IsCommand c → line ≡ line_of c → ⊥)

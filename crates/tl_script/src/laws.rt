@@ -1,7 +1,7 @@
 //! What scripts and the spellings of commands keep among themselves. These calls do nothing: each is there for what it
 //! promises.
 
-ghost use Rattle.tl_script.specs.Laws.{SpellingsAreRead, ReadsAreSpelled, SpellingsTellCommandsApart, FirstCommandThenOthers, CommandsAreRead, ScriptsAreCommands, FaultsAreNumbered};
+ghost use Rattle.tl_script.specs.Laws.{SpellingsAreRead, ReadsAreSpelled, SpellingsTellCommandsApart, FirstCommandThenOthers, CommandsAreRead, ScriptsAreCommands, FaultsAreNumbered, LinesEnd, BytesEnd, BadLines};
 
 /// A command's spelling, whatever follows, is read as that command, and takes exactly its bytes.
 #[tactic(auto, using(crate::proofs::CommandTexts::spellings_are_read))]
@@ -42,4 +42,12 @@ pub fn scripts_are_commands()
 #[tactic(auto, using(crate::proofs::ScriptLaws::faults_are_numbered))]
 pub fn faults_are_numbered()
     ensures { FaultsAreNumbered }
+{}
+
+/// A script ends inside a command where no newline is left, or fewer bytes follow the line of a command than are its; and a
+/// line is bad exactly where it is the line of no command.
+pub fn faults_have_their_causes()
+    ensures lines { LinesEnd }
+    ensures bytes { BytesEnd }
+    ensures bad { BadLines }
 {}

@@ -12,6 +12,19 @@ const AMPLE: Class = Class {
     opcode: 4,
 };
 
+const PUBLISH: &[u8] = b"publish\n";
+
+const MONITORS: &[u8] =
+    b"attach 5 budget dma0 A 4 0\nadd 1\n\nattach 6 after dma0 A 4 A 4\nattach\nattach 7 after dma0 A 4 A 4\n";
+
+/// The first command and how many bytes it takes.
+fn first(script: &[u8]) -> Result<(Command<'_>, usize), Fail> {
+    match read_command(script) {
+        Ok(Some(read)) => Ok(read),
+        _ => Err("no command".into()),
+    }
+}
+
 /// The number of the refusal, or 0 where there is none.
 fn code(script: &[u8]) -> u8 {
     match read_command(script) {
@@ -22,14 +35,11 @@ fn code(script: &[u8]) -> u8 {
 
 #[test]
 fn an_add_has_its_bytes_and_a_publish_follows(rt: HostRuntime) -> Result<(), Fail> {
-    let Ok(Some((Command::Add(text), taken))) = read_command(SCRIPT) else {
-        return Err("no add".into());
-    };
-    assert!(rt; text.as_bytes() == FRAGMENT && taken == 52);
-    let Ok(Some((Command::Publish, taken))) = read_command(&SCRIPT[taken..]) else {
-        return Err("no publish".into());
-    };
-    assert!(rt; taken == 8);
+    let (add, taken) = first(SCRIPT)?;
+    assert!(rt; add.bytes() == FRAGMENT && taken == 52);
+    assert!(rt; matches!(&add, Command::Add(_)));
+    let (publish, taken) = first(PUBLISH)?;
+    assert!(rt; matches!(&publish, Command::Publish) && taken == 8);
     assert!(rt; matches!(read_command(b""), Ok(None)));
     Ok(())
 }
@@ -55,23 +65,16 @@ fn lines_that_are_refused(rt: HostRuntime) {
 
 #[test]
 fn a_region_has_its_parts(rt: HostRuntime) -> Result<(), Fail> {
-    let read = read_command(b"region m0 7 0 1fff g--h-\n");
-    let Ok(
-        Some(
-            (
-                Command::SetRegion {
-                    manager,
-                    number,
-                    region,
-                },
-                _,
-            ),
-        ),
-    ) = read
+    let (command, _) = first(b"region m0 7 0 1fff g--h-\n")?;
+    let Command::SetRegion {
+        manager,
+        number,
+        region,
+    } = &command
     else {
         return Err("no region".into());
     };
-    assert!(rt; manager.as_str() == "m0" && number == 7);
+    assert!(rt; manager.as_str() == "m0" && *number == 7);
     assert!(rt; region.first() == 0 && region.last() == 0x1fff);
     let permits = region.permits();
     assert!(rt; permits.get && !permits.put && !permits.atomic && permits.hint && !permits.cache);
@@ -80,7 +83,8 @@ fn a_region_has_its_parts(rt: HostRuntime) -> Result<(), Fail> {
 
 #[test]
 fn a_link_is_cleared(rt: HostRuntime) -> Result<(), Fail> {
-    let Ok(Some((Command::Clear { link }, taken))) = read_command(b"clear dma0\n") else {
+    let (command, taken) = first(b"clear dma0\n")?;
+    let Command::Clear { link } = &command else {
         return Err("no clear".into());
     };
     assert!(rt; link.as_str() == "dma0" && taken == 11);
@@ -89,21 +93,21 @@ fn a_link_is_cleared(rt: HostRuntime) -> Result<(), Fail> {
 
 #[test]
 fn monitors_are_those_before_the_first_bad_command(rt: HostRuntime) -> Result<(), Fail> {
-    let script =
-        b"attach 5 budget dma0 A 4 0\nadd 1\n\nattach 6 after dma0 A 4 A 4\nattach\nattach 7 after dma0 A 4 A 4\n";
-    let monitors = monitors_of(rt.alloc(), script)?;
+    let monitors = monitors_of(rt.alloc(), MONITORS)?;
     assert!(rt; monitors.len() == 2);
-    let [(5, budget), (6, after)] = monitors.as_slice() else {
-        return Err("other monitors".into());
-    };
-    assert!(rt; budget.link().as_str() == "dma0" && after.link().as_str() == "dma0");
-    let Watch::Budget { class, limit, .. } = budget else {
-        return Err("no budget".into());
-    };
-    assert!(rt; *class == AMPLE && *limit == 0);
-    let Watch::After { first, second, .. } = after else {
-        return Err("no after".into());
-    };
-    assert!(rt; *first == AMPLE && *second == AMPLE);
+    for monitor in &monitors {
+        let number = monitor.0;
+        let is_told = match &monitor.1 {
+            Watch::Budget { link, class, limit } => {
+                number == 5 && link.as_str() == "dma0" && *class == AMPLE && *limit == 0
+            }
+            Watch::After {
+                link,
+                first,
+                second,
+            } => { number == 6 && link.as_str() == "dma0" && *first == AMPLE && *second == AMPLE }
+        };
+        assert!(rt; is_told, "{number}");
+    }
     Ok(())
 }

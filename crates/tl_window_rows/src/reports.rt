@@ -10,7 +10,7 @@ use tl_topology::{Name, Permits, Region, RegionMap, Topo, read_topo};
 use tl_windows::Present;
 
 /// One manager with three clients.
-const TOPOLOGY: &str = "topo 1\n\
+pub(crate) const TOPOLOGY: &str = "topo 1\n\
 manager m0 64\n\
 link cpu0 m0 c 8 6 4\n\
 link cpu1 m0 c 8 6 4\n\
@@ -28,7 +28,7 @@ const TWO_GETS: &str = "10 A 4 0 3 0 1000 ff 0\n\
 40 D 1 0 3 0 0 0 0\n";
 
 /// Gets.
-const GET: Class = Class {
+pub(crate) const GET: Class = Class {
     chan: Chan::A,
     opcode: 4,
 };
@@ -61,12 +61,12 @@ fn rows_of(
 }
 
 /// The link that is watched.
-fn dma0() -> Result<Name, Fail> {
+pub(crate) fn dma0() -> Result<Name, Fail> {
     Ok(Name::new(b"dma0").ok_or("a name")?)
 }
 
 /// A watch that lets so many Gets of dma0 through.
-fn budget(limit: u32) -> Result<Watch, Fail> {
+pub(crate) fn budget(limit: u32) -> Result<Watch, Fail> {
     Ok(Watch::Budget {
         link: dma0()?,
         class: GET,
@@ -75,7 +75,7 @@ fn budget(limit: u32) -> Result<Watch, Fail> {
 }
 
 /// A region that permits get or put alone.
-fn region(first: u64, last: u64, get: bool) -> Result<Region, Fail> {
+pub(crate) fn region(first: u64, last: u64, get: bool) -> Result<Region, Fail> {
     let permits = Permits {
         get,
         put: !get,

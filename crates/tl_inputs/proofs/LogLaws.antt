@@ -115,6 +115,13 @@ topo_stays now (attach monitor w) = refl
 topo_stays now (retune monitor limit) = refl
 topo_stays now (detach monitor) = refl
 
+topo_stays_by : (now : InputData) (es : List AnEdit) → (changed_by now es).topo ≡ now.topo
+topo_stays_by now [] = refl
+topo_stays_by now (e ∷ es) = topo_stays_by (changed now e) es ∙ topo_stays now e
+
+pub inputs_topo : (topo : Topology) (es : List AnEdit) (inputs : InputData) → inputs ≡ inputs_after topo es → inputs.topo ≡ topo
+inputs_topo topo es inputs is = ap (λ (d : InputData). d.topo) is ∙ topo_stays_by (blank topo) es
+
 module _ {X : Type 0} (value : X → AnEdit) (xs ys : List X) (now next : InputData) where
   pub kept_with : (x : X) → IsLog (record { topo = now.topo; edits = map value xs }) → now ≡ inputs_after now.topo (map value xs) → refusal (length xs) now (value x) ≡ None
       → next ≡ changed now (value x) → ys ≡ xs ++ x ∷ [] → IsLog (record { topo = next.topo; edits = map value ys }) × (next ≡ inputs_after next.topo (map value ys))

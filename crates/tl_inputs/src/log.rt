@@ -88,6 +88,7 @@ impl Log {
     /// What the first so many edits leave. NoSuchEdit where fewer were accepted; Memory where memory is refused.
     pub fn inputs_at(&self, alloc: Global, count: u64) -> Result<Inputs, PastFault>
         ensures exact { IfOk result (λ inputs. inputs ≡ inputs_after self.now.topo (take count self.now.edits)) }
+        ensures topo { IfOk result (λ inputs. inputs.topo ≡ self.now.topo) }
         ensures within { OnOk result (count ≤ length self.now.edits) }
         ensures beyond { (n : ℕ) → IsErrOf result (PastFault.NoSuchEdit n) → (n ≡ count) × (length self.now.edits < count) }
     {

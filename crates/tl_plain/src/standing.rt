@@ -32,6 +32,7 @@ pub fn scratch(alloc: Global, inputs: &Inputs) -> Result<Vec<Row>, AllocError>
 /// Memory where memory is refused.
 pub fn audit(alloc: Global, log: &Log, count: u64) -> Result<Vec<Row>, PastFault>
     ensures report { IfOk result (λ rows. IsReport (captures_after (inputs_after log.now.topo (take count log.now.edits))) rows.items) }
+    ensures links { IfOk result (λ rows. All (λ row. row.link < length log.now.topo.links) rows.items) }
     ensures within { OnOk result (count ≤ length log.now.edits) }
     ensures beyond { (n : ℕ) → IsErrOf result (PastFault.NoSuchEdit n) → (n ≡ count) × (length log.now.edits < count) }
 {

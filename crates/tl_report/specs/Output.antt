@@ -39,3 +39,11 @@ head_text report = joined (codes "report " ∷ decimal report.version ∷ codes 
 -- a line that counts the rows, and a line for each
 unfoldable pub report_bytes : Topology → Rows → List ℕ
 report_bytes topo report = head_text report ++ flat_map (row_text topo) report.rows
+
+-- ---- what checking everything anew after so many edits finds
+
+unfoldable pub audit_head : ℕ → ℕ → List ℕ
+audit_head edit count = joined (codes "audit " ∷ decimal edit ∷ codes " rows " ∷ decimal count ∷ newline ∷ [])
+
+unfoldable pub audit_bytes : Topology → ℕ → List Row → List ℕ
+audit_bytes topo edit rows = audit_head edit (length rows) ++ flat_map (row_text topo) rows

@@ -5,4 +5,4 @@ mod once;
 mod report;
 
 pub use once::{OnceFault, run_once};
-pub use report::{Report, report_text};
+pub use report::{Report, audit_text, report_text};

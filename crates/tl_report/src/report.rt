@@ -1,8 +1,8 @@
 //! Reports and their text.
 
-ghost use Rattle.std.specs.Prelude.{◌≡◌, ◌<◌, IfOk, length, string_bytes};
-ghost use Rattle.std.specs.List.{All};
-ghost use Rattle.tl_report.specs.Output.{row_text, head_text, report_bytes};
+ghost use Rattle.std.specs.Prelude.{◌≡◌, ◌<◌, ◌++◌, IfOk, length, string_bytes};
+ghost use Rattle.std.specs.List.{All, flat_map};
+ghost use Rattle.tl_report.specs.Output.{row_text, head_text, report_bytes, audit_head, audit_bytes};
 
 use std::alloc::{AllocError, Global};
 use std::marker::Model;
@@ -36,6 +36,20 @@ impl Report {
             edit,
             rows,
         }
+    }
+
+    /// Its version, from 1.
+    pub fn version(&self) -> u64
+        ensures { result ≡ self.now.version }
+    {
+        self.version
+    }
+
+    /// The same rows of the same edits, published again as this version.
+    pub fn publish_again(&mut self, version: u64)
+        ensures { self.new ≡ record self.old { version = version } }
+    {
+        self.version = version;
     }
 
     /// Its rows, in their order.
@@ -73,6 +87,19 @@ fn head_text(alloc: Global, report: &Report) -> Result<String, AllocError>
     format!(in alloc; "report {version} edit {edit} rows {count}\n")
 }
 
+/// Rows behind a first line.
+fn listed(alloc: Global, topo: &Topo, head: String, rows: &[Row]) -> Result<String, AllocError>
+    requires { All (λ row. row.link < length topo.now.links) rows.now }
+    ensures { IfOk result (λ text. string_bytes text ≡ string_bytes head ++ flat_map (row_text topo.now) rows.now) }
+{
+    let mut text = head;
+    for row in rows {
+        let line = row_text(alloc, topo, row)?;
+        text.push_str(line.as_str())?;
+    }
+    Ok(text)
+}
+
 /// The text of a report of a topology that has the links of its rows: a line that counts the rows, and a line for each.
 /// AllocError where memory is refused.
 #[tactic(auto, unfolding(crate::specs::Output::report_bytes))]
@@ -80,10 +107,25 @@ pub fn report_text(alloc: Global, topo: &Topo, report: &Report) -> Result<String
     requires { All (λ row. row.link < length topo.now.links) report.now.rows }
     ensures { IfOk result (λ text. string_bytes text ≡ report_bytes topo.now report.now) }
 {
-    let mut text = head_text(alloc, report)?;
-    for row in report.rows() {
-        let line = row_text(alloc, topo, row)?;
-        text.push_str(line.as_str())?;
-    }
-    Ok(text)
+    let head = head_text(alloc, report)?;
+    listed(alloc, topo, head, report.rows())
+}
+
+/// The first line of what an audit finds.
+#[tactic(auto, unfolding(crate::specs::Output::audit_head))]
+fn audit_head(alloc: Global, edit: u64, count: usize) -> Result<String, AllocError>
+    ensures { IfOk result (λ text. string_bytes text ≡ audit_head edit count) }
+{
+    format!(in alloc; "audit {edit} rows {count}\n")
+}
+
+/// The text of what checking everything anew after so many edits finds, of a topology that has the links of the rows: a line
+/// that counts the rows, and a line for each. AllocError where memory is refused.
+#[tactic(auto, unfolding(crate::specs::Output::audit_bytes))]
+pub fn audit_text(alloc: Global, topo: &Topo, edit: u64, rows: &[Row]) -> Result<String, AllocError>
+    requires { All (λ row. row.link < length topo.now.links) rows.now }
+    ensures { IfOk result (λ text. string_bytes text ≡ audit_bytes topo.now edit rows.now) }
+{
+    let head = audit_head(alloc, edit, rows.len())?;
+    listed(alloc, topo, head, rows)
 }

@@ -1,6 +1,6 @@
-use Rattle.std.proofs.Common.{rules, ◌≡◌}
+use Rattle.std.proofs.Common.{rules, ◌≡◌, take}
 use Rattle.tl_inputs.specs.Edits.{plain}
-use Rattle.tl_inputs.proofs.LogLaws.{next_is_free, next_is_made, all_is_made}
+use Rattle.tl_inputs.proofs.LogLaws.{next_is_free, next_is_made, all_is_made, inputs_topo}
 use Rattle.tl_inputs.proofs.log.Log.inputs_at.Goals as goal
 
 pub apply-requires : goal.apply-requires
@@ -16,3 +16,8 @@ loop-edit-preserved c =
 pub returns-clause-exact : goal.returns-clause-exact
 returns-clause-exact c =
     all_is_made plain c.deref.result.now c.args.self.now (search rules) c.args.count c.loop-edit.edit-index c.loop-edit.inputs c.loop-edit.invariant (search rules)
+
+pub returns-clause-topo : goal.returns-clause-topo
+returns-clause-topo c =
+    inputs_topo c.args.self.now.topo (take c.args.count c.args.self.now.edits) c.loop-edit.inputs
+    (all_is_made plain c.deref.result.now c.args.self.now (search rules) c.args.count c.loop-edit.edit-index c.loop-edit.inputs c.loop-edit.invariant (search rules))

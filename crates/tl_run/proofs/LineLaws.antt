@@ -1,0 +1,78 @@
+-- Lines that are gathered and written.
+use Rattle.std.proofs.Common.{◌≡◌, ℕ, ◌+◌, ◌≤◌, List, [], ◌∷◌, ◌++◌, append_assoc, append-nil, length, length-append, take, Option, Some, None, Result, Ok, Err, refl, sym, ap, ◌∙◌, subst, arith, OnErr, OnOk}
+use Rattle.std.specs.Io.KnownBytes.{Appends}
+use Rattle.std.proofs.KnownBytes.{Appends-nil, Appends-trans}
+use Rattle.std.proofs.lemmas.List.{take-append-le}
+use Rattle.std.proofs.Math.Seq.{take-append-add}
+use Rattle.tl_text.specs.Written.{Writes}
+use Rattle.tl_run.specs.Stops.{IsSaid, IsFront}
+
+abbrev Known : Type 0
+Known = Option (List ℕ)
+
+pub nothing_said : (old : Known) → IsSaid old old [] []
+nothing_said old = ([], Appends-nil old, refl)
+
+pub gathered_more : (old now : Known) (gathered lines line : List ℕ) → IsSaid old now gathered lines → IsSaid old now (gathered ++ line) (lines ++ line)
+gathered_more old now gathered lines line (written, has, is) = (written, has, ap (λ l. l ++ line) is ∙ append_assoc written gathered line)
+
+pub all_written : (old now new : Known) (gathered lines : List ℕ) → IsSaid old now gathered lines → Appends now new gathered → IsSaid old new [] lines
+all_written old now new gathered lines (written, has, is) more =
+    (written ++ gathered, Appends-trans old now new written gathered has more, is ∙ sym (append-nil (written ++ gathered)))
+
+pub said_written : (old now : Known) (lines : List ℕ) → IsSaid old now [] lines → Appends old now lines
+said_written old now lines (written, has, is) = subst (λ l. Appends old now l) (sym (is ∙ append-nil written)) has
+
+pub front_written : (old now new : Known) (gathered lines : List ℕ) → IsSaid old now gathered lines → IsFront now new gathered → IsFront old new lines
+front_written old now new gathered lines (written, has, is) (n, le, more) =
+    let some = Appends-trans old now new written (take n gathered) has more in
+    let long : length lines ≡ length written + length gathered = ap (λ l. length l) is ∙ length-append written gathered in
+    (length written + n, omega (arith, long, le), subst (λ l. Appends old new l) (sym (ap (take (length written + n)) is ∙ take-append-add written gathered n)) some)
+
+pub front_more : (old now : Known) (lines more : List ℕ) → IsFront old now lines → IsFront old now (lines ++ more)
+front_more old now lines more (n, le, has) =
+    let long = length-append lines more in
+    (n, omega (arith, long, le), subst (λ l. Appends old now l) (sym (take-append-le n lines more le)) has)
+
+-- ---- one text behind another
+
+pub writes_more : {E : Type 0} (a b c : Known) (front rest : List ℕ) (f g h : ℕ) (r : Result (Unit {0}) E) → g ≡ f → Appends a b front → Writes rest b c g h r → Writes (front ++ rest) a c f h r
+writes_more a b c front rest f g h (Ok done) same has w = (w.0 ∙ same, Appends-trans a b c front rest has w.1)
+writes_more a b c front rest f g h (Err e) same has (count, (n, le, some)) =
+    let long = length-append front rest in
+    (count ∙ ap (λ k. k + 1) same, (length front + n, omega (arith, long, le), subst (λ l. Appends a c l) (sym (take-append-add front rest n)) (Appends-trans a b c front (take n rest) has some)))
+
+pub writes_cut : {E : Type 0} (a b : Known) (front rest : List ℕ) (f g : ℕ) (e : E) → Writes front a b f g (Err e) → Writes (front ++ rest) a b f g (Err e)
+writes_cut a b front rest f g e (count, (n, le, some)) =
+    let long = length-append front rest in
+    (count, (n, omega (arith, long, le), subst (λ l. Appends a b l) (sym (take-append-le n front rest le)) some))
+
+-- ---- what holds anyhow
+
+pub at_error : {A E X : Type 0} (r : Result A E) → X → OnErr r X
+at_error (Ok done) x = tt
+at_error (Err e) x = x
+
+pub when_done : {E X Y : Type 0} (r : Result (Unit {0}) E) → (X → Y) → OnOk r X → OnOk r Y
+when_done (Ok done) f x = f x
+when_done (Err e) f x = tt
+
+pub when_failed : {A E X Y : Type 0} (r : Result A E) → (X → Y) → OnErr r X → OnErr r Y
+when_failed (Ok done) f x = tt
+when_failed (Err e) f x = f x
+
+-- what a stop's line leaves behind lines that were gathered
+pub said_now : (a b : Known) (gathered left : List ℕ) → left ≡ [] → ((old : Known) (lines : List ℕ) → IsSaid old a gathered lines → IsSaid old b left lines)
+    → (old : Known) (lines : List ℕ) → IsSaid old a gathered lines → Appends old b lines
+said_now a b gathered left empty written old lines said = said_written old b lines (subst (λ l. IsSaid old b l lines) empty (written old lines said))
+
+module _ {E : Type 0} (a b c : Known) (gathered left text : List ℕ) (f g : ℕ) (empty : left ≡ []) (written : (old : Known) (lines : List ℕ) → IsSaid old a gathered lines → IsSaid old b left lines) where
+  pub stop_written : (r : Result (Unit {0}) E) → Writes text b c f g r → OnOk r ((old : Known) (lines : List ℕ) → IsSaid old a gathered lines → Appends old c (lines ++ text))
+  stop_written (Ok done) w = λ old lines said. Appends-trans old b c lines text (said_now a b gathered left empty written old lines said) w.1
+  stop_written (Err e) w = tt
+
+  pub stop_cut : (r : Result (Unit {0}) E) → Writes text b c f g r → OnErr r ((g ≡ f + 1) × ((old : Known) (lines : List ℕ) → IsSaid old a gathered lines → IsFront old c (lines ++ text)))
+  stop_cut (Ok done) w = tt
+  stop_cut (Err e) (count, (n, le, some)) = (count, λ old lines said.
+      let long = length-append lines text in
+      (length lines + n, omega (arith, long, le), subst (λ l. Appends old c l) (sym (take-append-add lines text n)) (Appends-trans old b c lines (take n text) (said_now a b gathered left empty written old lines said) some)))

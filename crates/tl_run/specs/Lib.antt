@@ -1,0 +1,4 @@
+pub mod Commands
+pub mod Output
+pub mod Stops
+pub mod Audits

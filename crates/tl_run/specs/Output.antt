@@ -1,0 +1,99 @@
+-- What the run of a script writes, command by command.
+use Rattle.std.specs.Prelude.{ℕ, ◌≡◌, ◌+◌, Bool, true, false, List, [], ◌∷◌, ◌++◌, length, codes, Option, Some, None, nat_lt}
+use Rattle.std.specs.Fmt.{decimal}
+use Rattle.std.specs.Option.{option_map_or}
+use Rattle.tl_topology.specs.Topology.{Topology}
+use Rattle.tl_beats.specs.Faults as fragment
+use Rattle.tl_beats.specs.declared.Row.{Row}
+use Rattle.tl_definitions.specs.Report.{IsReport}
+use Rattle.tl_inputs.specs.Edits.{AnEdit, code_of, number_of}
+use Rattle.tl_inputs.specs.Inputs.{refusal}
+use Rattle.tl_inputs.specs.Log.{inputs_after}
+use Rattle.tl_inputs.specs.declared.fault.EditFault.{EditFault}
+use Rattle.tl_plain.specs.Captured.{captures_after}
+use Rattle.tl_report.specs.Output.{joined, newline, report_bytes}
+use Rattle.tl_script.specs.declared.command.Command.{Command}
+use Rattle.tl_run.specs.Commands.{Asking, an_edit, no_fragment, a_report, asked}
+
+-- What a run has come to: the edits that were accepted, how many reports were published, and the rows of the last one.
+pub record Progress : Type 0 where
+  pub edits : List AnEdit
+  pub reports : ℕ
+  pub rows : List Row
+
+-- a run on its topology
+pub record RunData : Type 0 where
+  pub topo : Topology
+  pub now : Progress
+
+abbrev pub start : Progress
+start = record { edits = []; reports = 0; rows = [] }
+
+-- As many reports as are published in all.
+abbrev pub most_reports : ℕ
+most_reports = 65536
+
+-- the edit's number
+unfoldable pub edit_text : ℕ → List ℕ
+edit_text number = joined (codes "edit " ∷ decimal number ∷ newline ∷ [])
+
+abbrev pub and_number : Option ℕ → List ℕ
+and_number None = []
+and_number (Some number) = codes " " ++ decimal number
+
+-- the number of a refusal, and what it names
+unfoldable pub refused_text : ℕ → Option ℕ → List ℕ
+refused_text code number = joined (codes "refused " ∷ decimal code ∷ and_number number ∷ newline ∷ [])
+
+-- An edit: why it is refused, if it is; its line; and what the run then comes to.
+abbrev pub IsEdit : Progress → AnEdit → Option EditFault → List ℕ → Progress → Type 0
+IsEdit now e None line next = (line ≡ edit_text (length now.edits + 1)) × (next ≡ record now { edits = now.edits ++ e ∷ [] })
+IsEdit now e (Some why) line next = (line ≡ refused_text (code_of why) (number_of why)) × (next ≡ now)
+
+-- The next report is of what the accepted edits leave.
+abbrev pub IsRenewed : Topology → Progress → Progress → Type 0
+IsRenewed topo now next = IsReport (captures_after (inputs_after topo now.edits)) next.rows × (next ≡ record now { reports = now.reports + 1; rows = next.rows })
+
+-- A report of what the accepted edits leave, where more reports can be published; else a refusal.
+abbrev pub IsPublish : Topology → Progress → Bool → List ℕ → Progress → Type 0
+IsPublish topo now true line next = IsRenewed topo now next
+    × (line ≡ report_bytes topo (record { version = next.reports; edit = length next.edits; rows = next.rows }))
+IsPublish topo now false line next = (line ≡ refused_text 32 None) × (next ≡ now)
+
+-- One command: its lines, and what the run then comes to.
+unfoldable pub IsStep : Topology → Progress → Asking → List ℕ → Progress → Type 0
+IsStep topo now (an_edit e) line next = IsEdit now e (refusal (length now.edits) (inputs_after topo now.edits) e) line next
+IsStep topo now (no_fragment fault) line next = (line ≡ refused_text (fragment.code_of fault) (fragment.number_of fault)) × (next ≡ now)
+IsStep topo now a_report line next = IsPublish topo now (nat_lt now.reports most_reports) line next
+
+-- One command has lines of which this is true.
+abbrev pub Advances : Topology → Progress → Command → Progress → (List ℕ → Type 0) → Type 0
+Advances topo now c next IsTold = (line : List ℕ) × IsStep topo now (asked c) line next × IsTold line
+
+-- Commands, one behind the other.
+abbrev pub IsOutput : Topology → Progress → List Command → List ℕ → Progress → Type 0
+IsOutput topo now [] text next = (text ≡ []) × (next ≡ now)
+IsOutput topo now (c ∷ cs) text next = (line : List ℕ) × (rest : List ℕ) × (then : Progress) × IsStep topo now (asked c) line then
+    × IsOutput topo then cs rest next × (text ≡ line ++ rest)
+
+-- Commands have one output.
+abbrev pub OneOutput : Type 0
+OneOutput = (topo : Topology) (now : Progress) (commands : List Command) (one two : List ℕ) (here there : Progress)
+    → IsOutput topo now commands one here → IsOutput topo now commands two there → (one ≡ two) × (here ≡ there)
+
+-- ---- the edits alone
+
+-- the accepted edits behind one command, and behind several
+abbrev pub edits_with : Topology → List AnEdit → Asking → List AnEdit
+edits_with topo edits (an_edit e) = option_map_or (λ why. edits) (refusal (length edits) (inputs_after topo edits) e) (edits ++ e ∷ [])
+edits_with topo edits (no_fragment fault) = edits
+edits_with topo edits a_report = edits
+
+abbrev pub accepted : Topology → List AnEdit → List Command → List AnEdit
+accepted topo edits [] = edits
+accepted topo edits (c ∷ cs) = accepted topo (edits_with topo edits (asked c)) cs
+
+-- They are those that a run comes to.
+abbrev pub RunsKeepEdits : Type 0
+RunsKeepEdits = (topo : Topology) (now : Progress) (commands : List Command) (text : List ℕ) (next : Progress)
+    → IsOutput topo now commands text next → next.edits ≡ accepted topo now.edits commands

@@ -1,0 +1,85 @@
+-- Where the run of a script stops, and all that it writes.
+use Rattle.std.specs.Prelude.{ℕ, ◌≡◌, ◌+◌, ◌-◌, ◌<◌, ◌≤◌, List, [], ◌∷◌, ◌++◌, length, take, codes, Option, Some, None}
+use Rattle.std.specs.Option.{option_map_or}
+use Rattle.std.specs.Io.KnownBytes.{Appends}
+use Rattle.tl_text.specs.Numbers.{numeral}
+use Rattle.tl_text.specs.Words.{ended}
+use Rattle.tl_topology.specs.Topology.{Topology}
+use Rattle.tl_script.specs.Scripts.{Script, commands_of, fault_of}
+use Rattle.tl_script.specs.declared.command.Command.{Command}
+use Rattle.tl_script.specs.declared.fault.ScriptFault.{ScriptFault}
+use Rattle.tl_script.specs.declared.fault.ScriptFault.TheVariants as fault
+use Rattle.tl_run.specs.declared.stop.Outcome.{Outcome}
+use Rattle.tl_run.specs.declared.stop.Stop.{Stop}
+use Rattle.tl_run.specs.declared.stop.StopCause.{StopCause}
+use Rattle.tl_run.specs.declared.stop.StopCause.TheVariants as cause
+use Rattle.tl_run.specs.Output.{Progress, start, IsOutput}
+
+abbrev pub code_of : StopCause → ℕ
+code_of cause.Memory = 20
+code_of cause.BadCommand = 41
+code_of cause.Truncated = 42
+
+abbrev pub of_script : ScriptFault → StopCause
+of_script fault.BadCommand = cause.BadCommand
+of_script fault.Truncated = cause.Truncated
+
+abbrev pub stop_front : StopCause → List ℕ
+stop_front cause.Memory = codes "stopped 20 at "
+stop_front cause.BadCommand = codes "stopped 41 at "
+stop_front cause.Truncated = codes "stopped 42 at "
+
+-- the last line of a run that stops: the number of the refusal, and the command
+abbrev pub stop_text : Stop → List ℕ
+stop_text stop = stop_front stop.cause ++ ended (numeral 10 stop.command)
+
+abbrev pub last_text : Option Stop → List ℕ
+last_text stop = option_map_or stop_text stop []
+
+-- A run stops at the fault of its script, or at a command, or behind the last, for want of memory.
+abbrev pub StopsFor : Script → StopCause → ℕ → Type 0
+StopsFor script cause.Memory command = (0 < command) × (command ≤ length script.commands + 1)
+StopsFor script cause.BadCommand command = fault_of script ≡ Some (command, fault.BadCommand)
+StopsFor script cause.Truncated command = fault_of script ≡ Some (command, fault.Truncated)
+
+abbrev pub Stops : Script → Option Stop → Type 0
+Stops script None = script.fault ≡ None
+Stops script (Some stop) = StopsFor script stop.cause stop.command
+
+-- the commands whose lines are written: those before the stop, or all
+abbrev pub commands_before : Script → Option Stop → List Command
+commands_before script None = script.commands
+commands_before script (Some stop) = take (stop.command - 1) script.commands
+
+-- What a run writes, and what it comes to: the lines of its commands up to its end or its stop, and the line of the stop.
+pub record IsRun (topo : Topology) (script : Script) (stop : Option Stop) (text : List ℕ) (next : Progress) : Type 0 where
+  pub stops : Stops script stop
+  pub lines : List ℕ
+  pub output : IsOutput topo start (commands_before script stop) lines next
+  pub text_is : text ≡ lines ++ last_text stop
+
+abbrev pub IsOutcome : Topology → List ℕ → Outcome → List ℕ → Type 0
+IsOutcome topo bytes outcome text = (next : Progress) × IsRun topo (commands_of bytes) outcome.stop text next × (outcome.last_rows ≡ length next.rows)
+
+-- What was written and what is gathered behind it are these lines.
+abbrev pub IsSaid : Option (List ℕ) → Option (List ℕ) → List ℕ → List ℕ → Type 0
+IsSaid old now gathered lines = (written : List ℕ) × Appends old now written × (lines ≡ written ++ gathered)
+
+-- A front of these lines was written.
+abbrev pub IsFront : Option (List ℕ) → Option (List ℕ) → List ℕ → Type 0
+IsFront old now lines = (n : ℕ) × (n ≤ length lines) × Appends old now (take n lines)
+
+-- the stop, if the run came to one, is behind so many commands
+abbrev pub IsBehind : Script → ℕ → Option Stop → Type 0
+IsBehind script count None = Unit {0}
+IsBehind script count (Some stop) = StopsFor script stop.cause stop.command × (stop.command ≡ count + 1)
+
+-- A front of what a run writes was written: of the lines of so many commands, with the line of its stop or without.
+pub record IsCut (topo : Topology) (script : Script) (old new : Option (List ℕ)) : Type 0 where
+  pub count : ℕ
+  pub lines : List ℕ
+  pub next : Progress
+  pub output : IsOutput topo start (take count script.commands) lines next
+  pub stop : Option Stop
+  pub stops : IsBehind script count stop
+  pub front : IsFront old new (lines ++ last_text stop)

@@ -1,0 +1,165 @@
+//! What checking everything anew finds behind some edits of a script.
+
+ghost use Rattle.std.specs.Prelude.{◌≡◌, ◌+◌, ◌<◌, ◌≤◌, ◌^◌, [], ℕ, List, Option, Some, None, IfOk, IfErr, OnOk, length, take};
+ghost use Rattle.std.specs.Result.{IsErrOf};
+ghost use Rattle.std.specs.Io.KnownBytes.{Appends};
+ghost use Rattle.tl_beats.specs.declared.Row.{Row as AnyRow};
+ghost use Rattle.tl_report.specs.Output.{audit_bytes};
+ghost use Rattle.tl_script.specs.Scripts.{commands_of};
+ghost use Rattle.tl_script.specs.Text.{IsCommand};
+ghost use Rattle.tl_run.specs.Audits.{audit_code_of, audit_number_of, of_past, edits_of, IsStopped, IsStopAt, IsAudit, IsBeyond};
+ghost use Rattle.tl_run.specs.Commands.{asked};
+ghost use Rattle.tl_run.specs.Output.{edits_with};
+ghost use Rattle.tl_run.specs.declared.stop.Stop.{Stop as AnyStop};
+ghost use Rattle.tl_run.specs.declared.audit.AuditFault.TheVariants.{Memory, WriteFault as Unwritten};
+
+use crate::asked::{Asked, asked_by};
+use crate::run::behind;
+use crate::stop::Stop;
+use std::alloc::{AllocError, Global};
+use thiserror::Error;
+use tl_inputs::{EditFault, Log, PastFault};
+use tl_plain::audit;
+use tl_report::audit_text;
+use tl_script::{Command, read_command};
+use tl_text::{ByteOut, WriteFault, write_all};
+use tl_topology::Topo;
+
+/// Why an audit tells no rows.
+#[derive(Clone, Copy, Debug, Drop, Error, PartialEq, Eq)]
+pub enum AuditFault {
+    /// The script stops at a command that is bad or cut off; nothing was written.
+    #[error("stopped")]
+    Stop(Stop),
+    /// Fewer edits of the script are accepted than this number; nothing was written.
+    #[error("no edit {0}")]
+    NoSuchEdit(u64),
+    /// A growth was refused; nothing was written.
+    #[error("out of memory")]
+    Memory,
+    /// A write failed; a front of the text was written.
+    #[error("a write failed")]
+    WriteFault,
+}
+
+impl AuditFault {
+    /// The number of the refusal: 41 or 42 of a stop, 43, 20 or 19.
+    pub fn code(&self) -> u8
+        ensures { result ≡ audit_code_of self.now }
+    {
+        match self {
+            AuditFault::Stop(stop) => stop.cause.code(),
+            AuditFault::NoSuchEdit(_) => 43,
+            AuditFault::Memory => 20,
+            AuditFault::WriteFault => 19,
+        }
+    }
+
+    /// The command of a stop, or the edit that was asked for.
+    pub fn number(&self) -> Option<u64>
+        ensures { result ≡ audit_number_of self.now }
+    {
+        match self {
+            AuditFault::Stop(stop) => Some(stop.command),
+            AuditFault::NoSuchEdit(edit) => Some(*edit),
+            AuditFault::Memory | AuditFault::WriteFault => None,
+        }
+    }
+}
+
+impl From<AllocError> for AuditFault {
+    ghost from_gives = { λ _ e. e ≡ Memory };
+
+    fn from(_error: AllocError) -> AuditFault {
+        AuditFault::Memory
+    }
+}
+
+impl From<WriteFault> for AuditFault {
+    ghost from_gives = { λ _ e. e ≡ Unwritten };
+
+    fn from(_error: WriteFault) -> AuditFault {
+        AuditFault::WriteFault
+    }
+}
+
+impl From<PastFault> for AuditFault {
+    ghost from_gives = { λ found e. e ≡ of_past found };
+
+    fn from(found: PastFault) -> AuditFault {
+        match found {
+            PastFault::NoSuchEdit(edit) => AuditFault::NoSuchEdit(edit),
+            PastFault::Memory => AuditFault::Memory,
+        }
+    }
+}
+
+/// The accepted edits of a script. Its publishes ask for nothing.
+fn log_of(alloc: Global, topo: &Topo, script: &[u8]) -> Result<Log, AuditFault>
+    ensures exact { IfOk result (λ log. log ≡ record { topo = topo.now; edits = edits_of topo.now script.now }) }
+    ensures whole { OnOk result ((commands_of script.now).fault ≡ None) }
+    ensures stopped { IfErr result (λ fault. IsStopped script.now fault) }
+{
+    let mut log = Log::new(alloc, topo.copy(alloc)?)?;
+    let mut rest = script;
+    let mut number = 0;
+    loop {
+        number += 1;
+        let read = match read_command(rest) {
+            Ok(read) => read,
+            Err(fault) => return Err(AuditFault::Stop(Stop {
+                cause: fault.into(),
+                command: number,
+            })),
+        };
+        let Some((command, taken)) = read else {
+            return Ok(log);
+        };
+        push_asked(alloc, &mut log, &command)?;
+        rest = behind(rest, taken);
+    }
+}
+
+/// Adds the edit of a command, if it has one that is accepted.
+fn push_asked(alloc: Global, log: &mut Log, command: &Command<'_>) -> Result<(), AllocError>
+    requires { IsCommand command.now }
+    ensures topo { log.new.topo ≡ log.old.topo }
+    ensures edits { OnOk result (log.new.edits ≡ edits_with log.old.topo log.old.edits (asked command.now)) }
+{
+    if let Asked::Edit(edit) = asked_by(alloc, command)? {
+        if let Err(EditFault::Memory) = log.push(edit) {
+            return Err(AllocError);
+        }
+    }
+    Ok(())
+}
+
+/// Applies the edits of a script, checks what the first so many of them that were accepted leave from the beginning, and writes
+/// the rows; answers how many there are. Stop where the script stops, at any command, for 41 or 42; NoSuchEdit where fewer edits
+/// are accepted; Memory where memory is refused. WriteFault where a write fails.
+pub fn audit_script<O: ByteOut>(
+    alloc: Global,
+    topo: &Topo,
+    script: &[u8],
+    edit: u64,
+    out: &mut O,
+) -> Result<u64, AuditFault>
+    requires { O.failure_count out.old < 2 ^ 63 }
+    ensures written { IfOk result (λ count. (rows : List AnyRow) × IsAudit topo.now script.now edit rows × (count ≡ length rows)
+        × Appends (O.contents out.old) (O.contents out.new) (audit_bytes topo.now edit rows)) }
+    ensures quiet { OnOk result (O.failure_count out.new ≡ O.failure_count out.old) }
+
+    // What stops it writes nothing, and a write that fails leaves a front of the text.
+    ensures stopped { (stop : AnyStop) → IsErrOf result (AuditFault.Stop stop) → IsStopAt script.now stop × (out.new ≡ out.old) }
+    ensures beyond { (n : ℕ) → IsErrOf result (AuditFault.NoSuchEdit n) → (n ≡ edit) × IsBeyond topo.now script.now edit × (out.new ≡ out.old) }
+    ensures memory { IsErrOf result AuditFault.Memory → out.new ≡ out.old }
+    ensures failed { IsErrOf result AuditFault.WriteFault → (O.failure_count out.new ≡ O.failure_count out.old + 1)
+        × ((rows : List AnyRow) × IsAudit topo.now script.now edit rows
+        × ((n : ℕ) × Appends (O.contents out.old) (O.contents out.new) (take n (audit_bytes topo.now edit rows)))) }
+{
+    let log = log_of(alloc, topo, script)?;
+    let rows = audit(alloc, &log, edit)?;
+    let text = audit_text(alloc, topo, edit, &rows)?;
+    write_all(out, text.as_bytes())?;
+    Ok(rows.len() as u64)
+}

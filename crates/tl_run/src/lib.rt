@@ -1,0 +1,14 @@
+//! The run of a script, and the audit of its edits.
+#![tactic(auto)]
+
+mod asked;
+mod audit;
+pub mod laws;
+mod lines;
+mod run;
+mod session;
+mod stop;
+
+pub use audit::{AuditFault, audit_script};
+pub use run::{read_script, run_script};
+pub use stop::{Outcome, Stop, StopCause};

@@ -1,0 +1,120 @@
+//! Lines on their way out, gathered so that a write has many of them.
+
+ghost use Rattle.std.specs.Prelude.{◌≡◌, ◌+◌, ◌<◌, ◌^◌, ◌++◌, ℕ, List, Option, [], OnOk, OnErr, length, string_bytes};
+ghost use Rattle.std.specs.Io.KnownBytes.{Appends};
+ghost use Rattle.tl_text.specs.Written.{Writes};
+ghost use Rattle.std.specs.Result.{IsErrOf};
+ghost use Rattle.tl_run.specs.Stops.{IsSaid, IsFront, stop_front, stop_text, last_text};
+ghost use Rattle.tl_run.specs.declared.lines.LineFault.TheVariants.{Memory, WriteFault as Unwritten};
+
+use crate::stop::{Stop, StopCause};
+use std::alloc::AllocError;
+use tl_text::{ByteOut, Word, WriteFault, write_all, write_words};
+
+/// The most bytes that are gathered before they are written, but for one line.
+const MOST_GATHERED: usize = 65_536;
+
+/// Why a line did not come through.
+#[derive(Clone, Copy)]
+pub(crate) enum LineFault {
+    /// A growth was refused.
+    Memory,
+    /// A write failed.
+    WriteFault,
+}
+
+impl From<AllocError> for LineFault {
+    ghost from_gives = { λ _ e. e ≡ Memory };
+
+    fn from(_error: AllocError) -> LineFault {
+        LineFault::Memory
+    }
+}
+
+impl From<WriteFault> for LineFault {
+    ghost from_gives = { λ _ e. e ≡ Unwritten };
+
+    fn from(_error: WriteFault) -> LineFault {
+        LineFault::WriteFault
+    }
+}
+
+/// Writes what was gathered.
+pub(crate) fn write_gathered<O: ByteOut>(
+    out: &mut O,
+    gathered: &mut String,
+) -> Result<(), WriteFault>
+    requires { O.failure_count out.old < 2 ^ 63 }
+    ensures quiet { OnOk result (O.failure_count out.new ≡ O.failure_count out.old) }
+    ensures empty { OnOk result (string_bytes gathered.new ≡ []) }
+    ensures said { OnOk result ((old : Option (List ℕ)) (lines : List ℕ) → IsSaid old (O.contents out.old) (string_bytes gathered.old) lines
+        → IsSaid old (O.contents out.new) (string_bytes gathered.new) lines) }
+    ensures failed { OnErr result ((O.failure_count out.new ≡ O.failure_count out.old + 1)
+        × ((old : Option (List ℕ)) (lines : List ℕ) → IsSaid old (O.contents out.old) (string_bytes gathered.old) lines → IsFront old (O.contents out.new) lines)) }
+{
+    write_all(out, gathered.as_bytes())?;
+    gathered.clear();
+    Ok(())
+}
+
+/// Adds lines to those that are gathered, and writes all where they must go out now, or are many. Memory changes nothing.
+pub(crate) fn put_lines<O: ByteOut>(
+    out: &mut O,
+    gathered: &mut String,
+    lines: &str,
+    now: bool,
+) -> Result<(), LineFault>
+    requires { O.failure_count out.old < 2 ^ 63 }
+    ensures quiet { OnOk result (O.failure_count out.new ≡ O.failure_count out.old) }
+    ensures said { OnOk result ((old : Option (List ℕ)) (before : List ℕ) → IsSaid old (O.contents out.old) (string_bytes gathered.old) before
+        → IsSaid old (O.contents out.new) (string_bytes gathered.new) (before ++ lines.now)) }
+    ensures memory { IsErrOf result LineFault.Memory → (out.new ≡ out.old) × (string_bytes gathered.new ≡ string_bytes gathered.old) }
+    ensures failed { IsErrOf result LineFault.WriteFault → (O.failure_count out.new ≡ O.failure_count out.old + 1)
+        × ((old : Option (List ℕ)) (before : List ℕ) → IsSaid old (O.contents out.old) (string_bytes gathered.old) before → IsFront old (O.contents out.new) (before ++ lines.now)) }
+{
+    gathered.push_str(lines)?;
+    if now || gathered.len() > MOST_GATHERED {
+        write_gathered(out, gathered)?;
+    }
+    Ok(())
+}
+
+/// The first words of the line of a stop.
+fn front_of(cause: StopCause) -> &'static [u8]
+    ensures { result.now ≡ stop_front cause }
+{
+    match cause {
+        StopCause::Memory => b"stopped 20 at ".as_slice(),
+        StopCause::BadCommand => b"stopped 41 at ".as_slice(),
+        StopCause::Truncated => b"stopped 42 at ".as_slice(),
+    }
+}
+
+/// Writes the line of a stop, without taking memory.
+fn write_stop<O: ByteOut>(out: &mut O, stop: Stop) -> Result<(), WriteFault>
+    requires { O.failure_count out.old < 2 ^ 63 }
+    ensures { Writes (stop_text stop) (O.contents out.old) (O.contents out.new) (O.failure_count out.old) (O.failure_count out.new) result }
+{
+    write_all(out, front_of(stop.cause))?;
+    write_words(out, &[Word::Decimal(stop.command)])
+}
+
+/// Writes what was gathered, and the line of a stop.
+pub(crate) fn write_end<O: ByteOut>(
+    out: &mut O,
+    gathered: &mut String,
+    stop: Option<Stop>,
+) -> Result<(), WriteFault>
+    requires { O.failure_count out.old < 2 ^ 63 }
+    ensures quiet { OnOk result (O.failure_count out.new ≡ O.failure_count out.old) }
+    ensures said { OnOk result ((old : Option (List ℕ)) (lines : List ℕ) → IsSaid old (O.contents out.old) (string_bytes gathered.old) lines
+        → Appends old (O.contents out.new) (lines ++ last_text stop)) }
+    ensures failed { OnErr result ((O.failure_count out.new ≡ O.failure_count out.old + 1)
+        × ((old : Option (List ℕ)) (lines : List ℕ) → IsSaid old (O.contents out.old) (string_bytes gathered.old) lines → IsFront old (O.contents out.new) (lines ++ last_text stop))) }
+{
+    write_gathered(out, gathered)?;
+    match stop {
+        Some(stop) => write_stop(out, stop),
+        None => Ok(()),
+    }
+}

@@ -1,0 +1,141 @@
+//! The run of a script.
+
+ghost use Rattle.std.specs.Prelude.{◌≡◌, ◌+◌, ◌<◌, ◌≤◌, ◌^◌, ◌++◌, ℕ, List, Option, Some, IfOk, OnOk, OnErr, length, drop, string_bytes, []};
+ghost use Rattle.std.specs.Io.KnownBytes.{Appends};
+ghost use Rattle.std.specs.Result.{IsErrOf};
+ghost use Rattle.tl_script.specs.Scripts.{commands_of};
+ghost use Rattle.tl_script.specs.Text.{IsCommand};
+ghost use Rattle.tl_run.specs.Output.{start, Advances, IsOutput};
+ghost use Rattle.tl_run.specs.Stops.{Stops, IsSaid, IsFront, IsOutcome, IsCut, commands_before};
+
+use crate::asked::asked_by;
+use crate::lines::{LineFault, put_lines, write_end};
+use crate::session::Session;
+use crate::stop::{Outcome, Stop, StopCause};
+use std::alloc::Global;
+use tl_script::{Command, read_command};
+use tl_text::{ByteIn, ByteOut, TextFault, WriteFault, read_text};
+use tl_topology::Topo;
+
+/// The most bytes of a script.
+const MOST_SCRIPT: u64 = 67_108_864;
+
+/// Reads the input to its end as a script. TooLong where it has more than 67,108,864 bytes; ReadFault where a read failed; Memory
+/// where memory is refused.
+pub fn read_script<I: ByteIn>(alloc: Global, input: &mut I) -> Result<Vec<u8>, TextFault>
+    requires reads { I.read_count input.old < 2 ^ 63 }
+    requires failures { I.failure_count input.old < 2 ^ 63 }
+{
+    read_text(alloc, input, MOST_SCRIPT)
+}
+
+/// The lines of one command, put behind those that are gathered. Memory writes nothing.
+fn run_command<O: ByteOut>(
+    alloc: Global,
+    session: &mut Session,
+    command: &Command<'_>,
+    out: &mut O,
+    gathered: &mut String,
+) -> Result<(), LineFault>
+    requires out { O.failure_count out.old < 2 ^ 63 }
+    requires lawful { IsCommand command.now }
+    ensures topo { session.new.topo ≡ session.old.topo }
+    ensures quiet { OnOk result (O.failure_count out.new ≡ O.failure_count out.old) }
+    ensures step { OnOk result (Advances session.old.topo session.old.now command.now session.new.now
+        (λ line. (old : Option (List ℕ)) (before : List ℕ) → IsSaid old (O.contents out.old) (string_bytes gathered.old) before
+        → IsSaid old (O.contents out.new) (string_bytes gathered.new) (before ++ line))) }
+    ensures memory { IsErrOf result LineFault.Memory → (out.new ≡ out.old) × (string_bytes gathered.new ≡ string_bytes gathered.old) }
+    ensures failed { IsErrOf result LineFault.WriteFault → (O.failure_count out.new ≡ O.failure_count out.old + 1)
+        × Advances session.old.topo session.old.now command.now session.new.now
+        (λ line. (old : Option (List ℕ)) (before : List ℕ) → IsSaid old (O.contents out.old) (string_bytes gathered.old) before
+        → IsFront old (O.contents out.new) (before ++ line)) }
+{
+    let asked = asked_by(alloc, command)?;
+    let lines = session.lines_of(alloc, asked)?;
+    let now = matches!(command, Command::Publish);
+    put_lines(out, gathered, lines.as_str(), now)
+}
+
+/// What is left of a script.
+pub(crate) fn behind(script: &[u8], taken: usize) -> &[u8]
+    requires { taken ≤ length script.now }
+    ensures { result.now ≡ drop taken script.now }
+{
+    &script[taken..]
+}
+
+/// Runs the commands of a script up to its end or its stop.
+fn run_commands<O: ByteOut>(
+    alloc: Global,
+    session: &mut Session,
+    script: &[u8],
+    out: &mut O,
+    gathered: &mut String,
+) -> Result<Option<Stop>, WriteFault>
+    requires out { O.failure_count out.old < 2 ^ 63 }
+    requires new { session.old.now ≡ start }
+    requires empty { string_bytes gathered.old ≡ [] }
+    ensures quiet { OnOk result (O.failure_count out.new ≡ O.failure_count out.old) }
+    ensures ran { IfOk result (λ stop. Stops (commands_of script.now) stop × ((lines : List ℕ)
+        × IsOutput session.old.topo start (commands_before (commands_of script.now) stop) lines session.new.now
+        × IsSaid (O.contents out.old) (O.contents out.new) (string_bytes gathered.new) lines)) }
+    ensures failed { OnErr result ((O.failure_count out.new ≡ O.failure_count out.old + 1)
+        × IsCut session.old.topo (commands_of script.now) (O.contents out.old) (O.contents out.new)) }
+{
+    let mut rest = script;
+    let mut done = 0;
+    loop {
+        let read = match read_command(rest) {
+            Ok(read) => read,
+            Err(fault) => return Ok(stop_at(fault.into(), done)),
+        };
+        let Some((command, taken)) = read else {
+            return Ok(None);
+        };
+        match run_command(alloc, session, &command, out, gathered) {
+            Ok(()) => rest = behind(rest, taken),
+            Err(LineFault::Memory) => return Ok(stop_at(StopCause::Memory, done)),
+            Err(LineFault::WriteFault) => return Err(WriteFault),
+        }
+        done += 1;
+    }
+}
+
+/// The stop behind so many commands.
+fn stop_at(cause: StopCause, done: u64) -> Option<Stop>
+    requires { done < 2 ^ 63 }
+    ensures { result ≡ Some (record { cause = cause; command = done + 1 }) }
+{
+    Some(Stop {
+        cause,
+        command: done + 1,
+    })
+}
+
+/// Runs a script on a topology, and writes its lines as it goes, those of a report at once. A run that stops writes the line of
+/// its stop, without taking memory, and nothing behind it. WriteFault where a write fails; a front of the text was then written.
+pub fn run_script<O: ByteOut>(
+    alloc: Global,
+    topo: &Topo,
+    script: &[u8],
+    out: &mut O,
+) -> Result<Outcome, WriteFault>
+    requires { O.failure_count out.old < 2 ^ 63 }
+    ensures written { IfOk result (λ outcome. (text : List ℕ) × IsOutcome topo.now script.now outcome text × Appends (O.contents out.old) (O.contents out.new) text) }
+    ensures quiet { OnOk result (O.failure_count out.new ≡ O.failure_count out.old) }
+    ensures failed { OnErr result ((O.failure_count out.new ≡ O.failure_count out.old + 1)
+        × IsCut topo.now (commands_of script.now) (O.contents out.old) (O.contents out.new)) }
+{
+    let mut gathered = String::new(alloc);
+    let Ok(mut session) = Session::new(alloc, topo) else {
+        let stop = stop_at(StopCause::Memory, 0);
+        write_end(out, &mut gathered, stop)?;
+        return Ok(Outcome { last_rows: 0, stop });
+    };
+    let stop = run_commands(alloc, &mut session, script, out, &mut gathered)?;
+    write_end(out, &mut gathered, stop)?;
+    Ok(Outcome {
+        last_rows: session.last_rows(),
+        stop,
+    })
+}

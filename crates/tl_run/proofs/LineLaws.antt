@@ -73,6 +73,9 @@ module _ {E : Type 0} (a b c : Known) (gathered left text : List ℕ) (f g : ℕ
 
   pub stop_cut : (r : Result (Unit {0}) E) → Writes text b c f g r → OnErr r ((g ≡ f + 1) × ((old : Known) (lines : List ℕ) → IsSaid old a gathered lines → IsFront old c (lines ++ text)))
   stop_cut (Ok done) w = tt
-  stop_cut (Err e) (count, (n, le, some)) = (count, λ old lines said.
-      let long = length-append lines text in
-      (length lines + n, omega (arith, long, le), subst (λ l. Appends old c l) (sym (take-append-add lines text n)) (Appends-trans old b c lines (take n text) (said_now a b gathered left empty written old lines said) some)))
+  stop_cut (Err e) (count, (n, le, some)) = (
+    count,
+    λ old lines said.
+        let long = length-append lines text in
+        (length lines + n, omega (arith, long, le), subst (λ l. Appends old c l) (sym (take-append-add lines text n)) (Appends-trans old b c lines (take n text) (said_now a b gathered left empty written old lines said) some)),
+  )

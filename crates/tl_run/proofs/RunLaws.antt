@@ -1,13 +1,28 @@
 -- A run from one command to the next, and to its end.
 use Rattle.std.proofs.Common.{◌≡◌, ℕ, ◌+◌, ◌-◌, ◌<◌, ◌≤◌, List, [], ◌∷◌, ◌++◌, append_assoc, append-nil, length, length-append, length-drop, take, drop, Option, Some, None, Result, Ok, Err, refl, sym, ap, ◌∙◌, subst, arith}
-use Rattle.std.proofs.Math.Seq.{take-append_seam}
+use Rattle.std.proofs.Math.Seq.{take-append_seam, take-length}
+use Rattle.std.specs.Option.{option_map}
+use Rattle.std.proofs.lemmas.Option.{same_Some}
 use Rattle.tl_topology.specs.Topology.{Topology}
+use Rattle.std.specs.Io.KnownBytes.{Appends}
 use Rattle.tl_script.specs.declared.command.Command.{Command}
 use Rattle.tl_script.specs.declared.fault.ScriptFault.{ScriptFault}
 use Rattle.tl_script.specs.Reading.{command_in}
 use Rattle.tl_script.specs.Scripts.{Script, script_by, onto_script, commands_of, fault_of}
 use Rattle.tl_script.proofs.CommandTexts.{takes_some}
 use Rattle.tl_script.proofs.ScriptLaws.{first_command_then_others}
+use Rattle.tl_run.specs.Commands.{asked}
+use Rattle.tl_run.specs.Output.{Progress, start, IsStep, IsOutput}
+use Rattle.tl_script.specs.Text.{IsCommand}
+use Rattle.tl_script.proofs.CommandTexts.{reads_are_spelled}
+use Rattle.tl_script.specs.declared.fault.ScriptFault.TheVariants as fault
+use Rattle.tl_run.specs.declared.stop.Outcome.{Outcome}
+use Rattle.tl_run.specs.declared.stop.Stop.{Stop}
+use Rattle.tl_run.specs.declared.stop.StopCause.{StopCause}
+use Rattle.tl_run.specs.declared.stop.StopCause.TheVariants as cause
+use Rattle.tl_run.specs.Stops.{IsSaid, IsFront, IsBehind, IsCut, IsRun, IsOutcome, HasCome, Stops, StopsFor, commands_before, of_script, last_text}
+use Rattle.tl_run.proofs.LineLaws.{nothing_said}
+use Rattle.tl_run.proofs.OutputLaws.{output_more}
 
 -- these commands, and then those of what is left
 abbrev pub behind_them : List Command → Script → Script
@@ -63,3 +78,153 @@ pub few_are : (script rest : List ℕ) (before : List Command) (count : ℕ) →
 few_are script rest before count is =
     let whole : length (commands_of script).commands ≡ length before + length (commands_of rest).commands = ap (λ (s : Script). length s.commands) is.splits ∙ length-append before (commands_of rest).commands in
     omega (arith, whole, is.counted)
+
+-- ---- and their lines
+
+-- A run up to some command: what was read, the lines of it, and where they are.
+pub record Ran (topo : Topology) (script rest : List ℕ) (done : ℕ) (now : Progress) (old new : Option (List ℕ)) (gathered : List ℕ) : Type 0 where
+  pub before : List Command
+  pub lines : List ℕ
+  pub read : IsRead script rest before done
+  pub output : IsOutput topo start before lines now
+  pub said : IsSaid old new gathered lines
+
+pub ran_none : (topo : Topology) (script gathered : List ℕ) (now : Progress) (old : Option (List ℕ)) → now ≡ start → gathered ≡ [] → Ran topo script script 0 now old old gathered
+ran_none topo script gathered now old fresh empty = record {
+  before = [];
+  lines = [];
+  read = none_read script;
+  output = (refl, fresh);
+  said = subst (λ l. IsSaid old old l []) (sym empty) (nothing_said old);
+}
+
+pub ran_more : (topo : Topology) (script rest : List ℕ) (done : ℕ) (now next : Progress) (old new then : Option (List ℕ)) (gathered left : List ℕ) (c : Command) (taken : ℕ) (line : List ℕ)
+    → (ran : Ran topo script rest done now old new gathered) → command_in rest ≡ Ok (Some (c, taken)) → IsStep topo now (asked c) line next
+    → ((before : List ℕ) → IsSaid old new gathered before → IsSaid old then left (before ++ line)) → Ran topo script (drop taken rest) (done + 1) next old then left
+ran_more topo script rest done now next old new then gathered left c taken line ran e step told = record {
+  before = ran.before ++ c ∷ [];
+  lines = ran.lines ++ line;
+  read = one_read script rest ran.before done c taken ran.read e;
+  output = output_more topo start ran.before ran.lines now c line next ran.output step;
+  said = told ran.lines ran.said;
+}
+
+one_back : (n : ℕ) → (n + 1) - 1 ≡ n
+one_back n = omega arith
+
+-- ---- the ends of a run
+
+module _ (topo : Topology) (script rest : List ℕ) (done : ℕ) (now : Progress) (old new : Option (List ℕ)) (gathered : List ℕ) (ran : Ran topo script rest done now old new gathered) where
+  -- the lines of the commands before this one
+  so_far : IsOutput topo start (take ((done + 1) - 1) (commands_of script).commands) ran.lines now
+  so_far = subst (λ cs. IsOutput topo start cs ran.lines now) (sym (ap (λ n. take n (commands_of script).commands) (one_back done) ∙ first_are script rest ran.before done ran.read)) ran.output
+
+  faulty : (found : ScriptFault) → fault_of (commands_of script) ≡ Some (done + 1, found) → StopsFor (commands_of script) (of_script found) (done + 1)
+  faulty fault.BadCommand e = e
+  faulty fault.Truncated e = e
+
+  pub came_to_fault : (found : ScriptFault) → command_in rest ≡ Err found → HasCome topo (commands_of script) old new gathered (record { last_rows = length now.rows; stop = Some (record { cause = of_script found; command = done + 1 }) })
+  came_to_fault found e = record {
+    stops = faulty found (fault_read script rest ran.before done found ran.read e).1;
+    lines = ran.lines;
+    next = now;
+    output = so_far;
+    rows = refl;
+    said = ran.said;
+  }
+
+  pub came_to_end : command_in rest ≡ Ok None → HasCome topo (commands_of script) old new gathered (record { last_rows = length now.rows; stop = None })
+  came_to_end e =
+      let all = all_read script rest ran.before done ran.read e in
+      record {
+        stops = all.1;
+        lines = ran.lines;
+        next = now;
+        output = subst (λ cs. IsOutput topo start cs ran.lines now) (sym all.0) ran.output;
+        rows = refl;
+        said = ran.said;
+      }
+
+  pub came_to_want : (then : Option (List ℕ)) (left : List ℕ) → then ≡ new → left ≡ gathered → HasCome topo (commands_of script) old then left (record { last_rows = length now.rows; stop = Some (record { cause = cause.Memory; command = done + 1 }) })
+  came_to_want then left same kept =
+      let few = few_are script rest ran.before done ran.read in
+      record {
+        stops = (omega arith, omega (arith, few));
+        lines = ran.lines;
+        next = now;
+        output = so_far;
+        rows = refl;
+        said = subst (λ l. IsSaid old then l ran.lines) (sym kept) (subst (λ o. IsSaid old o gathered ran.lines) (sym same) ran.said);
+      }
+
+  pub lawful : (c : Command) (taken : ℕ) → command_in rest ≡ Ok (Some (c, taken)) → IsCommand c
+  lawful c taken e = (reads_are_spelled rest c taken e).0
+
+  pub cut_there : (c : Command) (taken : ℕ) (line : List ℕ) (next : Progress) (then : Option (List ℕ)) → command_in rest ≡ Ok (Some (c, taken)) → IsStep topo now (asked c) line next
+      → ((before : List ℕ) → IsSaid old new gathered before → IsFront old then (before ++ line)) → IsCut topo (commands_of script) old then
+  cut_there c taken line next then e step told =
+      let read = one_read script rest ran.before done c taken ran.read e in
+      let whole : take (done + 1) (commands_of script).commands ≡ ran.before ++ c ∷ [] = first_are script (drop taken rest) (ran.before ++ c ∷ []) (done + 1) read in
+      record {
+        count = done + 1;
+        lines = ran.lines ++ line;
+        next = next;
+        output = subst (λ cs. IsOutput topo start cs (ran.lines ++ line) next) (sym whole) (output_more topo start ran.before ran.lines now c line next ran.output step);
+        stop = None;
+        stops = tt;
+        front = subst (λ l. IsFront old then l) (sym (append-nil (ran.lines ++ line))) (told ran.lines ran.said);
+      }
+
+-- Without memory for a run, nothing is said.
+pub came_to_nothing : (topo : Topology) (script gathered : List ℕ) (old : Option (List ℕ)) → gathered ≡ []
+    → HasCome topo (commands_of script) old old gathered (record { last_rows = 0; stop = Some (record { cause = cause.Memory; command = 0 + 1 }) })
+came_to_nothing topo script gathered old empty = record {
+  stops = (omega arith, omega arith);
+  lines = [];
+  next = start;
+  output = (refl, refl);
+  rows = refl;
+  said = subst (λ l. IsSaid old old l []) (sym empty) (nothing_said old);
+}
+
+-- ---- the end is written
+
+by_fault : (commands : ℕ) (found : Option ScriptFault) (command : ℕ) (why : ScriptFault) → option_map (λ f. (let p : ℕ × ScriptFault = (commands + 1, f) in p)) found ≡ Some (command, why) → 0 < command
+by_fault commands None command why e = absurd cc
+by_fault commands (Some f) command why e = let n : commands + 1 ≡ command = ap (λ (p : ℕ × ScriptFault). p.0) (same_Some _ _ e) in omega (arith, n)
+
+numbered_from_1 : (script : Script) (why : StopCause) (command : ℕ) → StopsFor script why command → 0 < command
+numbered_from_1 script cause.Memory command h = h.0
+numbered_from_1 script cause.BadCommand command h = by_fault (length script.commands) script.fault command fault.BadCommand h
+numbered_from_1 script cause.Truncated command h = by_fault (length script.commands) script.fault command fault.Truncated h
+
+module _ (topo : Topology) (script : Script) (old : Option (List ℕ)) (lines : List ℕ) (next : Progress) where
+  cut_by : (then : Option (List ℕ)) (stop : Option Stop) → Stops script stop → IsOutput topo start (commands_before script stop) lines next → IsFront old then (lines ++ last_text stop) → IsCut topo script old then
+  cut_by then None stops output front = record {
+    count = length script.commands;
+    lines = lines;
+    next = next;
+    output = subst (λ cs. IsOutput topo start cs lines next) (sym (take-length script.commands)) output;
+    stop = None;
+    stops = tt;
+    front = front;
+  }
+  cut_by then (Some stop) stops output front = record {
+    count = stop.command - 1;
+    lines = lines;
+    next = next;
+    output = output;
+    stop = Some stop;
+    stops = (stops, (let some = numbered_from_1 script stop.cause stop.command stops in omega (arith, some)));
+    front = front;
+  }
+
+pub end_cut : (topo : Topology) (script : Script) (old now then : Option (List ℕ)) (gathered : List ℕ) (outcome : Outcome) → HasCome topo script old now gathered outcome
+    → ((lines : List ℕ) → IsSaid old now gathered lines → IsFront old then (lines ++ last_text outcome.stop)) → IsCut topo script old then
+end_cut topo script old now then gathered outcome come told = cut_by topo script old come.lines come.next then outcome.stop come.stops come.output (told come.lines come.said)
+
+pub end_written : (topo : Topology) (script : List ℕ) (old now then : Option (List ℕ)) (gathered : List ℕ) (outcome : Outcome) → HasCome topo (commands_of script) old now gathered outcome
+    → ((lines : List ℕ) → IsSaid old now gathered lines → Appends old then (lines ++ last_text outcome.stop))
+    → (text : List ℕ) × IsOutcome topo script outcome text × Appends old then text
+end_written topo script old now then gathered outcome come told =
+    (come.lines ++ last_text outcome.stop, (come.next, record { stops = come.stops; lines = come.lines; output = come.output; text_is = refl }, come.rows), told come.lines come.said)

@@ -65,6 +65,15 @@ IsOutcome topo bytes outcome text = (next : Progress) × IsRun topo (commands_of
 abbrev pub IsSaid : Option (List ℕ) → Option (List ℕ) → List ℕ → List ℕ → Type 0
 IsSaid old now gathered lines = (written : List ℕ) × Appends old now written × (lines ≡ written ++ gathered)
 
+-- A run came to its end or its stop: its lines were written or are gathered.
+pub record HasCome (topo : Topology) (script : Script) (old now : Option (List ℕ)) (gathered : List ℕ) (outcome : Outcome) : Type 0 where
+  pub stops : Stops script outcome.stop
+  pub lines : List ℕ
+  pub next : Progress
+  pub output : IsOutput topo start (commands_before script outcome.stop) lines next
+  pub rows : outcome.last_rows ≡ length next.rows
+  pub said : IsSaid old now gathered lines
+
 -- A front of these lines was written.
 abbrev pub IsFront : Option (List ℕ) → Option (List ℕ) → List ℕ → Type 0
 IsFront old now lines = (n : ℕ) × (n ≤ length lines) × Appends old now (take n lines)

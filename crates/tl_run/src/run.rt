@@ -5,8 +5,8 @@ ghost use Rattle.std.specs.Io.KnownBytes.{Appends};
 ghost use Rattle.std.specs.Result.{IsErrOf};
 ghost use Rattle.tl_script.specs.Scripts.{commands_of};
 ghost use Rattle.tl_script.specs.Text.{IsCommand};
-ghost use Rattle.tl_run.specs.Output.{start, Advances, IsOutput};
-ghost use Rattle.tl_run.specs.Stops.{Stops, IsSaid, IsFront, IsOutcome, IsCut, commands_before};
+ghost use Rattle.tl_run.specs.Output.{start, Advances};
+ghost use Rattle.tl_run.specs.Stops.{IsSaid, IsFront, HasCome, IsOutcome, IsCut};
 
 use crate::asked::asked_by;
 use crate::lines::{LineFault, put_lines, write_end};
@@ -64,6 +64,20 @@ pub(crate) fn behind(script: &[u8], taken: usize) -> &[u8]
     &script[taken..]
 }
 
+/// The outcome of a run that stops behind so many commands.
+fn stopped(last_rows: u64, cause: StopCause, done: u64) -> Outcome
+    requires { done < 2 ^ 63 }
+    ensures { result ≡ record { last_rows = last_rows; stop = Some (record { cause = cause; command = done + 1 }) } }
+{
+    Outcome {
+        last_rows,
+        stop: Some(Stop {
+            cause,
+            command: done + 1,
+        }),
+    }
+}
+
 /// Runs the commands of a script up to its end or its stop.
 fn run_commands<O: ByteOut>(
     alloc: Global,
@@ -71,49 +85,63 @@ fn run_commands<O: ByteOut>(
     script: &[u8],
     out: &mut O,
     gathered: &mut String,
-) -> Result<Option<Stop>, WriteFault>
+) -> Result<Outcome, WriteFault>
     requires out { O.failure_count out.old < 2 ^ 63 }
     requires new { session.old.now ≡ start }
     requires empty { string_bytes gathered.old ≡ [] }
     ensures quiet { OnOk result (O.failure_count out.new ≡ O.failure_count out.old) }
-    ensures ran { IfOk result (λ stop. Stops (commands_of script.now) stop × ((lines : List ℕ)
-        × IsOutput session.old.topo start (commands_before (commands_of script.now) stop) lines session.new.now
-        × IsSaid (O.contents out.old) (O.contents out.new) (string_bytes gathered.new) lines)) }
+    ensures come { IfOk result (λ outcome. HasCome session.old.topo (commands_of script.now) (O.contents out.old) (O.contents out.new) (string_bytes gathered.new) outcome) }
     ensures failed { OnErr result ((O.failure_count out.new ≡ O.failure_count out.old + 1)
         × IsCut session.old.topo (commands_of script.now) (O.contents out.old) (O.contents out.new)) }
 {
     let mut rest = script;
     let mut done = 0;
     loop {
+        let last_rows = session.last_rows();
         let read = match read_command(rest) {
             Ok(read) => read,
-            Err(fault) => return Ok(stop_at(fault.into(), done)),
+            Err(fault) => return Ok(stopped(last_rows, fault.into(), done)),
         };
         let Some((command, taken)) = read else {
-            return Ok(None);
+            return Ok(Outcome {
+                last_rows,
+                stop: None,
+            });
         };
         match run_command(alloc, session, &command, out, gathered) {
             Ok(()) => rest = behind(rest, taken),
-            Err(LineFault::Memory) => return Ok(stop_at(StopCause::Memory, done)),
+            Err(LineFault::Memory) => return Ok(stopped(last_rows, StopCause::Memory, done)),
             Err(LineFault::WriteFault) => return Err(WriteFault),
         }
         done += 1;
     }
 }
 
-/// The stop behind so many commands.
-fn stop_at(cause: StopCause, done: u64) -> Option<Stop>
-    requires { done < 2 ^ 63 }
-    ensures { result ≡ Some (record { cause = cause; command = done + 1 }) }
+/// Runs a script from its first command on, up to its end or its stop.
+fn run_whole<O: ByteOut>(
+    alloc: Global,
+    topo: &Topo,
+    script: &[u8],
+    out: &mut O,
+    gathered: &mut String,
+) -> Result<Outcome, WriteFault>
+    requires out { O.failure_count out.old < 2 ^ 63 }
+    requires empty { string_bytes gathered.old ≡ [] }
+    ensures quiet { OnOk result (O.failure_count out.new ≡ O.failure_count out.old) }
+    ensures come { IfOk result (λ outcome. HasCome topo.now (commands_of script.now) (O.contents out.old) (O.contents out.new) (string_bytes gathered.new) outcome) }
+    ensures failed { OnErr result ((O.failure_count out.new ≡ O.failure_count out.old + 1)
+        × IsCut topo.now (commands_of script.now) (O.contents out.old) (O.contents out.new)) }
 {
-    Some(Stop {
-        cause,
-        command: done + 1,
-    })
+    let Ok(mut session) = Session::new(alloc, topo) else {
+        return Ok(stopped(0, StopCause::Memory, 0));
+    };
+    run_commands(alloc, &mut session, script, out, gathered)
 }
 
 /// Runs a script on a topology, and writes its lines as it goes, those of a report at once. A run that stops writes the line of
-/// its stop, without taking memory, and nothing behind it. WriteFault where a write fails; a front of the text was then written.
+/// its stop, without taking memory, and nothing behind it: Memory at the command where memory is refused, at the first where there
+/// is none for a run; BadCommand and Truncated at the command that they are of. WriteFault where a write fails; a front of the
+/// text was then written.
 pub fn run_script<O: ByteOut>(
     alloc: Global,
     topo: &Topo,
@@ -127,15 +155,7 @@ pub fn run_script<O: ByteOut>(
         × IsCut topo.now (commands_of script.now) (O.contents out.old) (O.contents out.new)) }
 {
     let mut gathered = String::new(alloc);
-    let Ok(mut session) = Session::new(alloc, topo) else {
-        let stop = stop_at(StopCause::Memory, 0);
-        write_end(out, &mut gathered, stop)?;
-        return Ok(Outcome { last_rows: 0, stop });
-    };
-    let stop = run_commands(alloc, &mut session, script, out, &mut gathered)?;
-    write_end(out, &mut gathered, stop)?;
-    Ok(Outcome {
-        last_rows: session.last_rows(),
-        stop,
-    })
+    let outcome = run_whole(alloc, topo, script, out, &mut gathered)?;
+    write_end(out, &mut gathered, outcome.stop)?;
+    Ok(outcome)
 }

@@ -12,7 +12,9 @@ use Rattle.tl_script.specs.Scripts.{Script, script_by, onto_script, commands_of,
 use Rattle.tl_script.proofs.CommandTexts.{takes_some}
 use Rattle.tl_script.proofs.ScriptLaws.{first_command_then_others}
 use Rattle.tl_run.specs.Commands.{asked}
-use Rattle.tl_run.specs.Output.{Progress, start, IsStep, IsOutput}
+use Rattle.tl_inputs.specs.Edits.{AnEdit}
+use Rattle.tl_run.specs.Audits.{edits_of, IsStopAt}
+use Rattle.tl_run.specs.Output.{Progress, start, IsStep, IsOutput, accepted, edits_with}
 use Rattle.tl_script.specs.Text.{IsCommand}
 use Rattle.tl_script.proofs.CommandTexts.{reads_are_spelled}
 use Rattle.tl_script.specs.declared.fault.ScriptFault.TheVariants as fault
@@ -228,3 +230,37 @@ pub end_written : (topo : Topology) (script : List ℕ) (old now then : Option (
     → (text : List ℕ) × IsOutcome topo script outcome text × Appends old then text
 end_written topo script old now then gathered outcome come told =
     (come.lines ++ last_text outcome.stop, (come.next, record { stops = come.stops; lines = come.lines; output = come.output; text_is = refl }, come.rows), told come.lines come.said)
+
+-- ---- the edits of a script
+
+accepted_more : (topo : Topology) (edits : List AnEdit) (cs : List Command) (c : Command) → accepted topo edits (cs ++ c ∷ []) ≡ edits_with topo (accepted topo edits cs) (asked c)
+accepted_more topo edits [] c = refl
+accepted_more topo edits (d ∷ cs) c = accepted_more topo (edits_with topo edits (asked d)) cs c
+
+-- So many commands were read, and these edits of them were accepted.
+pub record Applied (topo : Topology) (script rest : List ℕ) (done : ℕ) (edits : List AnEdit) : Type 0 where
+  pub before : List Command
+  pub read : IsRead script rest before done
+  pub are : edits ≡ accepted topo [] before
+
+pub applied_none : (topo : Topology) (script : List ℕ) (edits : List AnEdit) → edits ≡ [] → Applied topo script script 0 edits
+applied_none topo script edits none = record { before = []; read = none_read script; are = none }
+
+module _ (topo : Topology) (script rest : List ℕ) (done : ℕ) (edits : List AnEdit) (so : Applied topo script rest done edits) where
+  pub applied_more : (c : Command) (taken : ℕ) (next : List AnEdit) → command_in rest ≡ Ok (Some (c, taken)) → next ≡ edits_with topo edits (asked c) → Applied topo script (drop taken rest) (done + 1) next
+  applied_more c taken next e is = record {
+    before = so.before ++ c ∷ [];
+    read = one_read script rest so.before done c taken so.read e;
+    are = is ∙ ap (λ es. edits_with topo es (asked c)) so.are ∙ sym (accepted_more topo [] so.before c);
+  }
+
+  pub applied_lawful : (c : Command) (taken : ℕ) → command_in rest ≡ Ok (Some (c, taken)) → IsCommand c
+  applied_lawful c taken e = (reads_are_spelled rest c taken e).0
+
+  pub applied_all : command_in rest ≡ Ok None → (edits ≡ edits_of topo script) × ((commands_of script).fault ≡ None)
+  applied_all e =
+      let all = all_read script rest so.before done so.read e in
+      (so.are ∙ ap (accepted topo []) (sym all.0), all.1)
+
+  pub applied_to_fault : (found : ScriptFault) → command_in rest ≡ Err found → IsStopAt script (record { cause = of_script found; command = done + 1 })
+  applied_to_fault found e = (found, (fault_read script rest so.before done found so.read e).1, refl)

@@ -10,6 +10,7 @@ ghost use Rattle.tl_script.specs.Text.{IsCommand};
 ghost use Rattle.tl_run.specs.Audits.{audit_code_of, audit_number_of, of_past, edits_of, IsStopped, IsStopAt, IsAudit, IsBeyond};
 ghost use Rattle.tl_run.specs.Commands.{asked};
 ghost use Rattle.tl_run.specs.Output.{edits_with};
+ghost use Rattle.tl_run.specs.Stops.{of_script};
 ghost use Rattle.tl_run.specs.declared.stop.Stop.{Stop as AnyStop};
 ghost use Rattle.tl_run.specs.declared.audit.AuditFault.TheVariants.{Memory, WriteFault as Unwritten};
 
@@ -21,7 +22,7 @@ use thiserror::Error;
 use tl_inputs::{EditFault, Log, PastFault};
 use tl_plain::audit;
 use tl_report::audit_text;
-use tl_script::{Command, read_command};
+use tl_script::{Command, ScriptFault, read_command};
 use tl_text::{ByteOut, WriteFault, write_all};
 use tl_topology::Topo;
 
@@ -102,21 +103,29 @@ fn log_of(alloc: Global, topo: &Topo, script: &[u8]) -> Result<Log, AuditFault>
 {
     let mut log = Log::new(alloc, topo.copy(alloc)?)?;
     let mut rest = script;
-    let mut number = 0;
+    let mut done = 0;
     loop {
-        number += 1;
         let read = match read_command(rest) {
             Ok(read) => read,
-            Err(fault) => return Err(AuditFault::Stop(Stop {
-                cause: fault.into(),
-                command: number,
-            })),
+            Err(fault) => return Err(AuditFault::Stop(stop_behind(done, fault))),
         };
         let Some((command, taken)) = read else {
             return Ok(log);
         };
         push_asked(alloc, &mut log, &command)?;
         rest = behind(rest, taken);
+        done += 1;
+    }
+}
+
+/// Where a script stops behind so many commands.
+fn stop_behind(done: u64, fault: ScriptFault) -> Stop
+    requires { done < 2 ^ 63 }
+    ensures { result ≡ record { cause = of_script fault; command = done + 1 } }
+{
+    Stop {
+        cause: fault.into(),
+        command: done + 1,
     }
 }
 

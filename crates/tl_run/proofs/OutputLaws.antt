@@ -2,7 +2,6 @@
 use Rattle.std.proofs.Common.{◌≡◌, ℕ, ◌+◌, Bool, true, false, List, [], ◌∷◌, ◌++◌, append_assoc, append-nil, length, Option, Some, None, refl, sym, ap, ◌∙◌, subst, nat_lt}
 use Rattle.std.specs.Option.{option_map_or}
 use Rattle.tl_topology.specs.Topology.{Topology}
-use Rattle.tl_beats.specs.declared.Row.{Row}
 use Rattle.tl_definitions.proofs.ReportLaws.{one_report}
 use Rattle.tl_inputs.specs.Edits.{AnEdit}
 use Rattle.tl_inputs.specs.Inputs.{refusal}

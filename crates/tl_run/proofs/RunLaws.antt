@@ -8,7 +8,7 @@ use Rattle.std.specs.Io.KnownBytes.{Appends}
 use Rattle.tl_script.specs.declared.command.Command.{Command}
 use Rattle.tl_script.specs.declared.fault.ScriptFault.{ScriptFault}
 use Rattle.tl_script.specs.Reading.{command_in}
-use Rattle.tl_script.specs.Scripts.{Script, script_by, onto_script, commands_of, fault_of}
+use Rattle.tl_script.specs.Scripts.{Script, script_by, commands_of, fault_of}
 use Rattle.tl_script.proofs.CommandTexts.{takes_some}
 use Rattle.tl_script.proofs.ScriptLaws.{first_command_then_others}
 use Rattle.tl_run.specs.Commands.{asked}
@@ -22,7 +22,7 @@ use Rattle.tl_run.specs.declared.stop.Outcome.{Outcome}
 use Rattle.tl_run.specs.declared.stop.Stop.{Stop}
 use Rattle.tl_run.specs.declared.stop.StopCause.{StopCause}
 use Rattle.tl_run.specs.declared.stop.StopCause.TheVariants as cause
-use Rattle.tl_run.specs.Stops.{IsSaid, IsFront, IsBehind, IsCut, IsRun, IsOutcome, HasCome, Stops, StopsFor, commands_before, of_script, last_text}
+use Rattle.tl_run.specs.Stops.{IsSaid, IsFront, IsCut, IsOutcome, HasCome, Stops, StopsFor, commands_before, of_script, last_text}
 use Rattle.tl_run.proofs.LineLaws.{nothing_said}
 use Rattle.tl_run.proofs.OutputLaws.{output_more}
 

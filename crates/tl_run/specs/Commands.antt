@@ -1,5 +1,5 @@
 -- What each command of a script asks for.
-use Rattle.std.specs.Prelude.{ℕ, List, Result, Ok, Err}
+use Rattle.std.specs.Prelude.{Result, Ok, Err}
 use Rattle.tl_text.specs.Words.{lines_of}
 use Rattle.tl_beats.specs.Fragments.{Frag}
 use Rattle.tl_beats.specs.Reading.{whole_fragment_in}

@@ -1,4 +1,4 @@
-use Rattle.std.proofs.Common.{rules, ◌≡◌, ◌+◌, Some, None, Ok, Err, sym, ap, ◌∙◌, subst}
+use Rattle.std.proofs.Common.{◌≡◌, Some, None, Ok, Err, sym, ap, ◌∙◌, subst}
 use Rattle.tl_run.specs.Commands.{asked}
 use Rattle.tl_run.specs.Output.{edits_with}
 use Rattle.tl_script.specs.Reading.{command_in}

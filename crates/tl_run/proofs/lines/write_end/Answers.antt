@@ -1,6 +1,4 @@
-use Rattle.std.proofs.Common.{rules, ◌≡◌, ◌++◌, append-nil, subst, sym, ap, []}
-use Rattle.std.specs.Prelude.{string_bytes}
-use Rattle.std.specs.Io.KnownBytes.{Appends}
+use Rattle.std.proofs.Common.{rules, append-nil, ap}
 use Rattle.tl_run.specs.Stops.{last_text, stop_text}
 use Rattle.tl_run.proofs.LineLaws.{front_more, said_now, at_error, stop_written, stop_cut}
 use Rattle.tl_run.proofs.lines.write_end.Goals as goal

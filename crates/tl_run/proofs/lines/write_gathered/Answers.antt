@@ -1,4 +1,4 @@
-use Rattle.std.proofs.Common.{rules, ◌≡◌}
+use Rattle.std.proofs.Common.{rules}
 use Rattle.std.specs.Prelude.{string_bytes}
 use Rattle.tl_run.proofs.LineLaws.{all_written, front_written, at_error}
 use Rattle.tl_run.proofs.lines.write_gathered.Goals as goal

@@ -1,4 +1,4 @@
-use Rattle.std.proofs.Common.{rules, ◌≡◌}
+use Rattle.std.proofs.Common.{rules}
 use Rattle.tl_run.proofs.LineLaws.{writes_more}
 use Rattle.tl_run.specs.Stops.{stop_front}
 use Rattle.tl_run.proofs.lines.write_stop.Goals as goal

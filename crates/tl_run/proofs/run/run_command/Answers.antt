@@ -1,4 +1,4 @@
-use Rattle.std.proofs.Common.{rules, ◌≡◌, ◌++◌, ℕ, List, Option, subst}
+use Rattle.std.proofs.Common.{◌++◌, subst}
 use Rattle.std.specs.Prelude.{string_bytes}
 use Rattle.tl_run.specs.Output.{IsStep}
 use Rattle.tl_run.specs.Stops.{IsSaid, IsFront}

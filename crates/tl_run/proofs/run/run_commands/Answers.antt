@@ -1,5 +1,4 @@
-use Rattle.std.proofs.Common.{rules, ◌≡◌, ◌+◌, Option, Some, None, Result, Ok, Err, length, sym, ap, ◌∙◌, subst}
-use Rattle.std.specs.Prelude.{string_bytes}
+use Rattle.std.proofs.Common.{rules, ◌≡◌, ◌+◌, Some, None, Ok, Err, sym, ap, ◌∙◌, subst}
 use Rattle.tl_script.specs.Reading.{command_in}
 use Rattle.tl_run.specs.Commands.{asked}
 use Rattle.tl_run.specs.Output.{IsStep}

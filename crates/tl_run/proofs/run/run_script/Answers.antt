@@ -1,4 +1,4 @@
-use Rattle.std.proofs.Common.{rules, ◌≡◌, ◌+◌, ap, ◌∙◌}
+use Rattle.std.proofs.Common.{◌+◌, ap, ◌∙◌}
 use Rattle.tl_run.proofs.LineLaws.{at_error}
 use Rattle.tl_run.proofs.RunLaws.{end_cut, end_written}
 use Rattle.tl_run.proofs.run.run_script.Goals as goal

@@ -1,5 +1,3 @@
-use Rattle.std.proofs.Common.{rules, ◌≡◌}
-use Rattle.std.specs.Prelude.{string_bytes}
 use Rattle.tl_run.proofs.RunLaws.{came_to_nothing}
 use Rattle.tl_run.proofs.run.run_whole.Goals as goal
 

@@ -187,9 +187,17 @@ On A, where the manager has regions: no one region that permits the kind of acce
 PutPartialData are put; ArithmeticData and LogicalData are atomic; Intent is hint; an Acquire is
 cache. A manager without regions has no such row.
 
-No fragment shows it: regions are not in a topology or a fragment, and no command of today sets
-one. It is tested on regions in the crates: written captures (tl_definitions),
-tl_rows/src/regions.rt and tl_span_rows/src/managers.rt.
+No fragment shows it by itself, since regions are set by scripts. The smallest script is
+
+    add 51
+    fragment dma0 1 0 99999
+    10 A 4 0 3 0 1000 ff 0
+    end
+    region m0 0 0 fff g----
+    publish
+
+By run its row is dma0 1 2 F10. Run:
+rows/cases/get_outside_every_region. More captures under regions are tested in the crates.
 
 - Topic: own profile.
 - Designs: an access goes to an address that nothing answers; a cache acquires from a device; an

@@ -232,8 +232,20 @@ pub(crate) const X1: &str = "\
 X1: a monitor flags the beat
 
 A watch that the user attached flags the beat. The row has the monitor's number as a fifth word.
+A budget flags each beat of its class behind the first LIMIT of them; an after each beat of its
+second class behind one of its first. Later beats of a burst count too.
 
-No fragment shows it: no command of today attaches a monitor.
+No fragment shows it by itself, since monitors are attached by scripts. The smallest script is
+
+    add 51
+    fragment dma0 1 0 99999
+    10 A 4 0 3 0 1000 ff 0
+    end
+    attach 5 budget dma0 A 4 0
+    publish
+
+By run its row is dma0 1 2 X1 5. Run:
+rows/cases/get_past_its_budget.
 
 - Topic: own profile.
 - Designs: what the watch was made for.

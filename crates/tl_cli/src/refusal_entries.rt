@@ -129,7 +129,7 @@ A line of a fragment is no beat; the number is the line, the header being 1. A b
   number in hexadecimal; an opcode or a param above 7, a size above 15, a source or a sink above
   65535; denied or corrupt that is not 0 or 1; a field too many or too few; two spaces, a space
   at an end, a tab, a carriage return, an empty line, a comment; anything behind the line
-  `end`.
+  `end`, as where an add has too many bytes.
 - Do: compare the line with the form of its channel, field by field; cat -A shows tabs and
   carriage returns.
 ";
@@ -162,7 +162,7 @@ The text of a fragment ends before the newline of this line; the number is the l
 before every other fault of the line, but for what stands behind the line `end`, which is 12.
 
 - Causes: the recorder was stopped before it wrote `end`; the last newline is missing; the file is
-  empty (15 1).
+  empty (15 1); an add of a script has too few bytes.
 - Do: end the text with the line `end` and its newline. To check what there is of a capture that
   was cut, drop the line that was cut and add `end`.
 ";
@@ -188,7 +188,8 @@ tells it as 45.
 pub(crate) const TOO_LONG: &str = "\
 18: TooLong
 
-A fragment is longer than 8388608 bytes. It is told before anything of its text.
+A fragment is longer than 8388608 bytes. It is told before anything of its text. In a script an
+add or a replace of more bytes is 41.
 
 - Do: give the beats in several fragments, of ranges that follow one another.
 ";
@@ -196,7 +197,8 @@ A fragment is longer than 8388608 bytes. It is told before anything of its text.
 pub(crate) const WRITE_FAULT: &str = "\
 19: WriteFault
 
-A write of the report failed. What was written of it is a front of it, and no report.
+A write failed, and the run ended with it. What was written is a front: of a report, which it then
+is not, or of the lines of a script.
 
 - Causes: the device is full; the reader of the pipe ended.
 - Do: run it again with room for the report.
@@ -205,7 +207,8 @@ A write of the report failed. What was written of it is a front of it, and no re
 pub(crate) const MEMORY: &str = "\
 20: Memory
 
-Memory was refused. Nothing of a report was written.
+Memory was refused. Nothing of a report was written. A script stops with it at the command that
+had no room; the lines of the commands before it stand.
 
 - Do: run it again with more memory, or on a shorter capture.
 ";
@@ -213,9 +216,10 @@ Memory was refused. Nothing of a report was written.
 pub(crate) const UNKNOWN_LINK: &str = "\
 21: UnknownLink
 
-The header of a fragment names a link that the topology does not declare.
+The header of a fragment, or a withdraw, a clear or an attach, names a link that the topology does
+not declare.
 
-- Do: compare the spelling; see that the fragment goes with this topology.
+- Do: compare the spelling; see that the fragment or the script goes with this topology.
 ";
 
 pub(crate) const FRAGMENT_EXISTS: &str = "\
@@ -231,8 +235,7 @@ pub(crate) const NO_FRAGMENT: &str = "\
 
 A fragment that is to be replaced or withdrawn is not there.
 
-- Do: compare link and number with those that were added.
-- Today: no command answers it.
+- Do: compare link and number with those that were added, and not withdrawn or cleared since.
 ";
 
 pub(crate) const RANGE_OVERLAP: &str = "\
@@ -249,10 +252,9 @@ pub(crate) const REGION_OVERLAP_OF_EDIT: &str = "\
 25: RegionOverlap
 
 A region shares an address with another region of its manager; the number is the lowest such
-region.
+region. A region of the same number is replaced, and not compared.
 
 - Do: as at 7.
-- Today: no command answers it.
 ";
 
 pub(crate) const NO_REGION_OF_EDIT: &str = "\
@@ -261,16 +263,14 @@ pub(crate) const NO_REGION_OF_EDIT: &str = "\
 A region that is to be taken away is not there.
 
 - Do: as at 8.
-- Today: no command answers it.
 ";
 
 pub(crate) const MONITOR_EXISTS: &str = "\
 27: MonitorExists
 
-A monitor is attached under a number that is attached already.
+A monitor is attached under a number that was attached before, also where it was detached since.
 
-- Do: give it another number, or detach the other first.
-- Today: no command answers it.
+- Do: give it another number; a retune gives a budget another limit.
 ";
 
 pub(crate) const NO_MONITOR: &str = "\
@@ -278,23 +278,22 @@ pub(crate) const NO_MONITOR: &str = "\
 
 A monitor that is to be retuned or detached is not attached.
 
-- Do: compare the number with those that were attached.
-- Today: no command answers it.
+- Do: compare the number with those that were attached, and not detached since.
 ";
 
 pub(crate) const WRONG_KIND: &str = "\
 29: WrongKind
 
-A monitor that has no limit is to be retuned.
+A monitor that has no limit, which is an after, is to be retuned.
 
-- Do: detach it and attach another.
-- Today: no command answers it.
+- Do: detach it and attach another, under another number.
 ";
 
 pub(crate) const LOG_FULL: &str = "\
 30: LogFull
 
-65536 edits were accepted, and there is room for no more.
+65536 edits were accepted, and there is room for no more. Of one edit it is told after all other
+causes.
 
 - Do: begin anew with what is present now.
 ";
@@ -302,7 +301,8 @@ pub(crate) const LOG_FULL: &str = "\
 pub(crate) const NOT_READY: &str = "\
 31: NotReady
 
-A report is asked for before everything that an edit touched was checked again.
+A report is asked for before everything that an edit touched was checked again. The publish of a
+script checks it first.
 
 - Do: recheck first.
 - Today: no command answers it.
@@ -311,10 +311,9 @@ A report is asked for before everything that an edit touched was checked again.
 pub(crate) const VERSION_FULL: &str = "\
 32: VersionFull
 
-65536 reports were published, and there is room for no more.
+65536 reports were published, and there is room for no more. The edits of a script still count.
 
 - Do: begin anew with what is present now.
-- Today: no command answers it.
 ";
 
 pub(crate) const BOX_OUT: &str = "\
@@ -338,10 +337,9 @@ There is no further number for a job.
 pub(crate) const UNKNOWN_MANAGER: &str = "\
 35: UnknownManager
 
-A region is of a manager that the topology does not declare.
+A region that is to be set or taken away is of a manager that the topology does not declare.
 
 - Do: compare the spelling.
-- Today: no command answers it.
 ";
 
 pub(crate) const WRONG_BOX: &str = "\
@@ -366,47 +364,67 @@ after 1, 2, 5, 3 and 10, and before 6.
 pub(crate) const BAD_COMMAND: &str = "\
 41: BadCommand
 
-A line of a script is no command.
+A line of a script is no command; the script stops at it. The commands are
 
-- Do: compare the line with the commands.
-- Today: no command answers it.
+    add BYTES
+    replace BYTES
+    withdraw LINK NUMBER
+    clear LINK
+    region MANAGER NUMBER FIRST LAST PERMITS
+    unregion MANAGER NUMBER
+    attach NUMBER budget LINK CHAN OPCODE LIMIT
+    attach NUMBER after LINK CHAN OPCODE CHAN OPCODE
+    retune NUMBER LIMIT
+    detach NUMBER
+    publish
+
+Behind the line of add and replace stand BYTES bytes, a fragment; they are at most 8388608. The
+NUMBER of a region is at most 255, every other and LIMIT at most 4294967295. FIRST and LAST are
+addresses, LAST not the lower. PERMITS has five places, gpahc (get, put, atomic, hint, cache), each
+its letter or -. CHAN is A to E, OPCODE 0 to 7; a beat of E has opcode 0.
+
+- Causes: two spaces, a space at an end, a tab, a carriage return, an empty line, a comment; an
+  address in upper case or with 0x; leading zeros; another number in hexadecimal; an add or a
+  replace of too few or too many bytes, so that the next command begins elsewhere.
+- Do: compare the line with the form of its command; wc -c counts the bytes of a fragment's file.
 ";
 
 pub(crate) const SCRIPT_TRUNCATED: &str = "\
 42: ScriptTruncated
 
-A script ends inside a line, or inside the bytes of a command.
+A script ends inside a line, or inside the bytes of a command; the script stops at it. A last line
+without its newline is 42 whatever it says; an add of more than 8388608 bytes is 41 whatever
+follows its line.
 
 - Do: end the last line with a newline; compare the number of bytes with the text that follows.
-- Today: no command answers it.
 ";
 
 pub(crate) const NO_SUCH_EDIT: &str = "\
 43: NoSuchEdit
 
 An audit is asked for after more edits than were accepted; the number is the one that was asked
-for.
+for. A script that stops is told in its place.
 
-- Do: ask for a number up to that of the last accepted edit.
-- Today: no command answers it.
+- Do: ask for a number up to that of the last accepted edit; refused ones have none.
 ";
 
 pub(crate) const FILE_TOO_LONG: &str = "\
 44: FileTooLong
 
-The topology file is longer than 1048576 bytes, or standard input is longer than 67108864 bytes.
-It is told before anything of the text.
+The topology file is longer than 1048576 bytes, or a script or standard input is longer than
+67108864 bytes. It is told before anything of the text.
 
-- Do: see that the words name the files in their order: the topology first.
+- Do: see that the words name the files in their order: the topology first. Fragments of a longer
+  script may be given to once.
 ";
 
 pub(crate) const FILE_FAULT: &str = "\
 45: FileFault
 
-A file cannot be opened or read: the topology, a fragment, or standard input.
+A file cannot be opened or read: the topology, a fragment, a script, or standard input.
 
 - Causes: the path is wrong from where the program runs; no leave to read it; a folder in the
   place of a file.
 - Do: ls -l the paths. The topology is opened first, so a fault of its text goes before a
-  missing fragment.
+  missing fragment or script.
 ";

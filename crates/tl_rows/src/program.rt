@@ -9,7 +9,7 @@ use tl_text::{CountedReader, CountedWriter};
 #[test]
 fn a_misaligned_get_on_input(rt: HostRuntime) -> Result<(), Fail> {
     let text = format!(in rt.alloc();
-        "{ONE_MANAGER}fragment dma0 1 0 99999\n10 A 4 0 3 0 4 ff 0\nend\n"
+        "{ONE_MANAGER}add 48\nfragment dma0 1 0 99999\n10 A 4 0 3 0 4 ff 0\nend\npublish\n"
     )?;
     let mut written = Vec::new(rt.alloc());
     let mut told = Vec::new(rt.alloc());
@@ -19,7 +19,7 @@ fn a_misaligned_get_on_input(rt: HostRuntime) -> Result<(), Fail> {
     let words: Vec<String> = Vec::new(rt.alloc());
     let status = run_words(&rt, &words, &mut input, &mut out, &mut err);
     assert!(rt; status == 1);
-    assert!(rt; written.as_slice() == b"report 1 edit 1 rows 1\ndma0 1 2 F3\n".as_slice());
+    assert!(rt; written.as_slice() == b"edit 1\nreport 1 edit 1 rows 1\ndma0 1 2 F3\n".as_slice());
     assert!(rt; told.is_empty());
     Ok(())
 }

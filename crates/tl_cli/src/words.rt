@@ -80,9 +80,11 @@ fn run<'a>(alloc: Global) -> Result<clap::Command<'a>, Error> {
         .long("workers")
         .value_name("N")
         .action(ArgAction::Set)
-        .help("How many threads check beside the first; only 0 is taken today, and meant without this option");
+        .help(
+            "How many threads check beside the first; only 0 is taken today, as without this option",
+        );
     let run = clap::Command::new(alloc, "run")
-        .about("Runs the edits and publishes of a script and writes a line for each edit and each report")
+        .about("Runs a script of edits and publishes, and writes what each comes to")
         .after_help(RUN_EXAMPLE)
         .arg(topology(alloc))?
         .arg(script(alloc))?
@@ -94,11 +96,11 @@ fn audit<'a>(alloc: Global) -> Result<clap::Command<'a>, Error> {
     let edit = word(
         alloc,
         "EDIT",
-        "How many of the script's accepted edits are checked, a whole number",
+        "How many accepted edits of the script to check, a whole number below 2^63",
     )
     .value_parser(ValueParser::unsigned(0, MOST_EDIT));
     let audit = clap::Command::new(alloc, "audit")
-        .about("Applies the edits of a script, and checks anew what the first of them leave")
+        .about("Checks anew what the first accepted edits of a script leave")
         .after_help(AUDIT_EXAMPLE)
         .arg(topology(alloc))?
         .arg(script(alloc))?
@@ -137,9 +139,11 @@ const VERSION: &str = "0.1.0";
 const ONCE_EXAMPLE: &str =
     "Example: tlcheck once examples/one_manager.topo examples/late_write_back.fragment";
 
-const RUN_EXAMPLE: &str = "Example: tlcheck run examples/one_manager.topo examples/late_write_back.script";
+const RUN_EXAMPLE: &str =
+    "Example: tlcheck run examples/one_manager.topo examples/late_write_back.script";
 
-const AUDIT_EXAMPLE: &str = "Example: tlcheck audit examples/one_manager.topo examples/late_write_back.script 1";
+const AUDIT_EXAMPLE: &str =
+    "Example: tlcheck audit examples/one_manager.topo examples/late_write_back.script 1";
 
 const EXPLAIN_EXAMPLE: &str = "Examples: tlcheck explain P2, tlcheck explain 12";
 
@@ -175,7 +179,9 @@ fn run_asked<'a>(
 ) -> Result<Command<'a>, Error> {
     let workers = found.get_str("workers").unwrap_or("0");
     if workers.parse::<u64>() != Ok(0) {
-        let text = format!(in alloc; "'{workers}' is no number of workers that is taken: only 0 is taken today")?;
+        let text = format!(in alloc;
+            "'{workers}' is no number of workers that is taken: only 0 is taken today"
+        )?;
         return Err(program.error(ErrorKind::InvalidValue, text.as_str())?);
     }
     Ok(Command::Run {

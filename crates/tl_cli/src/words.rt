@@ -139,25 +139,24 @@ const VERSION: &str = "0.1.0";
 const ONCE_EXAMPLE: &str =
     "Example: tlcheck once examples/one_manager.topo examples/late_write_back.fragment";
 
-const RUN_EXAMPLE: &str =
-    "Example: tlcheck run examples/one_manager.topo examples/late_write_back.script";
+const RUN_EXAMPLE: &str = "Example: tlcheck run examples/one_manager.topo examples/edits.script";
 
 const AUDIT_EXAMPLE: &str =
-    "Example: tlcheck audit examples/one_manager.topo examples/late_write_back.script 1";
+    "Example: tlcheck audit examples/one_manager.topo examples/edits.script 2";
 
 const EXPLAIN_EXAMPLE: &str = "Examples: tlcheck explain P2, tlcheck explain 12";
 
 const HELP: &str =
     "tlcheck once TOPO FRAGMENT.. checks the fragments of a capture together, from files: TOPO is a topology text \
 of at most 1,048,576 bytes, each FRAGMENT a fragment text of at most 8,388,608 bytes.\n\
-tlcheck run TOPO SCRIPT runs a script of at most 67,108,864 bytes: edits of captures, regions and monitors, and reports \
-between them. tlcheck audit TOPO SCRIPT EDIT checks anew what its first EDIT accepted edits leave.\n\
+tlcheck run TOPO SCRIPT runs a script of at most 67,108,864 bytes: edits of fragments, regions and monitors, and \
+reports between them. tlcheck audit TOPO SCRIPT EDIT checks anew what its first EDIT accepted edits leave.\n\
 Without words tlcheck reads a topology and a script right behind it from standard input, at most 67,108,864 bytes, \
 and does as run.\n\n\
 Exit status: 0 no rule is broken, 1 the last report has rows, 2 a fault, told on standard error as `tlcheck: CODE` \
 or `tlcheck: CODE NUMBER`, or a script that stops, told as its last line on standard output; \
 tlcheck explain CODE says more.\n\n\
-Example: cat examples/one_manager.topo examples/late_write_back.script | tlcheck";
+Example: cat examples/one_manager.topo examples/edits.script | tlcheck";
 
 /// The fragments that the words of `once` name.
 fn once_asked<'a>(alloc: Global, found: &ArgMatches<'a>) -> Result<Command<'a>, Error> {

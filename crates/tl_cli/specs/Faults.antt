@@ -9,6 +9,8 @@ use Rattle.tl_text.specs.declared.input.TextFault.{TextFault}
 use Rattle.tl_text.specs.declared.input.TextFault.TheVariants as text
 use Rattle.tl_report.specs.declared.once.OnceFault.{OnceFault}
 use Rattle.tl_report.specs.declared.once.OnceFault.TheVariants as once
+use Rattle.tl_run.specs.Audits.{audit_code_of, audit_number_of}
+use Rattle.tl_run.specs.declared.audit.AuditFault.{AuditFault}
 use Rattle.tl_cli.specs.declared.fault.Fault.{Fault}
 
 abbrev pub of_topology : TopoFault → Fault
@@ -28,3 +30,6 @@ abbrev pub of_once : OnceFault → Fault
 of_once (once.Refused code number) = record { code = code; number = number }
 of_once once.Memory = record { code = 20; number = None }
 of_once once.WriteFault = record { code = 19; number = None }
+
+abbrev pub of_audit : AuditFault → Fault
+of_audit found = record { code = audit_code_of found; number = audit_number_of found }

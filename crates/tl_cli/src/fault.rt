@@ -6,10 +6,11 @@ use std::alloc::AllocFailed;
 use std::fmt;
 use tl_beats::FragmentFault;
 use tl_report::OnceFault;
-use tl_text::TextFault;
+use tl_run::AuditFault;
+use tl_text::{TextFault, WriteFault};
 use tl_topology::TopoFault;
 
-/// A fault outside a report, told in one line on standard error: `tlcheck: CODE` or `tlcheck: CODE NUMBER`.
+/// A fault outside a report and a script's output, told in one line on standard error: `tlcheck: CODE` or `tlcheck: CODE NUMBER`.
 #[derive(Clone, Copy, Debug, PartialEq, Eq)]
 pub struct Fault {
     /// The number of the refusal, 1 to 45.
@@ -55,6 +56,16 @@ impl<T: Drop> From<AllocFailed<T>> for Fault {
 
     fn from(_error: AllocFailed<T>) -> Fault {
         Fault::MEMORY
+    }
+}
+
+impl From<WriteFault> for Fault {
+    ghost use Rattle.std.specs.Prelude.{None};
+
+    ghost from_gives = { λ _ fault. fault ≡ record { code = 19; number = None } };
+
+    fn from(_error: WriteFault) -> Fault {
+        Fault::WRITE
     }
 }
 
@@ -117,6 +128,19 @@ impl From<OnceFault> for Fault {
             },
             OnceFault::Memory => Fault::MEMORY,
             OnceFault::WriteFault => Fault::WRITE,
+        }
+    }
+}
+
+impl From<AuditFault> for Fault {
+    ghost use Rattle.tl_cli.specs.Faults.{of_audit};
+
+    ghost from_gives = { λ found fault. fault ≡ of_audit found };
+
+    fn from(fault: AuditFault) -> Fault {
+        Fault {
+            code: fault.code(),
+            number: fault.number(),
         }
     }
 }

@@ -3,6 +3,7 @@
 
 mod explain;
 mod fault;
+mod files;
 mod flow_entries;
 mod format_entries;
 mod permission_entries;
@@ -11,5 +12,5 @@ mod run;
 mod words;
 
 pub use fault::Fault;
-pub use run::run_words;
+pub use run::{refuse_words, run_words};
 pub use tl_text::{TextFault, read_text};

@@ -1,20 +1,18 @@
 //! One run of the program.
 
 ghost use Rattle.std.specs.Prelude.{◌≡◌, ◌<◌, ◌≤◌, ◌^◌};
+ghost use Rattle.tl_cli.specs.Status.{status_of};
 
 use crate::fault::Fault;
-use crate::words::{Command, read_words};
+use crate::files::{fragments_of, script_of, topology_of};
+use crate::words::{Command, not_utf8, read_words};
 use std::alloc::Global;
-use std::fs;
+use std::io;
 use std::rt::Files;
-use std::sync::Arc;
-use tl_beats::{ByteIn, ByteOut, Fragment, parse_whole_fragment, read_fragment};
 use tl_report::run_once;
-use tl_text::{CountedReader, read_text, write_all};
-use tl_topology::{Topo, TopoFault, read_topo};
-
-/// The most bytes of a topology's file.
-const MOST_TOPOLOGY: u64 = 1_048_576;
+use tl_run::{Outcome, audit_script, run_script};
+use tl_text::{ByteIn, ByteOut, read_text, write_all};
+use tl_topology::read_topo;
 
 /// The most bytes of standard input.
 const MOST_INPUT: u64 = 67_108_864;
@@ -25,79 +23,86 @@ const SOME_ROWS: u8 = 1;
 
 const FAULT: u8 = 2;
 
-/// The topology that a file's whole text is; bytes behind its last line are BadLine of the next.
-fn topology_of<R: Files + AllocGlobal>(rt: &R, path: &str) -> Result<Topo, Fault> {
-    let Ok(file) = fs::open(rt, path) else {
-        return Err(Fault::FILE);
-    };
-    let text = read_text(rt.alloc(), &mut CountedReader::new(file), MOST_TOPOLOGY)?;
-    let (topo, used) = read_topo(rt.alloc(), &text)?;
-    if used == text.len() {
-        Ok(topo)
-    } else {
-        Err(TopoFault::BadLine(line_after(&text[..used])).into())
+/// The exit status of a run that came to this.
+fn status_of(outcome: Outcome) -> u8
+    ensures exact { result ≡ status_of outcome }
+    ensures few { result ≤ 2 }
+{
+    match outcome.stop {
+        Some(_) => FAULT,
+        None if outcome.last_rows == 0 => NO_ROWS,
+        None => SOME_ROWS,
     }
 }
 
-/// The number of the line that begins behind these lines.
-fn line_after(lines: &[u8]) -> u64 {
-    let ends = lines.iter().filter(|byte| **byte == b'\n').count();
-    ends as u64 + 1
-}
-
-/// The fragment that a file's whole text is.
-fn fragment_of<R: Files + AllocGlobal>(rt: &R, path: &str) -> Result<Fragment, Fault> {
-    let Ok(file) = fs::open(rt, path) else {
-        return Err(Fault::FILE);
-    };
-    let fragment = read_fragment(rt.alloc(), &mut CountedReader::new(file))?;
-    Ok(fragment)
-}
-
-/// The fragments of files, each read and parsed before the next is opened.
-fn fragments_of<R: Files + AllocGlobal>(
-    rt: &R,
-    paths: &[&str],
-) -> Result<Vec<Arc<Fragment>>, Fault> {
-    let mut fragments = Vec::new(rt.alloc());
-    for path in paths {
-        let fragment = Arc::new(rt.alloc(), fragment_of(rt, path)?)?;
-        fragments.push(fragment)?;
+/// What one report with so many rows comes to.
+fn report_of(rows: u64) -> Outcome {
+    Outcome {
+        last_rows: rows,
+        stop: None,
     }
-    Ok(fragments)
 }
 
-/// The report of files' fragments; the number of its rows.
+/// The report of files' fragments.
 fn once_of_files<R: Files + AllocGlobal, O: ByteOut>(
     rt: &R,
     topology: &str,
     fragments: &[&str],
     out: &mut O,
-) -> Result<u64, Fault>
+) -> Result<Outcome, Fault>
     requires { O.failure_count out.old < 2 ^ 63 }
 {
     let topo = topology_of(rt, topology)?;
     let fragments = fragments_of(rt, fragments)?;
     let rows = run_once(rt.alloc(), &topo, &fragments, out)?;
-    Ok(rows)
+    Ok(report_of(rows))
 }
 
-/// The report of a topology text and a fragment text that follow one another; the number of its rows.
-fn once_of_input<I: ByteIn, O: ByteOut>(
+/// The run of a file's script.
+fn run_of_files<R: Files + AllocGlobal, O: ByteOut>(
+    rt: &R,
+    topology: &str,
+    script: &str,
+    out: &mut O,
+) -> Result<Outcome, Fault>
+    requires { O.failure_count out.old < 2 ^ 63 }
+{
+    let topo = topology_of(rt, topology)?;
+    let script = script_of(rt, script)?;
+    let outcome = run_script(rt.alloc(), &topo, &script, out)?;
+    Ok(outcome)
+}
+
+/// What checking everything anew finds behind so many accepted edits of a file's script.
+fn audit_of_files<R: Files + AllocGlobal, O: ByteOut>(
+    rt: &R,
+    topology: &str,
+    script: &str,
+    edit: u64,
+    out: &mut O,
+) -> Result<Outcome, Fault>
+    requires { O.failure_count out.old < 2 ^ 63 }
+{
+    let topo = topology_of(rt, topology)?;
+    let script = script_of(rt, script)?;
+    let rows = audit_script(rt.alloc(), &topo, &script, edit, out)?;
+    Ok(report_of(rows))
+}
+
+/// The run of a script behind its topology's text.
+fn run_of_input<I: ByteIn, O: ByteOut>(
     alloc: Global,
     input: &mut I,
     out: &mut O,
-) -> Result<u64, Fault>
+) -> Result<Outcome, Fault>
     requires reads { I.read_count input.old < 2 ^ 63 }
     requires failures { I.failure_count input.old < 2 ^ 63 }
     requires out { O.failure_count out.old < 2 ^ 63 }
 {
     let text = read_text(alloc, input, MOST_INPUT)?;
     let (topo, used) = read_topo(alloc, &text)?;
-    let fragment = parse_whole_fragment(alloc, &text[used..])?;
-    let fragments = vec![in alloc; Arc::new(alloc, fragment)?]?;
-    let rows = run_once(alloc, &topo, &fragments, out)?;
-    Ok(rows)
+    let outcome = run_script(alloc, &topo, &text[used..], out)?;
+    Ok(outcome)
 }
 
 /// Tells of a fault in one line; that this can't be written changes nothing.
@@ -123,6 +128,18 @@ fn tell_text<O: ByteOut, E: ByteOut>(alloc: Global, out: &mut O, err: &mut E, te
     }
 }
 
+/// Writes clap's own text of words that it refuses.
+fn tell_refusal<E: ByteOut>(alloc: Global, err: &mut E, error: &clap::Error) -> u8
+    requires { E.failure_count err.old < 2 ^ 63 }
+    ensures { result ≡ 2 }
+{
+    let Ok(text) = format!(in alloc; "{error}") else {
+        return tell(alloc, err, Fault::MEMORY);
+    };
+    let _ = write_all(err, text.as_bytes());
+    FAULT
+}
+
 /// Writes clap's own text: help to the one, what it refuses to the other.
 fn tell_words<O: ByteOut, E: ByteOut>(
     alloc: Global,
@@ -134,19 +151,33 @@ fn tell_words<O: ByteOut, E: ByteOut>(
     requires err { E.failure_count err.old < 2 ^ 63 }
     ensures { result ≤ 2 }
 {
-    let Ok(text) = format!(in alloc; "{error}") else {
-        return tell(alloc, err, Fault::MEMORY);
-    };
     if error.use_stderr() {
-        let _ = write_all(err, text.as_bytes());
-        return FAULT;
+        return tell_refusal(alloc, err, error);
     }
-    tell_text(alloc, out, err, text.as_str())
+    match format!(in alloc; "{error}") {
+        Ok(text) => tell_text(alloc, out, err, text.as_str()),
+        Err(_) => tell(alloc, err, Fault::MEMORY),
+    }
 }
 
-/// Does what the words ask for, the first of which is the program's own, and answers the exit status: 0 where the report
-/// has no rows or a text was asked for, 1 where it has some rows, 2 for a fault, which is told in one line on `err`, and for words
-/// that are refused, of which `clap` tells on `err` in lines of its own. `input` stands for standard input.
+/// Tells on `err` why the words can't be had, want of memory or else that one is no UTF-8 text, and answers the exit status, 2.
+pub fn refuse_words<E: ByteOut>(alloc: Global, err: &mut E, error: &io::Error) -> u8
+    requires { E.failure_count err.old < 2 ^ 63 }
+    ensures { result ≡ 2 }
+{
+    if error.kind() == io::ErrorKind::OutOfMemory {
+        return tell(alloc, err, Fault::MEMORY);
+    }
+    match not_utf8(alloc) {
+        Ok(refusal) => tell_refusal(alloc, err, &refusal),
+        Err(_) => tell(alloc, err, Fault::MEMORY),
+    }
+}
+
+/// Does what the words ask for, the first of which is the program's own, and answers the exit status: 0 where the last report
+/// has no rows, there is none, or a text was asked for; 1 where it has some rows; 2 for a script that stops, for a fault, which is
+/// told in one line on `err`, and for words that are refused, of which `clap` tells on `err` in lines of its own. `input`
+/// stands for standard input.
 pub fn run_words<R: Files + AllocGlobal, I: ByteIn, O: ByteOut, E: ByteOut>(
     rt: &R,
     words: &[String],
@@ -164,17 +195,22 @@ pub fn run_words<R: Files + AllocGlobal, I: ByteIn, O: ByteOut, E: ByteOut>(
         Ok(command) => command,
         Err(error) => return tell_words(rt.alloc(), out, err, &error),
     };
-    let rows = match command {
-        Command::Input => once_of_input(rt.alloc(), input, out),
+    let outcome = match command {
+        Command::Input => run_of_input(rt.alloc(), input, out),
         Command::Once {
             topology,
             fragments,
         } => once_of_files(rt, topology, &fragments, out),
+        Command::Run { topology, script } => run_of_files(rt, topology, script, out),
+        Command::Audit {
+            topology,
+            script,
+            edit,
+        } => audit_of_files(rt, topology, script, edit, out),
         Command::Explain { entry } => return tell_text(rt.alloc(), out, err, entry),
     };
-    match rows {
-        Ok(0) => NO_ROWS,
-        Ok(_) => SOME_ROWS,
+    match outcome {
+        Ok(outcome) => status_of(outcome),
         Err(fault) => tell(rt.alloc(), err, fault),
     }
 }

@@ -1,6 +1,7 @@
 //! The words of the command line.
 
 use crate::explain::entry_of;
+use clap::builder::ValueParser;
 use clap::error::ErrorKind;
 use clap::{Arg, ArgAction, ArgMatches, Error};
 use std::alloc::Global;
@@ -8,18 +9,32 @@ use std::alloc::Global;
 /// What the words ask for.
 #[derive(Debug, Drop)]
 pub(crate) enum Command<'a> {
-    /// No words: a topology and a fragment on standard input.
+    /// No words: a topology and a script on standard input.
     Input,
     /// The report of fragments, from files.
     Once {
         topology: &'a str,
         fragments: Vec<&'a str>,
     },
+    /// The run of a script, from files.
+    Run {
+        topology: &'a str,
+        script: &'a str,
+    },
+    /// What the first edits of a script leave, from files.
+    Audit {
+        topology: &'a str,
+        script: &'a str,
+        edit: u64,
+    },
     /// The entry of a rule or of a refusal.
     Explain {
         entry: &'static str,
     },
 }
+
+/// The greatest number of an edit that words may name.
+const MOST_EDIT: u64 = (1 << 63) - 1;
 
 fn word<'a>(alloc: Global, id: &'a str, help: &'a str) -> Arg<'a> {
     Arg::new(alloc, id)
@@ -28,12 +43,23 @@ fn word<'a>(alloc: Global, id: &'a str, help: &'a str) -> Arg<'a> {
         .help(help)
 }
 
-fn once<'a>(alloc: Global) -> Result<clap::Command<'a>, Error> {
-    let topology = word(
+fn topology<'a>(alloc: Global) -> Arg<'a> {
+    word(
         alloc,
         "TOPO",
         "Path of the topology text, at most 1,048,576 bytes",
-    );
+    )
+}
+
+fn script<'a>(alloc: Global) -> Arg<'a> {
+    word(
+        alloc,
+        "SCRIPT",
+        "Path of the script, at most 67,108,864 bytes",
+    )
+}
+
+fn once<'a>(alloc: Global) -> Result<clap::Command<'a>, Error> {
     let fragments = word(
         alloc,
         "FRAGMENT",
@@ -44,9 +70,42 @@ fn once<'a>(alloc: Global) -> Result<clap::Command<'a>, Error> {
     let once = clap::Command::new(alloc, "once")
         .about("Checks the fragments of a capture together and writes the report")
         .after_help(ONCE_EXAMPLE)
-        .arg(topology)?
+        .arg(topology(alloc))?
         .arg(fragments)?;
     Ok(once)
+}
+
+fn run<'a>(alloc: Global) -> Result<clap::Command<'a>, Error> {
+    let workers = Arg::new(alloc, "workers")
+        .long("workers")
+        .value_name("N")
+        .action(ArgAction::Set)
+        .help(
+            "How many threads check beside the first; only 0 is taken today, as without this option",
+        );
+    let run = clap::Command::new(alloc, "run")
+        .about("Runs a script of edits and publishes, and writes what each comes to")
+        .after_help(RUN_EXAMPLE)
+        .arg(topology(alloc))?
+        .arg(script(alloc))?
+        .arg(workers)?;
+    Ok(run)
+}
+
+fn audit<'a>(alloc: Global) -> Result<clap::Command<'a>, Error> {
+    let edit = word(
+        alloc,
+        "EDIT",
+        "How many accepted edits of the script to check, a whole number below 2^63",
+    )
+    .value_parser(ValueParser::unsigned(0, MOST_EDIT));
+    let audit = clap::Command::new(alloc, "audit")
+        .about("Checks anew what the first accepted edits of a script leave")
+        .after_help(AUDIT_EXAMPLE)
+        .arg(topology(alloc))?
+        .arg(script(alloc))?
+        .arg(edit)?;
+    Ok(audit)
 }
 
 fn explain<'a>(alloc: Global) -> Result<clap::Command<'a>, Error> {
@@ -69,6 +128,8 @@ fn program<'a>(alloc: Global) -> Result<clap::Command<'a>, Error> {
         .after_help(HELP)
         .subcommand_required(true)
         .subcommand(once(alloc)?)?
+        .subcommand(run(alloc)?)?
+        .subcommand(audit(alloc)?)?
         .subcommand(explain(alloc)?)?;
     Ok(program)
 }
@@ -78,19 +139,67 @@ const VERSION: &str = "0.1.0";
 const ONCE_EXAMPLE: &str =
     "Example: tlcheck once examples/one_manager.topo examples/late_write_back.fragment";
 
+const RUN_EXAMPLE: &str = "Example: tlcheck run examples/one_manager.topo examples/edits.script";
+
+const AUDIT_EXAMPLE: &str =
+    "Example: tlcheck audit examples/one_manager.topo examples/edits.script 2";
+
 const EXPLAIN_EXAMPLE: &str = "Examples: tlcheck explain P2, tlcheck explain 12";
 
 const HELP: &str =
     "tlcheck once TOPO FRAGMENT.. checks the fragments of a capture together, from files: TOPO is a topology text \
 of at most 1,048,576 bytes, each FRAGMENT a fragment text of at most 8,388,608 bytes.\n\
-Without words tlcheck reads a topology and one fragment right behind it from standard input, at most 67,108,864 bytes, \
-and does as once.\n\n\
-Exit status: 0 no rule is broken, 1 the report has rows, 2 a fault, told on standard error as `tlcheck: CODE` \
-or `tlcheck: CODE NUMBER`; tlcheck explain CODE says more.\n\n\
-Example: cat examples/one_manager.topo examples/late_write_back.fragment | tlcheck";
+tlcheck run TOPO SCRIPT runs a script of at most 67,108,864 bytes: edits of fragments, regions and monitors, and \
+reports between them. tlcheck audit TOPO SCRIPT EDIT checks anew what its first EDIT accepted edits leave.\n\
+Without words tlcheck reads a topology and a script right behind it from standard input, at most 67,108,864 bytes, \
+and does as run.\n\n\
+Exit status: 0 no rule is broken, 1 the last report has rows, 2 a fault, told on standard error as `tlcheck: CODE` \
+or `tlcheck: CODE NUMBER`, or a script that stops, told as its last line on standard output; \
+tlcheck explain CODE says more.\n\n\
+Example: cat examples/one_manager.topo examples/edits.script | tlcheck";
+
+/// The fragments that the words of `once` name.
+fn once_asked<'a>(alloc: Global, found: &ArgMatches<'a>) -> Result<Command<'a>, Error> {
+    let mut fragments = Vec::new(alloc);
+    if let Some(paths) = found.get_strs("FRAGMENT") {
+        fragments.extend_from_slice(paths)?;
+    }
+    Ok(Command::Once {
+        topology: found.get_str("TOPO").unwrap_or(""),
+        fragments,
+    })
+}
+
+/// The script that the words of `run` name; any number of workers but 0 is refused.
+fn run_asked<'a>(
+    alloc: Global,
+    program: &mut clap::Command<'a>,
+    found: &ArgMatches<'a>,
+) -> Result<Command<'a>, Error> {
+    let workers = found.get_str("workers").unwrap_or("0");
+    if workers.parse::<u64>() != Ok(0) {
+        let text = format!(in alloc;
+            "'{workers}' is no number of workers that is taken: only 0 is taken today"
+        )?;
+        return Err(program.error(ErrorKind::InvalidValue, text.as_str())?);
+    }
+    Ok(Command::Run {
+        topology: found.get_str("TOPO").unwrap_or(""),
+        script: found.get_str("SCRIPT").unwrap_or(""),
+    })
+}
+
+/// The script and the edit that the words of `audit` name.
+fn audit_asked<'a>(found: &ArgMatches<'a>) -> Command<'a> {
+    Command::Audit {
+        topology: found.get_str("TOPO").unwrap_or(""),
+        script: found.get_str("SCRIPT").unwrap_or(""),
+        edit: found.get_one("EDIT").unwrap_or(0),
+    }
+}
 
 /// The entry that the words of `explain` name; another word is refused.
-fn explained<'a>(
+fn explain_asked<'a>(
     alloc: Global,
     program: &mut clap::Command<'a>,
     found: &ArgMatches<'a>,
@@ -113,15 +222,16 @@ pub(crate) fn read_words<'a>(alloc: Global, words: &'a [String]) -> Result<Comma
     let Some((name, found)) = matches.subcommand() else {
         return Ok(Command::Input);
     };
-    if name == "explain" {
-        return explained(alloc, &mut program, found);
+    match name.as_bytes() {
+        b"run" => run_asked(alloc, &mut program, found),
+        b"audit" => Ok(audit_asked(found)),
+        b"explain" => explain_asked(alloc, &mut program, found),
+        _ => once_asked(alloc, found),
     }
-    let mut fragments = Vec::new(alloc);
-    if let Some(paths) = found.get_strs("FRAGMENT") {
-        fragments.extend_from_slice(paths)?;
-    }
-    Ok(Command::Once {
-        topology: found.get_str("TOPO").unwrap_or(""),
-        fragments,
-    })
+}
+
+/// What is told of words of which one is no UTF-8 text.
+pub(crate) fn not_utf8(alloc: Global) -> Result<Error, Error> {
+    let mut program = program(alloc)?;
+    Ok(program.error(ErrorKind::InvalidValue, "a word is no UTF-8 text")?)
 }

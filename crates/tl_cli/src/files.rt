@@ -1,0 +1,64 @@
+//! The files that the words name.
+
+use crate::fault::Fault;
+use std::fs;
+use std::rt::Files;
+use std::sync::Arc;
+use tl_beats::{Fragment, read_fragment};
+use tl_run::read_script;
+use tl_text::{CountedReader, read_text};
+use tl_topology::{Topo, TopoFault, read_topo};
+
+/// The most bytes of a topology's file.
+const MOST_TOPOLOGY: u64 = 1_048_576;
+
+/// The topology that a file's whole text is; bytes behind its last line are BadLine of the next.
+pub(crate) fn topology_of<R: Files + AllocGlobal>(rt: &R, path: &str) -> Result<Topo, Fault> {
+    let Ok(file) = fs::open(rt, path) else {
+        return Err(Fault::FILE);
+    };
+    let text = read_text(rt.alloc(), &mut CountedReader::new(file), MOST_TOPOLOGY)?;
+    let (topo, used) = read_topo(rt.alloc(), &text)?;
+    if used == text.len() {
+        Ok(topo)
+    } else {
+        Err(TopoFault::BadLine(line_after(&text[..used])).into())
+    }
+}
+
+/// The number of the line that begins behind these lines.
+fn line_after(lines: &[u8]) -> u64 {
+    let ends = lines.iter().filter(|byte| **byte == b'\n').count();
+    ends as u64 + 1
+}
+
+/// The fragment that a file's whole text is.
+fn fragment_of<R: Files + AllocGlobal>(rt: &R, path: &str) -> Result<Fragment, Fault> {
+    let Ok(file) = fs::open(rt, path) else {
+        return Err(Fault::FILE);
+    };
+    let fragment = read_fragment(rt.alloc(), &mut CountedReader::new(file))?;
+    Ok(fragment)
+}
+
+/// The fragments of files, each read and parsed before the next is opened.
+pub(crate) fn fragments_of<R: Files + AllocGlobal>(
+    rt: &R,
+    paths: &[&str],
+) -> Result<Vec<Arc<Fragment>>, Fault> {
+    let mut fragments = Vec::new(rt.alloc());
+    for path in paths {
+        let fragment = Arc::new(rt.alloc(), fragment_of(rt, path)?)?;
+        fragments.push(fragment)?;
+    }
+    Ok(fragments)
+}
+
+/// The script that a file is; its commands are not looked at.
+pub(crate) fn script_of<R: Files + AllocGlobal>(rt: &R, path: &str) -> Result<Vec<u8>, Fault> {
+    let Ok(file) = fs::open(rt, path) else {
+        return Err(Fault::FILE);
+    };
+    let script = read_script(rt.alloc(), &mut CountedReader::new(file))?;
+    Ok(script)
+}

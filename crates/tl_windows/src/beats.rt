@@ -95,6 +95,7 @@ impl Present {
         for link in links {
             self.ranges.push_link(from, to, *link, &mut beats)?;
         }
-        Ok(in_order(beats))
+        let sorted = in_order(beats)?;
+        Ok(sorted)
     }
 }

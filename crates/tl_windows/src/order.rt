@@ -1,11 +1,12 @@
 //! Orders, in place.
 
-ghost use Rattle.std.specs.Prelude.{◌≡◌, ◌↔◌, ℕ};
+ghost use Rattle.std.specs.Prelude.{◌≡◌, ◌↔◌, ℕ, IfOk};
 ghost use Rattle.std.specs.List.{Contains};
 ghost use Rattle.std.specs.Ordering.{nat_cmp};
 ghost use Rattle.std.specs.List.Sorted.{IsPermutation, IsStrictlySortedBy};
 ghost use Rattle.tl_definitions.specs.Positions.{position_order, AreInOrder};
 
+use std::alloc::AllocError;
 use std::cmp::Ordering;
 use tl_beats::Placed;
 use tl_tables::chan_index;
@@ -19,14 +20,15 @@ pub(crate) fn order(here: &Placed, there: &Placed) -> Ordering
     cycle.then(channel.then(here.link.cmp(&there.link)))
 }
 
-/// The same beats in the order of positions.
-pub(crate) fn in_order(beats: Vec<Placed>) -> Vec<Placed>
-    ensures permutation { IsPermutation beats.items result.items }
-    ensures order { AreInOrder result.items }
+/// The same beats in the order of positions. Those of each link are in order already, and this sort merges such stretches.
+/// AllocError where memory is refused.
+pub(crate) fn in_order(beats: Vec<Placed>) -> Result<Vec<Placed>, AllocError>
+    ensures permutation { IfOk result (λ sorted. IsPermutation beats.items sorted.items) }
+    ensures order { IfOk result (λ sorted. AreInOrder sorted.items) }
 {
     let mut sorted = beats;
-    sorted.sort_unstable_by(|here, there| order(here, there));
-    sorted
+    sorted.sort_by(|here, there| order(here, there))?;
+    Ok(sorted)
 }
 
 /// The same numbers, rising, each once.

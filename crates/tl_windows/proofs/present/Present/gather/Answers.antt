@@ -13,4 +13,4 @@ returns c =
     let past : length c.args.links.now ≤ c.loop-link.link-index = omega arith in
     let all : c.loop-link.beats.items ≡ pushed (is_within c.args.from c.args.to) c.args.links.now fs =
     sym (append-nil c.loop-link.beats.items) ∙ ap (λ ls. c.loop-link.beats.items ++ pushed (is_within c.args.from c.args.to) ls fs) (sym (drop_of_length-le c.args.links.now past)) ∙ c.loop-link.invariant in
-    gathered (is_within c.args.from c.args.to) c.args.links.now fs c.loop-link.beats.items c.in_order.result.items (ranges_of fs is) c.requires.links all c.in_order.ensures.permutation c.in_order.ensures.order
+    gathered (is_within c.args.from c.args.to) c.args.links.now fs c.loop-link.beats.items c.in_ok-sorted.sorted.items (ranges_of fs is) c.requires.links all c.in_ok-sorted.ensures.permutation c.in_ok-sorted.ensures.order

@@ -14,9 +14,6 @@ up_to ls i l inside is = take_more ls i l inside ∙ ap (λ x. take i ls ++ x �
 pub All-insert : {L : Type 0} (P : L → Type 0) (ls : List L) (i : ℕ) (l : L) → P l → All P ls → All P (insert ls i l)
 All-insert P ls i l p a = All-append P (take i ls) (l ∷ drop i ls) (All-take P i ls a) (All-cons P l (drop i ls) p (All-drop P i ls a))
 
-pub All-remove : {L : Type 0} (P : L → Type 0) (ls ms : List L) (i : ℕ) → ms ≡ take i ls ++ drop (suc i) ls → All P ls → All P ms
-All-remove P ls ms i is a = subst (All P) (sym is) (All-append P (take i ls) (drop (suc i) ls) (All-take P i ls a) (All-drop P (suc i) ls a))
-
 set_insert : {L : Type 0} (ls : List L) (i : ℕ) (l r : L) → i < length ls → set (insert ls (i + 1) r) i l ≡ take i ls ++ l ∷ r ∷ drop (i + 1) ls
 set_insert ls i l r inside =
     ap (λ t. set (t ++ r ∷ drop (i + 1) ls) i l) (take_more ls i l inside)
@@ -44,12 +41,6 @@ module _ {E L : Type 0} (items : L → List E) where
         ∙ ap (λ t. flat_map items (take i ls) ++ t) (sym (append_assoc (items l) (items r) (flat_map items (drop (i + 1) ls))))
         ∙ ap (λ t. flat_map items (take i ls) ++ (t ++ flat_map items (drop (i + 1) ls))) is
 
-    -- a leaf taken out
-    pub all_removed : (ms : List L) → ms ≡ take i ls ++ drop (suc i) ls → flat_map items ms ≡ flat_map items (take i ls) ++ flat_map items (drop (i + 1) ls)
-    all_removed ms is =
-        let next : suc i ≡ i + 1 = omega arith in
-        ap (flat_map items) is ∙ flat_map-append items (take i ls) (drop (suc i) ls) ∙ ap (λ n. flat_map items (take i ls) ++ flat_map items (drop n ls)) next
-
     module _ (l : L) (is : l ≡ get_or ls i l) where
       -- the entries of the leaf at i
       pub leaf_at : flat_map items (take 1 (drop i ls)) ≡ items l
@@ -66,9 +57,3 @@ module _ {E L : Type 0} (items : L → List E) where
       ap (flat_map items) (sym (take-append-drop i ls)) ∙ flat_map-append items (take i ls) (drop i ls)
       ∙ ap (λ t. A ++ t) (rest ∙ ap (λ t. t ++ B) (sym (take-append-drop w own)) ∙ append_assoc (take w own) (drop w own) B)
       ∙ sym (append_assoc A (take w own) (drop w own ++ B))
-
--- entries between what is ahead of them and what is behind
-pub put_between : {E : Type 0} (before front made back after : List E) → before ++ ((front ++ (made ++ back)) ++ after) ≡ (before ++ front) ++ (made ++ (back ++ after))
-put_between before front made back after =
-    ap (λ t. before ++ t) (append_assoc front (made ++ back) after ∙ ap (λ t. front ++ t) (append_assoc made back after))
-    ∙ sym (append_assoc before front (made ++ (back ++ after)))

@@ -34,9 +34,6 @@ module _ {K V : Type 0} {cmp : K → K → Ordering} (total : IsTotalOrder cmp) 
     own : Rises cmp (xs ++ e ∷ ys)
     own = subst (Rises cmp) is s
 
-    pub some_entry : 0 < length now
-    some_entry = omega (arith, ap length is, length-append xs (e ∷ ys))
-
     module _ (here : cmp k e.0 ≡ Equal) where
       pub value_found : value_at cmp now k ≡ Some e.1
       value_found = ap (λ t. value_at cmp t k) is ∙ value_over cmp k xs (e ∷ ys) below ∙ value_here cmp k e ys here

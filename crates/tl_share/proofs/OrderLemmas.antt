@@ -31,12 +31,6 @@ module _ {K V : Type 0} {cmp : K → K → Ordering} (total : IsTotalOrder cmp) 
       let front : take i es ++ e ∷ [] ≡ take (i + 1) es = ap (λ x. take i es ++ x ∷ []) is ∙ sym (take_more es i e inside) in
       subst (Below cmp k) front (below_prefix k (take i es) e (drop (i + 1) es) (subst (Rises cmp) (sym whole) s) g)
 
-pub stops_at : {K V : Type 0} (cmp : K → K → Ordering) (k : K) (es : List (K × V)) (i : ℕ) (e : K × V) → i < length es → e ≡ get_or es i e → is_gt (cmp k e.0) ≡ false → Stops cmp k (drop i es)
-stops_at cmp k es i e inside is g = subst (Stops cmp k) (sym (drop_more es i e inside ∙ ap (λ x. x ∷ drop (i + 1) es) (sym is))) g
-
-pub stops_end : {K V : Type 0} (cmp : K → K → Ordering) (k : K) (es : List (K × V)) (i : ℕ) → length es ≤ i → Stops cmp k (drop i es)
-stops_end cmp k es i past = subst (Stops cmp k) (sym (drop_all i es past)) tt
-
 -- ---- parts of entries in order
 
 rises_left_all : {K V : Type 0} (P : K → Type 0) (xs ys : List (K × V)) → AllByRecursion P (keys_of (xs ++ ys)) → AllByRecursion P (keys_of xs)

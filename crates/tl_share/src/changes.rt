@@ -33,22 +33,15 @@ pub(crate) fn set_in<K: Ord + Copy, V: Copy>(
         put_last(alloc, leaves, (key, value))?;
         return Ok(None);
     };
-    let place = spot.place;
+    let (leaf, place) = (spot.leaf, spot.place);
     let (held, old) = spot.entry;
     match key.cmp(&held) {
         Ordering::Equal => {
-            replace(
-                alloc,
-                leaves,
-                spot.leaf,
-                place,
-                place + 1,
-                Some((held, value)),
-            )?;
+            replace(alloc, leaves, leaf, place, place + 1, Some((held, value)))?;
             Ok(Some(old))
         }
         _ => {
-            replace(alloc, leaves, spot.leaf, place, place, Some((key, value)))?;
+            replace(alloc, leaves, leaf, place, place, Some((key, value)))?;
             Ok(None)
         }
     }
@@ -72,11 +65,11 @@ pub(crate) fn remove_in<K: Ord + Copy, V: Copy>(
     let Some(spot) = find(leaves.as_slice(), key) else {
         return Ok(None);
     };
-    let place = spot.place;
+    let (leaf, place) = (spot.leaf, spot.place);
     let (held, old) = spot.entry;
     match key.cmp(&held) {
         Ordering::Equal => {
-            replace(alloc, leaves, spot.leaf, place, place + 1, None)?;
+            replace(alloc, leaves, leaf, place, place + 1, None)?;
             Ok(Some(old))
         }
         _ => Ok(None),

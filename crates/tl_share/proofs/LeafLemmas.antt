@@ -1,5 +1,5 @@
 -- Lists of leaves, cut at a place, and leaves put in the place of others.
-use Rattle.std.proofs.Common.{◌≡◌, ℕ, suc, ◌+◌, ◌<◌, List, [], ◌∷◌, ◌++◌, length, get_or, take, drop, set, sym, ap, ◌∙◌, subst, arith, append_assoc, append-nil, drop-drop, All, flat_map, insert}
+use Rattle.std.proofs.Common.{◌≡◌, ℕ, suc, ◌+◌, ◌<◌, List, [], ◌∷◌, ◌++◌, length, get_or, take, drop, set, sym, ap, ◌∙◌, arith, append_assoc, append-nil, drop-drop, All, flat_map, insert}
 use Rattle.std.proofs.lemmas.List.{take_more, drop_more, take-append-drop, set_split, set_at, length-take-le}
 use Rattle.std.proofs.lemmas.List.Elements.{All-append, All-cons, All-take, All-drop}
 use Rattle.std.proofs.lemmas.List.Concat.{flat_map-append}

@@ -1,12 +1,12 @@
 -- What a key's place says of entries in key order.
-use Rattle.std.proofs.Common.{◌≡◌, ℕ, zero, suc, ◌+◌, ◌<◌, ◌≤◌, false, List, [], ◌∷◌, ◌++◌, length, get_or, take, drop, refl, sym, ap, ◌∙◌, subst, arith, Ordering, Less, Equal, Greater, is_gt, true≢false}
+use Rattle.std.proofs.Common.{◌≡◌, ℕ, zero, suc, ◌+◌, ◌<◌, false, List, [], ◌∷◌, ◌++◌, length, get_or, take, drop, refl, sym, ap, ◌∙◌, subst, arith, Ordering, Less, Equal, Greater, is_gt, true≢false}
 use Rattle.std.specs.List.{AllByRecursion}
 use Rattle.std.specs.List.Sorted.{IsStrictlySortedBy}
 use Rattle.std.specs.Cmp.{IsTotalOrder}
 use Rattle.std.specs.Ordering.{ordering_reverse}
 use Rattle.std.specs.Map.{keys_of}
-use Rattle.std.proofs.lemmas.List.{drop_more, take_more, take-append-drop, drop_all}
-use Rattle.tl_share.specs.KeyOrder.{Below, Rises, Stops, Reaches}
+use Rattle.std.proofs.lemmas.List.{drop_more, take_more, take-append-drop}
+use Rattle.tl_share.specs.KeyOrder.{Below, Rises, Reaches}
 
 -- what is below an entry that stands before the key stands before it too
 over : {K : Type 0} {cmp : K → K → Ordering} → IsTotalOrder cmp → (k x y : K) → cmp x y ≡ Less → cmp k y ≡ Greater → cmp k x ≡ Greater

@@ -1,6 +1,6 @@
 //! Changes of the entries of a map, on its leaves.
 
-ghost use Rattle.std.specs.Prelude.{◌≡◌, ◌+◌, length, is_some, IfOk, OnOk, OnErr, if◌then◌else◌};
+ghost use Rattle.std.specs.Prelude.{◌≡◌, ◌+◌, length, is_some, IsSome, IfOk, OnOk, OnErr, if◌then◌else◌};
 ghost use Rattle.std.specs.BTreeMap.{insert_entry, is_at};
 ghost use Rattle.std.specs.Map.{remove_entry};
 ghost use Rattle.tl_share.specs.Leaves.{all_entries, EachHasEntries};
@@ -47,7 +47,8 @@ pub(crate) fn set_in<K: Ord + Copy, V: Copy>(
     }
 }
 
-/// Takes the key out, and answers the value that it had. At want of memory nothing has changed.
+/// Takes the key out, and answers the value that it had. Only where it has one can there be no memory, and then nothing has
+/// changed.
 pub(crate) fn remove_in<K: Ord + Copy, V: Copy>(
     alloc: Global,
     leaves: &mut Vec<Arc<Vec<(K, V)>>>,
@@ -60,6 +61,7 @@ pub(crate) fn remove_in<K: Ord + Copy, V: Copy>(
     ensures rises { Rises K.cmp (all_entries leaves.new.items) }
     ensures full { EachHasEntries leaves.new.items }
     ensures len { IfOk result (λ old. length (all_entries leaves.new.items) + (if is_some old then 1 else 0) ≡ length (all_entries leaves.old.items)) }
+    ensures wanted { OnErr result (IsSome (value_at K.cmp (all_entries leaves.old.items) key.now)) }
     ensures err { OnErr result (leaves.new.items ≡ leaves.old.items) }
 {
     let Some(spot) = find(leaves.as_slice(), key) else {

@@ -1,6 +1,6 @@
 //! The map.
 
-ghost use Rattle.std.specs.Prelude.{◌≡◌, ◌==◌, [], length, Some, None, IfOk, OnOk, OnErr};
+ghost use Rattle.std.specs.Prelude.{◌≡◌, ◌==◌, [], length, Some, None, IsSome, IfOk, OnOk, OnErr};
 ghost use Rattle.std.specs.Bool.{Decides};
 ghost use Rattle.std.specs.BTreeMap.{insert_entry, is_at};
 ghost use Rattle.std.specs.Map.{remove_entry};
@@ -18,8 +18,8 @@ use std::sync::Arc;
 use tl_same::{Exact, Same};
 
 /// A map from keys to values, in the order of its keys, of which a copy shares the entries with its source. They lie in leaves of
-/// up to 64: a copy costs one step for each leaf, and a change makes the one leaf anew that it touches, so that every change
-/// asks for memory. Leaves that removals leave with few entries are not joined.
+/// up to 64. A copy costs a step for each leaf. A change makes the leaf anew that it touches, and leaves it as it was in every
+/// copy; so any change can be refused for want of memory. Leaves that removals leave with few entries are not joined.
 #[derive(Drop)]
 pub struct ShareMap<K: Ord + Copy, V: Copy> {
     alloc: Global,
@@ -78,7 +78,8 @@ impl<K: Ord + Copy, V: Copy> ShareMap<K, V> {
         }
     }
 
-    /// Gives the key this value, and answers the one that it had. AllocError where memory is refused: then nothing has changed.
+    /// Gives the key this value, and answers the one that it had. AllocError where memory is refused, or a `usize` could not
+    /// count one entry more: then nothing has changed.
     pub fn set(&mut self, key: K, value: V) -> Result<Option<V>, AllocError>
         ensures old { IfOk result (λ old. old ≡ value_at K.cmp self.old key) }
         ensures ok { OnOk result (self.new ≡ insert_entry K.cmp self.old key value) }
@@ -93,12 +94,13 @@ impl<K: Ord + Copy, V: Copy> ShareMap<K, V> {
         Ok(old)
     }
 
-    /// Takes the key out, and answers the value that it had; without one, nothing changes and no memory is asked for. AllocError
-    /// where memory is refused: then nothing has changed.
+    /// Takes the key out, and answers the value that it had; a key without one changes nothing. AllocError where memory is
+    /// refused, which only a key with a value asks for: then nothing has changed.
     pub fn remove(&mut self, key: &K) -> Result<Option<V>, AllocError>
         ensures old { IfOk result (λ old. old ≡ value_at K.cmp self.old key.now) }
         ensures ok { OnOk result (self.new ≡ remove_entry (is_at (K.cmp key.now)) self.old) }
         ensures sets { OnOk result (Sets K.cmp self.old self.new key.now None) }
+        ensures wanted { OnErr result (IsSome (value_at K.cmp self.old key.now)) }
         ensures err { OnErr result (self.new ≡ self.old) }
     {
         let old = remove_in(self.alloc, &mut self.leaves, key)?;

@@ -1,0 +1,5 @@
+pub mod KeyOrder
+pub mod Leaves
+pub mod Map
+pub mod Spots
+pub mod Walk

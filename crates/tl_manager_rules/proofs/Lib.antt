@@ -1,2 +1,3 @@
+pub mod ClientLaws
 pub mod ManagerLaws
 pub mod StandLaws

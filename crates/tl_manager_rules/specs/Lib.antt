@@ -1,2 +1,3 @@
+pub mod Clients
 pub mod Manager
 pub mod Laws

@@ -1,5 +1,5 @@
 -- What the state of a manager shows, and what it stands for.
-use Rattle.std.specs.Prelude.{ℕ, Bool, ◌≡◌, ◌==◌, ◌++◌, List, [], length, Option, filter, if◌then◌else◌}
+use Rattle.std.specs.Prelude.{ℕ, Bool, ◌≡◌, ◌==◌, ◌++◌, ◌<◌, List, [], length, Option, Some, filter, if◌then◌else◌}
 use Rattle.std.specs.List.{slice_get}
 use Rattle.std.specs.Option.{option_map_or}
 use Rattle.tl_tables.specs.declared.Op.{Op}
@@ -12,16 +12,18 @@ use Rattle.tl_definitions.specs.Rules.{Manager, breaks_permission, permission_or
 use Rattle.tl_definitions.specs.Judging.{message_in, past_with}
 use Rattle.tl_perm_rules.specs.Client as client_state
 use Rattle.tl_perm_rules.specs.Client.{ClientView, client_view, head_with}
+use Rattle.tl_manager_rules.specs.Clients.{place_of}
 use Rattle.tl_manager_rules.specs.declared.manager.ManagerState.{ManagerState}
 
--- What one client shows; a link number that the topology lacks shows what no messages leave.
-abbrev pub client_at : ManagerState → ℕ → ClientView
-client_at state link = option_map_or client_state.shown (slice_get state.states.items link) (client_view state.exponent (past_of state.exponent []))
+-- What a client shows before all messages.
+abbrev pub opening_view : ℕ → ClientView
+opening_view exponent = client_view exponent (past_of exponent [])
 
-abbrev pub past_at : ManagerState → ℕ → ClientPast
-past_at state client = (client_at state client).past
+-- What the client at a place among the manager's links shows.
+abbrev pub client_there : ManagerState → ℕ → ClientView
+client_there state place = option_map_or client_state.shown (slice_get state.states.items place) (opening_view state.exponent)
 
--- What a state shows: the numbers of its manager's links, the size of its blocks, how many links the topology has, each client.
+-- What a state shows: the numbers of its manager's links, the size of its blocks, how many clients it has, and each, by its place.
 pub record ManagerView : Type 0 where
   pub clients : List ℕ
   pub exponent : ℕ
@@ -29,11 +31,25 @@ pub record ManagerView : Type 0 where
   pub client : ℕ → ClientView
 
 abbrev pub shown : ManagerState → ManagerView
-shown state = record { clients = state.clients.items; exponent = state.exponent; count = length state.states.items; client = client_at state }
+shown state = record { clients = state.clients; exponent = state.exponent; count = length state.states.items; client = client_there state }
+
+-- What is shown of a link; one that is not the manager's shows what no messages leave.
+abbrev pub client_in : ManagerView → ℕ → ClientView
+client_in view link = option_map_or view.client (place_of link view.clients) (opening_view view.exponent)
+
+abbrev pub client_at : ManagerState → ℕ → ClientView
+client_at state link = client_in (shown state) link
+
+abbrev pub past_at : ManagerState → ℕ → ClientPast
+past_at state client = (client_at state client).past
+
+-- The link is one of the manager's, and has its client.
+abbrev pub HasPlace : ManagerView → ℕ → Type 0
+HasPlace view link = (place : ℕ) × (place_of link view.clients ≡ Some place) × (place < view.count)
 
 -- The state shows what these pasts of all links leave.
 pub record Shows (numbers : List ℕ) (power : ℕ) (state : ManagerState) (pasts : ℕ → LinkPast) : Type 0 where
-  pub clients : state.clients.items ≡ numbers
+  pub clients : state.clients ≡ numbers
   pub exponent : state.exponent ≡ power
   pub each : (link : ℕ) → client_at state link ≡ client_view power (pasts link)
 
@@ -55,7 +71,7 @@ pasts_with exponent link pasts head found = λ n. if link == n then past_with ex
 -- The manager rules alone, by what a state shows.
 abbrev pub manager_rules : ManagerState → ℕ → Beat → Option Request → Option Op → List Rule
 manager_rules state link head request found =
-    option_map_or (λ o. filter (breaks_manager state.clients.items state.exponent (past_at state) link (head_with head request o)) manager_order) found []
+    option_map_or (λ o. filter (breaks_manager state.clients state.exponent (past_at state) link (head_with head request o)) manager_order) found []
 
 -- Both states show the same.
 abbrev pub SameManager : ManagerState → ManagerState → Type 0

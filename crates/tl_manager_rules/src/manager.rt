@@ -20,6 +20,7 @@ ghost use Rattle.tl_perm_rules.specs.Client as client_state;
 ghost use Rattle.tl_perm_rules.specs.Client.{head_with, answered_in, SameClient};
 ghost use Rattle.tl_manager_rules.specs.Manager.{SameManager};
 
+use crate::clients::Clients;
 use std::alloc::{AllocError, Global};
 use tl_beats::{Beat, Request};
 use tl_format_rules::RuleList;
@@ -37,8 +38,8 @@ pub struct ManagerState {
     /// A block has 2 to this power bytes.
     exponent: u8,
     /// The numbers of the manager's links: what is said of a client is said of its link.
-    clients: Vec<u16>,
-    /// One for each link of the topology, by number; that of another manager's link stays empty where no head of it comes.
+    clients: Clients,
+    /// One for each of these, in their order.
     states: Vec<ClientState>,
 }
 
@@ -52,21 +53,6 @@ fn conflicts(set: Perm, bound: Perm) -> bool
     }
 }
 
-/// The numbers of a manager's links, which are its clients, in rising order. AllocError where memory is refused.
-pub fn clients_of(alloc: Global, topo: &Topo, manager: u16) -> Result<Vec<u16>, AllocError>
-    ensures { IfOk result (λ clients. clients.items ≡ clients_of manager (declared_links topo.now)) }
-{
-    let mut clients = Vec::new(alloc);
-    for number in 0..topo.link_count() {
-        if let Some(link) = topo.link(number as u16) {
-            if link.manager == manager {
-                clients.push(number as u16)?;
-            }
-        }
-    }
-    Ok(clients)
-}
-
 /// As many clients, each before all messages.
 fn opening_states(alloc: Global, exponent: u8, count: usize) -> Result<Vec<ClientState>, AllocError>
     ensures count { IfOk result (λ states. length states.items ≡ count) }
@@ -77,13 +63,6 @@ fn opening_states(alloc: Global, exponent: u8, count: usize) -> Result<Vec<Clien
         states.push(ClientState::new(alloc, exponent))?;
     }
     Ok(states)
-}
-
-/// Whether both are the same numbers in the same order.
-fn same_numbers(here: &[u16], there: &[u16]) -> bool
-    ensures { Decides result (here.now ≡ there.now) }
-{
-    here == there
 }
 
 /// States that show the same.
@@ -108,47 +87,64 @@ fn append(rules: &mut RuleList, more: &[Rule])
 }
 
 impl ManagerState {
-    ghost use Rattle.tl_manager_rules.specs.Manager.{Shows, StandsFor, shown, client_at, past_at, rules_in, manager_rules, pasts_with};
+    ghost use Rattle.tl_manager_rules.specs.Clients.{place_of};
+    ghost use Rattle.tl_manager_rules.specs.Manager.{Shows, StandsFor, HasPlace, shown, client_there, client_at, past_at, rules_in, manager_rules, pasts_with};
 
     /// The state of the manager with this number, before all messages. Of a number that the topology lacks, it has no clients.
     /// AllocError where memory is refused.
     pub fn new(alloc: Global, topo: &Topo, manager: u16) -> Result<ManagerState, AllocError>
         ensures opening { (regions : List Area) → IfOk result (λ state. StandsFor (manager_at topo.now manager regions) state []) }
-        ensures count { IfOk result (λ state. (shown state).count ≡ length topo.now.links) }
+        ensures count { IfOk result (λ state. (shown state).count ≡ length (shown state).clients) }
     {
         let exponent = topo.block(manager).unwrap_or(0);
+        let clients = Clients::of(alloc, topo, manager)?;
+        let states = opening_states(alloc, exponent, clients.numbers().len())?;
         Ok(ManagerState {
             exponent,
-            clients: clients_of(alloc, topo, manager)?,
-            states: opening_states(alloc, exponent, topo.link_count())?,
+            clients,
+            states,
         })
     }
 
-    /// The most that a client can hold of the block that begins at this address.
-    fn bound(&self, client: u16, block: u64) -> Perm
-        ensures { result ≡ (past_at self.now client).bound block }
+    /// How many links the manager has.
+    pub fn count(&self) -> usize
+        ensures { result ≡ length (shown self.now).clients }
     {
-        match self.states.get(client as usize) {
+        self.clients.numbers().len()
+    }
+
+    /// The place of a link among the manager's links, if it is one of them.
+    pub fn place(&self, link: u16) -> Option<usize>
+        ensures { result ≡ place_of link (shown self.now).clients }
+    {
+        self.clients.place(link)
+    }
+
+    /// The most that the client at a place can hold of the block that begins at this address.
+    fn bound(&self, place: usize, block: u64) -> Perm
+        ensures { result ≡ (client_there self.now place).past.bound block }
+    {
+        match self.states.get(place) {
             Some(state) => state.bound(block),
             None => Perm::Nothing,
         }
     }
 
-    /// Whether a Probe of the block is open at a client.
-    fn probe_open(&self, client: u16, block: u64) -> bool
-        ensures { result ≡ is_some ((past_at self.now client).probe block) }
+    /// Whether a Probe of the block is open at the client at a place.
+    fn probe_open(&self, place: usize, block: u64) -> bool
+        ensures { result ≡ is_some ((client_there self.now place).past.probe block) }
     {
-        match self.states.get(client as usize) {
+        match self.states.get(place) {
             Some(state) => state.probe_open(block),
             None => false,
         }
     }
 
-    /// Whether a Grant of the block is open at a client.
-    fn grant_open(&self, client: u16, block: u64) -> bool
-        ensures { result ≡ nat_lt 0 ((past_at self.now client).grants block) }
+    /// Whether a Grant of the block is open at the client at a place.
+    fn grant_open(&self, place: usize, block: u64) -> bool
+        ensures { result ≡ nat_lt 0 ((client_there self.now place).past.grants block) }
     {
-        match self.states.get(client as usize) {
+        match self.states.get(place) {
             Some(state) => state.grant_open(block),
             None => false,
         }
@@ -156,10 +152,10 @@ impl ManagerState {
 
     /// Whether the bound of a client other than this forbids what is set on the block.
     fn conflicts_with_other(&self, link: u16, block: u64, set: Perm) -> bool
-        ensures { result ≡ conflicts_with_other self.now.clients.items (past_at self.now) link (block, set) }
+        ensures { result ≡ conflicts_with_other self.now.clients (past_at self.now) link (block, set) }
     {
-        for client in &self.clients {
-            if *client != link && conflicts(set, self.bound(*client, block)) {
+        for (place, client) in self.clients.numbers().iter().enumerate() {
+            if *client != link && conflicts(set, self.bound(place, block)) {
                 return true;
             }
         }
@@ -168,10 +164,10 @@ impl ManagerState {
 
     /// Whether a Probe of the block is open at any client.
     fn any_probe_open(&self, block: u64) -> bool
-        ensures { result ≡ list_any (λ client. is_some ((past_at self.now client).probe block)) self.now.clients.items }
+        ensures { result ≡ list_any (λ client. is_some ((past_at self.now client).probe block)) self.now.clients }
     {
-        for client in &self.clients {
-            if self.probe_open(*client, block) {
+        for (place, _) in self.clients.numbers().iter().enumerate() {
+            if self.probe_open(place, block) {
                 return true;
             }
         }
@@ -180,10 +176,10 @@ impl ManagerState {
 
     /// Whether a Grant of the block is open at any client.
     fn any_grant_open(&self, block: u64) -> bool
-        ensures { result ≡ list_any (λ client. nat_lt 0 ((past_at self.now client).grants block)) self.now.clients.items }
+        ensures { result ≡ list_any (λ client. nat_lt 0 ((past_at self.now client).grants block)) self.now.clients }
     {
-        for client in &self.clients {
-            if self.grant_open(*client, block) {
+        for (place, _) in self.clients.numbers().iter().enumerate() {
+            if self.grant_open(place, block) {
                 return true;
             }
         }
@@ -192,7 +188,7 @@ impl ManagerState {
 
     /// Whether a head with this message breaks the rule.
     fn breaks(&self, link: u16, op: Op, head: &Beat, request: Option<Request>, rule: Rule) -> bool
-        ensures { result ≡ breaks_manager self.now.clients.items self.now.exponent (past_at self.now) link (head_with head.now request op) rule }
+        ensures { result ≡ breaks_manager self.now.clients self.now.exponent (past_at self.now) link (head_with head.now request op) rule }
     {
         match rule {
             Rule::M1 if is_grant(op) => match claim(self.exponent, op, head, request) {
@@ -217,7 +213,7 @@ impl ManagerState {
         head: &Beat,
         request: Option<Request>,
     ) -> RuleList
-        ensures { result ≡ filter (breaks_manager self.now.clients.items self.now.exponent (past_at self.now) link (head_with head.now request op)) manager_order }
+        ensures { result ≡ filter (breaks_manager self.now.clients self.now.exponent (past_at self.now) link (head_with head.now request op)) manager_order }
     {
         let mut rules = RuleList::new(alloc);
         for rule in MANAGER_ORDER {
@@ -253,7 +249,7 @@ impl ManagerState {
     {
         Ok(ManagerState {
             exponent: self.exponent,
-            clients: Vec::from_slice(alloc, &self.clients)?,
+            clients: self.clients.copy(alloc)?,
             states: copied(alloc, &self.states)?,
         })
     }
@@ -271,7 +267,7 @@ impl ManagerState {
         head: &Beat,
         request: Option<&Request>,
     ) -> Result<RuleList, AllocError>
-        requires link { link < (shown self.old).count }
+        requires link { HasPlace (shown self.old) link }
         // Whatever pasts of the links the state shows, the head is judged by those.
         ensures judged { (clients : List ℕ) (exponent : ℕ) (pasts : ℕ → LinkPast) → Shows clients exponent self.old pasts
             → option_copied request.entry ≡ answered_in (pasts link) head.now (message_of decl.now head.now)
@@ -305,7 +301,7 @@ impl ManagerState {
         head: &Beat,
         request: Option<&Request>,
     ) -> Result<RuleList, AllocError>
-        requires link { link < (shown self.old).count }
+        requires link { HasPlace (shown self.old) link }
         ensures judged { (clients : List ℕ) (exponent : ℕ) (pasts : ℕ → LinkPast) → Shows clients exponent self.old pasts
             → option_copied request.entry ≡ answered_in (pasts link) head.now (message_of decl.now head.now)
             → IfOk result (λ rules. rules ≡ rules_in clients exponent decl.now.strict pasts link head.now (message_of decl.now head.now)) }
@@ -316,7 +312,8 @@ impl ManagerState {
         ensures err { OnErr result (shown self.new ≡ shown self.old) }
     {
         let across = self.judge(alloc, link, decl, head, request.copied());
-        let mut rules = self.states[link as usize].step(alloc, decl, head, request)?;
+        let place = self.clients.place(link).unwrap();
+        let mut rules = self.states[place].step(alloc, decl, head, request)?;
         append(&mut rules, across.as_slice());
         Ok(rules)
     }
@@ -327,7 +324,7 @@ impl Same for ManagerState {
 
     #[tactic(auto, using(crate::proofs::ManagerLaws::same_parts, crate::proofs::ManagerLaws::parts_of_same))]
     fn is_same(&self, other: &Self) -> bool {
-        if self.exponent != other.exponent || !same_numbers(&self.clients, &other.clients) {
+        if self.exponent != other.exponent || !self.clients.is_same(&other.clients) {
             return false;
         }
         self.states.is_same(&other.states)

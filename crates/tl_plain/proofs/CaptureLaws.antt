@@ -25,6 +25,7 @@ use Rattle.tl_definitions.proofs.Lists.{contains_none, contains_cases, mapped_fr
 use Rattle.tl_definitions.proofs.PositionLaws.{beats_are_of_fragments}
 use Rattle.tl_definitions.proofs.ReportLaws.{stands_in}
 use Rattle.tl_definitions.proofs.RisingLaws.{rising_beats_have_one_place}
+use Rattle.tl_manager_rules.proofs.ClientLaws.{clients_below}
 use Rattle.tl_windows.specs.Present.{IsPresent}
 use Rattle.tl_windows.proofs.EntryLemmas.{all_kept}
 use Rattle.tl_windows.proofs.LawLemmas.{kept_of, links_are_kept, one_link_is_its_own}
@@ -37,18 +38,6 @@ capture_with topo regions fs k = of_manager (manager_at topo k (regions k)) (man
 
 abbrev pub capture_at : Topology → List Recorded → ℕ → Capture
 capture_at topo fs k = of_manager (manager_at topo k []) (manager_beats topo fs k)
-
--- A manager's client is a link.
-pub clients_below : (manager number : ℕ) (decls : List LinkDecl) (n : ℕ) → Contains (clients_from manager number decls) n → n < number + length decls
-clients_below manager number [] n h = absurd (contains_none n h)
-clients_below manager number (link ∷ decls) n h =
-    elim (link.manager == manager) as (λ b. Contains (cond b (number ∷ clients_from manager (number + 1) decls) (clients_from manager (number + 1) decls)) n → n < number + length (link ∷ decls)) [
-      | true ↦ λ g. elim (contains_cases number (clients_from manager (number + 1) decls) n g) [
-        | inl is ↦ omega arith
-        | inr there ↦ (let below = clients_below manager (number + 1) decls n there in omega arith)
-      ]
-      | false ↦ λ g. (let below = clients_below manager (number + 1) decls n g in omega arith)
-    ] h
 
 -- A name that is declared has a number below how many there are.
 pub number_below : {X : Type 0} (declared : List (List ℕ × X)) (name : List ℕ) (n : ℕ) → number_of_name declared name ≡ Some n → n < length declared

@@ -18,17 +18,17 @@ use Rattle.tl_span.specs.Laws.{SameStatesShowTheSame, SameStatesAreOfOneManager,
 use Rattle.tl_span.proofs.StateLaws.{same_shown, same_is_of, shown_same}
 
 pub same_states_show_the_same : SameStatesShowTheSame
-same_states_show_the_same m count one two first second = (same_shown one two, shown_same m count one two first second)
+same_states_show_the_same m one two first second = (same_shown one two, shown_same m one two first second)
 
 pub same_states_are_of_one_manager : SameStatesAreOfOneManager
 same_states_are_of_one_manager = same_is_of
 
 pub states_know_no_regions : StatesKnowNoRegions
-states_know_no_regions m areas count state of = record { clients = of.clients; links = of.links; states = of.states; formed = of.formed }
+states_know_no_regions m areas state of = record { clients = of.clients; rises = of.rises; links = of.links; states = of.states; formed = of.formed }
 
 pub same_states_stand_for_the_same : SameStatesStandForTheSame
-same_states_stand_for_the_same m count one two before stands same = record {
-  is_of = same_is_of m count one two stands.is_of same;
+same_states_stand_for_the_same m one two before stands same = record {
+  is_of = same_is_of m one two stands.is_of same;
   shows = sym (same_shown one two same) ∙ stands.shows;
 }
 
@@ -49,7 +49,7 @@ exit_is s entry [] is = is
 exit_is s entry (result ∷ results) is = exit_is (shown result.exit) result.exit results refl
 
 pub joined_results_are_whole : JoinedResultsAreWhole
-joined_results_are_whole m count opening results stands joined =
+joined_results_are_whole m opening results stands joined =
     let whole = chains_are_whole m (map pass_of results) (joined_chain m (snapshot m []) opening results stands.shows joined) in
     let beats = beats_are results in (
       (λ row. (
@@ -62,9 +62,9 @@ joined_results_are_whole m count opening results stands joined =
     )
 
 pub clean_results_are_coherent : CleanResultsAreCoherent
-clean_results_are_coherent m count opening results stands joined clean =
+clean_results_are_coherent m opening results stands joined clean =
     guarded_captures_are_coherent m (all_beats results) (none_kept exceeds (rows_in m (all_beats results)) (λ row h.
-    let found = ((joined_results_are_whole m count opening results stands joined).0 row).1 h in
+    let found = ((joined_results_are_whole m opening results stands joined).0 row).1 h in
     let unkept : (t : Bool) → exceeds row ≡ t → t ≡ false = λ t. elim t as (λ t. exceeds row ≡ t → t ≡ false) [
       | true ↦ λ e. absurd (contains_none row (subst (λ rs. Contains rs row) (clean found.0 found.1) (contains_kept exceeds found.0.rows row found.2 e)))
       | false ↦ λ e. refl

@@ -5,7 +5,10 @@ use Rattle.std.proofs.lemmas.List.{get_or-set_same, get_or-set_other}
 use Rattle.std.proofs.lemmas.Option.{slice_get_within, slice_get-get_or, slice_get_past}
 use Rattle.std.proofs.lemmas.Bool.Decides.{nat_tests}
 use Rattle.std.specs.Prelude.{is_none, slice_get, nat_lt}
+use Rattle.std.specs.List.{Contains}
+use Rattle.std.specs.List.Sorted.{IsStrictlySortedBy}
 use Rattle.std.specs.Option.{option_and_then, option_map_or}
+use Rattle.std.specs.Ordering.{nat_cmp}
 use Rattle.tl_tables.specs.declared.Chan.{Chan}
 use Rattle.tl_tables.specs.declared.Op.{Op}
 use Rattle.tl_tables.specs.Messages.{same_chan}
@@ -20,14 +23,17 @@ use Rattle.tl_definitions.specs.Rules.{Manager}
 use Rattle.tl_definitions.specs.Judging.{Snapshot, past_with, judged_next}
 use Rattle.tl_messages.specs.Bursts.{slot_at}
 use Rattle.tl_flow_rules.specs.Flow as flow
+use Rattle.tl_perm_rules.specs.Client as client_state
 use Rattle.tl_perm_rules.specs.Client.{ClientView, client_view}
 use Rattle.tl_manager_rules.specs.Manager as managers
-use Rattle.tl_manager_rules.specs.Manager.{ManagerView, client_at, pasts_with}
+use Rattle.tl_manager_rules.specs.Clients.{place_of}
+use Rattle.tl_manager_rules.specs.Manager.{ManagerView, client_at, client_in, client_there, opening_view, pasts_with}
+use Rattle.tl_manager_rules.proofs.ClientLaws.{placed_at, same_link, contained_place}
 use Rattle.tl_same.specs.SameItems.{SameItems, SameOption}
 use Rattle.tl_span.specs.declared.links.LinkState.{LinkState}
 use Rattle.tl_span.specs.declared.state.SpanState.{SpanState}
 use Rattle.tl_span.specs.Links.{IsNext, AreOpening, SameLink}
-use Rattle.tl_span.specs.States.{burst_at, flow_at, past_at, shown, AreFormed, IsOf, StandsFor, SameSpan}
+use Rattle.tl_span.specs.States.{HasLink, link_of, burst_at, flow_at, past_at, shown, AreFormed, IsOf, StandsFor, SameSpan}
 
 -- ---- before all beats
 
@@ -41,21 +47,33 @@ opening_flow [] opening n = refl
 opening_flow (s ∷ links) opening zero = opening.0.flow
 opening_flow (s ∷ links) opening (suc n) = opening_flow links opening.1 n
 
-pub opening_stands : (m : Manager) (count : ℕ) (state : SpanState) → length state.links.items ≡ count → AreOpening state.links.items
-    → managers.StandsFor m state.clients [] → (managers.shown state.clients).count ≡ count → StandsFor m count state []
-opening_stands m count state many opening stands counted =
+pub opening_stands : (m : Manager) (state : SpanState) → IsStrictlySortedBy nat_cmp m.clients → length state.links.items ≡ length m.clients → AreOpening state.links.items
+    → managers.StandsFor m state.clients [] → (managers.shown state.clients).count ≡ length m.clients → StandsFor m state []
+opening_stands m state rises many opening stands counted =
+    let numbers : List ℕ = (managers.shown state.clients).clients in
+    let bursts : (n : ℕ) (chan : Chan) → burst_at state n chan ≡ None = λ n chan.
+    elim (place_of n numbers) as (λ o. option_and_then (λ (s : LinkState). slot_at s.bursts chan) (option_and_then (λ place. slice_get state.links.items place) o) ≡ None) [
+      | None ↦ refl
+      | Some place ↦ opening_burst state.links.items opening place chan
+    ] in
+    let flows : (n : ℕ) → flow_at state n ≡ flow_past [] = λ n.
+    elim (place_of n numbers) as (λ o. option_map_or (λ (s : LinkState). flow.shown s.flow) (option_and_then (λ place. slice_get state.links.items place) o) (flow_past []) ≡ flow_past []) [
+      | None ↦ refl
+      | Some place ↦ opening_flow state.links.items opening place
+    ] in
     let pasts : (n : ℕ) → past_at state n ≡ past_of m.exponent [] = λ n. λ i. record {
-      flow = opening_flow state.links.items opening n i;
+      flow = flows n i;
       client = ap (λ (v : ClientView). v.past) (stands.each n) i;
     } in
     record {
       is_of = record {
         clients = record { clients = stands.clients; exponent = stands.exponent; each = λ n. stands.each n ∙ ap (client_view m.exponent) (sym (pasts n)) };
+        rises = rises;
         links = many;
         states = counted;
-        formed = λ n chan burst h. (let none : None ≡ Some burst = sym (opening_burst state.links.items opening n chan) ∙ h in cc);
+        formed = λ n chan burst h. (let none : None ≡ Some burst = sym (bursts n chan) ∙ h in cc);
       };
-      shows = λ i. record { burst = λ n chan. opening_burst state.links.items opening n chan i; past = λ n. pasts n i };
+      shows = λ i. record { burst = λ n chan. bursts n chan i; past = λ n. pasts n i };
     }
 
 -- ---- lists with one item changed
@@ -96,14 +114,27 @@ with_flow : (exponent : ℕ) (past : LinkPast) (beat : Beat) (found : Option Op)
 with_flow exponent past beat None = refl
 with_flow exponent past beat (Some o) = refl
 
-module _ (m : Manager) (count : ℕ) (old new : SpanState) (p : Placed) (decl : LinkDecl) (link next : LinkState)
-    (of : IsOf m count old) (is : m.links p.link ≡ decl) (formed : IsWellFormed p.beat) (at : slice_get old.links.items p.link ≡ Some link)
-    (stepped : IsNext decl p.beat link next) (put : new.links.items ≡ set old.links.items p.link next) where
-  here : slice_get new.links.items p.link ≡ Some next
-  here = ap (λ links. slice_get links p.link) put ∙ get_set_same old.links.items p.link next (slice_get_within old.links.items p.link link at)
+module _ (m : Manager) (old new : SpanState) (p : Placed) (decl : LinkDecl) (place : ℕ) (link next : LinkState)
+    (of : IsOf m old) (is : m.links p.link ≡ decl) (formed : IsWellFormed p.beat) (found : place_of p.link (managers.shown old.clients).clients ≡ Some place)
+    (stood : slice_get old.links.items place ≡ Some link) (stepped : IsNext decl p.beat link next) (put : new.links.items ≡ set old.links.items place next)
+    (numbered : (managers.shown new.clients).clients ≡ (managers.shown old.clients).clients) where
+  at : link_of old p.link ≡ Some link
+  at = ap (λ o. option_and_then (λ k. slice_get old.links.items k) o) found ∙ stood
 
-  there : (n : ℕ) → n ≢ p.link → slice_get new.links.items n ≡ slice_get old.links.items n
-  there n ne = ap (λ links. slice_get links n) put ∙ get_set_other old.links.items p.link n next ne
+  -- What is left of any link, by its place among the old numbers.
+  now_of : (n : ℕ) → link_of new n ≡ option_and_then (λ k. slice_get (set old.links.items place next) k) (place_of n (managers.shown old.clients).clients)
+  now_of n = λ i. option_and_then (λ k. slice_get (put i) k) (place_of n (numbered i))
+
+  here : link_of new p.link ≡ Some next
+  here = now_of p.link ∙ ap (λ o. option_and_then (λ k. slice_get (set old.links.items place next) k) o) found
+      ∙ get_set_same old.links.items place next (slice_get_within old.links.items place link stood)
+
+  there : (n : ℕ) → n ≢ p.link → link_of new n ≡ link_of old n
+  there n ne = now_of n ∙ elim (place_of n (managers.shown old.clients).clients) as (λ o. place_of n (managers.shown old.clients).clients ≡ o
+      → option_and_then (λ k. slice_get (set old.links.items place next) k) o ≡ option_and_then (λ k. slice_get old.links.items k) o) [
+        | None ↦ λ e. refl
+        | Some other ↦ λ e. get_set_other old.links.items place other next (λ same. ne (same_link (managers.shown old.clients).clients n p.link place (e ∙ ap Some same) found))
+      ] refl
 
   own_burst : (chan : Chan) → burst_at new p.link chan ≡ (judged_next m (shown old) p).burst p.link chan
   own_burst chan =
@@ -123,7 +154,7 @@ module _ (m : Manager) (count : ℕ) (old new : SpanState) (p : Placed) (decl : 
         | false ↦ λ g. of.formed n chan burst g
       ] (sym (bursts n chan) ∙ h)
 
-  many : length new.links.items ≡ count
+  many : length new.links.items ≡ length m.clients
   many = ap length put ∙ simp length-set refl ∙ of.links
 
   -- What is in flight after a head, and after a later beat.
@@ -168,10 +199,11 @@ module _ (m : Manager) (count : ℕ) (old new : SpanState) (p : Placed) (decl : 
           ∙ sym (ap (λ t. cond (t && is_none (burst_at old p.link p.beat.chan)) (past_with m.exponent (past_at old n) p.beat (message_of (m.links n) p.beat)) (past_at old n)) ne.1)
     ]
 
-    pub head_next : IsOf m count new × (shown new ≡ judged_next m (shown old) p)
+    pub head_next : IsOf m new × (shown new ≡ judged_next m (shown old) p)
     head_next = (
       record {
         clients = record { clients = shows.clients; exponent = shows.exponent; each = λ n. shows.each n ∙ ap (client_view m.exponent) (sym (pasts n)) };
+        rises = of.rises;
         links = many;
         states = counted ∙ of.states;
         formed = still_formed;
@@ -199,7 +231,7 @@ module _ (m : Manager) (count : ℕ) (old new : SpanState) (p : Placed) (decl : 
           | false ↦ refl
         ])
 
-    pub later_next : IsOf m count new × (shown new ≡ judged_next m (shown old) p)
+    pub later_next : IsOf m new × (shown new ≡ judged_next m (shown old) p)
     later_next = (
       record {
         clients = record {
@@ -207,12 +239,21 @@ module _ (m : Manager) (count : ℕ) (old new : SpanState) (p : Placed) (decl : 
           exponent = ap (λ state. (managers.shown state).exponent) kept ∙ of.clients.exponent;
           each = λ n. ap (λ state. client_at state n) kept ∙ of.clients.each n ∙ ap (client_view m.exponent) (sym (same_pasts n));
         };
+        rises = of.rises;
         links = many;
         states = ap (λ state. (managers.shown state).count) kept ∙ of.states;
         formed = still_formed;
       },
       λ i. record { burst = λ n chan. bursts n chan i; past = λ n. (same_pasts n ∙ judged_pasts n) i },
     )
+
+-- A state of a manager has each of its links.
+pub has_link : (m : Manager) (state : SpanState) → IsOf m state → (link : ℕ) → Contains m.clients link → HasLink state link
+has_link m state of link has =
+    let found = contained_place m.clients link of.rises has in
+    let many = of.states in
+    let most = of.links in
+    (found.0, ap (place_of link) of.clients.clients ∙ found.1, omega (arith, many, found.2), omega (arith, most, found.2))
 
 -- ---- states that show the same
 
@@ -247,55 +288,87 @@ same_flow None (Some y) same = absurd same
 same_flow (Some x) None same = absurd same
 same_flow (Some x) (Some y) same = same.flow
 
-pub same_from_parts : (one two : SpanState) → SameItems SameLink one.links.items two.links.items → managers.SameManager one.clients two.clients → SameSpan one two
-same_from_parts one two links same = record {
-  links = links.count;
-  burst = λ n chan. same_slots (slice_get one.links.items n) (slice_get two.links.items n) chan (picked one.links.items two.links.items links n);
-  flow = λ n. same_flow (slice_get one.links.items n) (slice_get two.links.items n) (picked one.links.items two.links.items links n);
-  clients = same;
-}
+picked_of : (xs ys : List LinkState) → SameItems SameLink xs ys → (o : Option ℕ) → SameOption SameLink (option_and_then (λ k. slice_get xs k) o) (option_and_then (λ k. slice_get ys k) o)
+picked_of xs ys same None = tt
+picked_of xs ys same (Some n) = picked xs ys same n
 
-pub parts_from_same : (one two : SpanState) → SameSpan one two → SameItems SameLink one.links.items two.links.items
-parts_from_same one two same = record {
-  count = same.links;
-  each = λ n d within.
-      let across : n < length two.links.items = (let count = same.links in omega arith) in
-      let here : slice_get one.links.items n ≡ Some (get_or one.links.items n d) = slice_get-get_or one.links.items n d within in
-      let there : slice_get two.links.items n ≡ Some (get_or two.links.items n d) = slice_get-get_or two.links.items n d across in
-      record {
-        bursts = λ chan. sym (ap (λ o. option_and_then (λ (s : LinkState). slot_at s.bursts chan) o) here) ∙ same.burst n chan ∙ ap (λ o. option_and_then (λ (s : LinkState). slot_at s.bursts chan) o) there;
-        flow = sym (ap (λ o. option_map_or (λ (s : LinkState). flow.shown s.flow) o (flow_past [])) here) ∙ same.flow n ∙ ap (λ o. option_map_or (λ (s : LinkState). flow.shown s.flow) o (flow_past [])) there;
-      };
-}
+-- What is left of a link in states that are the same.
+link_same : (one two : SpanState) → SameSpan one two → (n : ℕ) → SameOption SameLink (link_of one n) (link_of two n)
+link_same one two same n =
+    subst (λ numbers. SameOption SameLink (link_of one n) (option_and_then (λ k. slice_get two.links.items k) (place_of n numbers))) (ap (λ (v : ManagerView). v.clients) same.clients)
+    (picked_of one.links.items two.links.items same.links (place_of n (managers.shown one.clients).clients))
 
 pub same_shown : (one two : SpanState) → SameSpan one two → shown one ≡ shown two
 same_shown one two same = λ i. record {
-  burst = λ n chan. same.burst n chan i;
-  past = λ n. record { flow = same.flow n i; client = ap (λ (v : ManagerView). (v.client n).past) same.clients i };
+  burst = λ n chan. same_slots (link_of one n) (link_of two n) chan (link_same one two same n) i;
+  past = λ n. record {
+    flow = same_flow (link_of one n) (link_of two n) (link_same one two same n) i;
+    client = ap (λ (v : ManagerView). (client_in v n).past) same.clients i;
+  };
 }
 
-pub same_is_of : (m : Manager) (count : ℕ) (one two : SpanState) → IsOf m count one → SameSpan one two → IsOf m count two
-same_is_of m count one two of same = record {
+pub same_is_of : (m : Manager) (one two : SpanState) → IsOf m one → SameSpan one two → IsOf m two
+same_is_of m one two of same = record {
   clients = record {
     clients = ap (λ (v : ManagerView). v.clients) (sym same.clients) ∙ of.clients.clients;
     exponent = ap (λ (v : ManagerView). v.exponent) (sym same.clients) ∙ of.clients.exponent;
-    each = λ n. ap (λ (v : ManagerView). v.client n) (sym same.clients) ∙ of.clients.each n ∙ ap (λ (s : Snapshot). client_view m.exponent (s.past n)) (same_shown one two same);
+    each = λ n. ap (λ (v : ManagerView). client_in v n) (sym same.clients) ∙ of.clients.each n ∙ ap (λ (s : Snapshot). client_view m.exponent (s.past n)) (same_shown one two same);
   };
-  links = sym same.links ∙ of.links;
+  rises = of.rises;
+  links = sym same.links.count ∙ of.links;
   states = ap (λ (v : ManagerView). v.count) (sym same.clients) ∙ of.states;
-  formed = λ n chan burst h. of.formed n chan burst (same.burst n chan ∙ h);
+  formed = λ n chan burst h. of.formed n chan burst (ap (λ (s : Snapshot). s.burst n chan) (same_shown one two same) ∙ h);
 }
 
+-- ---- states of one manager that show the same
+
+module _ (m : Manager) (state : SpanState) (of : IsOf m state) where
+  -- The link at a place, and its place.
+  placed : (k d : ℕ) → k < length m.clients → place_of (get_or m.clients k d) (managers.shown state.clients).clients ≡ Some k
+  placed k d within = ap (place_of (get_or m.clients k d)) of.clients.clients ∙ placed_at m.clients (get_or m.clients k d) k of.rises (slice_get-get_or m.clients k d within)
+
+  stands_at : (k : ℕ) (d : LinkState) → k < length m.clients → link_of state (get_or m.clients k 0) ≡ Some (get_or state.links.items k d)
+  stands_at k d within = ap (λ o. option_and_then (λ place. slice_get state.links.items place) o) (placed k 0 within)
+      ∙ slice_get-get_or state.links.items k d (let many = of.links in omega (arith, many, within))
+
+  client_there_at : (k : ℕ) → k < length m.clients → client_at state.clients (get_or m.clients k 0) ≡ client_there state.clients k
+  client_there_at k within = ap (λ o. option_map_or (client_there state.clients) o (opening_view (managers.shown state.clients).exponent)) (placed k 0 within)
+
+  -- Past the last place nothing stands.
+  client_past : (k : ℕ) → length m.clients ≤ k → client_there state.clients k ≡ opening_view m.exponent
+  client_past k past = ap (λ o. option_map_or client_state.shown o (opening_view (managers.shown state.clients).exponent)) (slice_get_past state.clients.states.items k (let many = of.states in omega (arith, many, past)))
+      ∙ ap opening_view of.clients.exponent
+
 -- Two states of one manager are the same exactly where they show the same.
-pub shown_same : (m : Manager) (count : ℕ) (one two : SpanState) → IsOf m count one → IsOf m count two → shown one ≡ shown two → SameSpan one two
-shown_same m count one two first second same = record {
-  links = first.links ∙ sym second.links;
-  burst = λ n chan. ap (λ (s : Snapshot). s.burst n chan) same;
-  flow = λ n. ap (λ (s : Snapshot). (s.past n).flow) same;
+pub shown_same : (m : Manager) (one two : SpanState) → IsOf m one → IsOf m two → shown one ≡ shown two → SameSpan one two
+shown_same m one two first second same = record {
+  links = record {
+    count = first.links ∙ sym second.links;
+    each = λ k d within.
+        let inside : k < length m.clients = (let many = first.links in omega (arith, many, within)) in
+        let link : ℕ = get_or m.clients k 0 in
+        let here : link_of one link ≡ Some (get_or one.links.items k d) = stands_at m one first k d inside in
+        let there : link_of two link ≡ Some (get_or two.links.items k d) = stands_at m two second k d inside in
+        record {
+          bursts = λ chan. sym (ap (λ o. option_and_then (λ (s : LinkState). slot_at s.bursts chan) o) here) ∙ ap (λ (s : Snapshot). s.burst link chan) same
+              ∙ ap (λ o. option_and_then (λ (s : LinkState). slot_at s.bursts chan) o) there;
+          flow = sym (ap (λ o. option_map_or (λ (s : LinkState). flow.shown s.flow) o (flow_past [])) here) ∙ ap (λ (s : Snapshot). (s.past link).flow) same
+              ∙ ap (λ o. option_map_or (λ (s : LinkState). flow.shown s.flow) o (flow_past [])) there;
+        };
+  };
   clients = λ i. record {
     clients = (first.clients.clients ∙ sym second.clients.clients) i;
     exponent = (first.clients.exponent ∙ sym second.clients.exponent) i;
     count = (first.states ∙ sym second.states) i;
-    client = λ n. (first.clients.each n ∙ ap (λ (s : Snapshot). client_view m.exponent (s.past n)) same ∙ sym (second.clients.each n)) i;
+    client = λ k. client_same k i;
   };
 }
+  where
+    client_same : (k : ℕ) → client_there one.clients k ≡ client_there two.clients k
+    client_same k = elim (nat_lt k (length m.clients)) as (λ b. nat_lt k (length m.clients) ≡ b → client_there one.clients k ≡ client_there two.clients k) [
+      | true ↦ λ e. (let inside : k < length m.clients = grind (arith, nat_tests) in
+          let link : ℕ = get_or m.clients k 0 in
+          sym (client_there_at m one first k inside) ∙ first.clients.each link ∙ ap (λ (s : Snapshot). client_view m.exponent (s.past link)) same
+          ∙ sym (second.clients.each link) ∙ client_there_at m two second k inside)
+      | false ↦ λ e. (let past : length m.clients ≤ k = grind (arith, nat_tests) in client_past m one first k past ∙ sym (client_past m two second k past))
+    ] refl

@@ -1,5 +1,5 @@
 -- One beat judged: its rules, and the rows of these.
-use Rattle.std.proofs.Common.{◌≡◌, ℕ, ◌<◌, List, [], ◌∷◌, ◌++◌, length, Option, Some, None, sym, ap, ◌∙◌, append_assoc, get_or}
+use Rattle.std.proofs.Common.{◌≡◌, ℕ, ◌<◌, List, [], ◌∷◌, ◌++◌, length, Option, Some, None, sym, ap, subst, ◌∙◌, append_assoc, get_or}
 use Rattle.std.specs.Prelude.{Result, Ok, Err, OnOk, map, filter, slice_get}
 use Rattle.std.proofs.lemmas.List.{map-append}
 use Rattle.std.specs.Option.{option_and_then, option_map_or}
@@ -24,16 +24,25 @@ use Rattle.tl_flow_rules.specs.Flow as flow
 use Rattle.tl_manager_rules.specs.Manager as managers
 use Rattle.tl_span.specs.declared.links.LinkState.{LinkState}
 use Rattle.tl_span.specs.declared.state.SpanState.{SpanState}
-use Rattle.tl_span.specs.States.{burst_at, flow_at, shown, Serves}
+use Rattle.tl_manager_rules.specs.Clients.{place_of}
+use Rattle.tl_span.specs.States.{link_of, burst_at, flow_at, shown, HasLink, Serves}
 
--- The state of a link, as the code finds it.
-pub at_link : (links : List LinkState) (n k : ℕ) (link : LinkState) → n ≡ k → k < length links → link ≡ get_or links n link → slice_get links k ≡ Some link
-at_link links n k link same within is = slice_get-get_or links k link within ∙ ap Some (ap (λ j. get_or links j link) (sym same) ∙ sym is)
+-- The place of a link and its state there, as the code finds them.
+pub at_place : (state : SpanState) (n place : ℕ) (link : LinkState) (found : Option ℕ) → found ≡ place_of n (managers.shown state.clients).clients → found ≡ Some place
+    → HasLink state n → link ≡ get_or state.links.items place link → (place_of n (managers.shown state.clients).clients ≡ Some place) × (slice_get state.links.items place ≡ Some link)
+at_place state n place link found looked is has here =
+    let at : place_of n (managers.shown state.clients).clients ≡ Some place = sym looked ∙ is in
+    let same : has.0 ≡ place = ap (λ o. option_map_or (λ (k : ℕ). k) o place) (sym has.1 ∙ at) in
+    (at, slice_get-get_or state.links.items place link (subst (λ k. k < length state.links.items) same has.3) ∙ ap Some (sym here))
 
-pub burst_here : (state : SpanState) (k : ℕ) (link : LinkState) (chan : Chan) → slice_get state.links.items k ≡ Some link → burst_at state k chan ≡ slot_at link.bursts chan
+pub link_at : (state : SpanState) (n place : ℕ) (link : LinkState) → place_of n (managers.shown state.clients).clients ≡ Some place → slice_get state.links.items place ≡ Some link
+    → link_of state n ≡ Some link
+link_at state n place link at stood = ap (λ o. option_and_then (λ k. slice_get state.links.items k) o) at ∙ stood
+
+pub burst_here : (state : SpanState) (k : ℕ) (link : LinkState) (chan : Chan) → link_of state k ≡ Some link → burst_at state k chan ≡ slot_at link.bursts chan
 burst_here state k link chan at = ap (λ o. option_and_then (λ (s : LinkState). slot_at s.bursts chan) o) at
 
-pub flow_here : (state : SpanState) (k : ℕ) (link : LinkState) → slice_get state.links.items k ≡ Some link → flow.shown link.flow ≡ flow_at state k
+pub flow_here : (state : SpanState) (k : ℕ) (link : LinkState) → link_of state k ≡ Some link → flow.shown link.flow ≡ flow_at state k
 flow_here state k link at = sym (ap (λ o. option_map_or (λ (s : LinkState). flow.shown s.flow) o (flow_past [])) at)
 
 -- What holds where a call succeeds.

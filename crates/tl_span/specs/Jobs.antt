@@ -1,6 +1,6 @@
 -- Jobs and their results, as plain data.
 use Rattle.std.specs.Prelude.{ℕ, ◌<◌, List, length}
-use Rattle.std.specs.List.{All}
+use Rattle.std.specs.List.{All, Contains}
 use Rattle.std.specs.List.Sorted.{IsStrictlySortedBy}
 use Rattle.tl_topology.specs.Regions.{Area}
 use Rattle.tl_topology.specs.Topology.{IsSound}
@@ -38,8 +38,9 @@ pub record IsJob (job : Job) : Type 0 where
   pub links : All IsSound job.links
   pub beats : All (λ p. IsWellFormed p.beat) job.beats
   pub within : All (λ p. p.link < length job.links) job.beats
+  pub linked : All (λ p. Contains (manager_of job).clients p.link) job.beats
   pub rises : IsStrictlySortedBy position_order job.beats
-  pub entry : IsOf (manager_of job) (length job.links) job.entry
+  pub entry : IsOf (manager_of job) job.entry
 
 -- A job with the state after its beats and the rows of what they break.
 pub record Checked : Type 0 where
@@ -53,5 +54,5 @@ pass_of result = record { entry = shown result.job.entry; beats = result.job.bea
 -- What each result keeps: it is the pass of its own job.
 pub record IsResult (result : Checked) : Type 0 where
   pub job : IsJob result.job
-  pub exit : IsOf (manager_of result.job) (length result.job.links) result.exit
+  pub exit : IsOf (manager_of result.job) result.exit
   pub pass : IsPass (judging (manager_of result.job)) (pass_of result)

@@ -9,7 +9,7 @@ ghost use Rattle.tl_beats.specs.Beats.{IsWellFormed};
 ghost use Rattle.tl_definitions.specs.Judging.{judging};
 ghost use Rattle.tl_definitions.specs.Passes.{IsPass, rows_judged, left_after};
 ghost use Rattle.tl_definitions.specs.Managers.{declared_links, manager_at};
-ghost use Rattle.tl_definitions.specs.Positions.{position_order};
+ghost use Rattle.tl_definitions.specs.Positions.{clients_of, position_order};
 ghost use Rattle.tl_definitions.specs.Report.{row_order};
 ghost use Rattle.tl_span.specs.Jobs.{manager_from, manager_of, pass_of};
 ghost use Rattle.tl_span.specs.States.{shown, IsOf};
@@ -76,9 +76,9 @@ impl SpanJob {
     ) -> Result<SpanJob, AllocError>
         requires manager { manager < length topo.now.managers }
         requires formed { All (λ p. IsWellFormed p.beat) beats.items }
-        requires within { All (λ p. p.link < length topo.now.links) beats.items }
+        requires linked { All (λ p. Contains (clients_of manager (declared_links topo.now)) p.link) beats.items }
         requires rises { IsStrictlySortedBy position_order beats.items }
-        requires entry { IsOf (manager_at topo.now manager (areas_of regions.now)) (length topo.now.links) entry }
+        requires entry { IsOf (manager_at topo.now manager (areas_of regions.now)) entry }
         ensures manager { IfOk result (λ job. manager_of job ≡ manager_at topo.now manager (areas_of regions.now)) }
         ensures count { IfOk result (λ job. length job.links ≡ length topo.now.links) }
         ensures keeps { IfOk result (λ job. (job.beats ≡ beats.items) × (job.entry ≡ entry)) }
@@ -120,8 +120,9 @@ fn check(
     requires links { All IsSound links.now }
     requires formed { All (λ p. IsWellFormed p.beat) beats.now }
     requires within { All (λ p. p.link < length links.now) beats.now }
-    requires entry { IsOf (manager_from links.now exponent (areas_of regions.now) entry.now) (length links.now) entry.now }
-    ensures exit { IfOk result (λ x. IsOf (manager_from links.now exponent (areas_of regions.now) entry.now) (length links.now) x.0
+    requires linked { All (λ p. Contains (manager_from links.now exponent (areas_of regions.now) entry.now).clients p.link) beats.now }
+    requires entry { IsOf (manager_from links.now exponent (areas_of regions.now) entry.now) entry.now }
+    ensures exit { IfOk result (λ x. IsOf (manager_from links.now exponent (areas_of regions.now) entry.now) x.0
         × (shown x.0 ≡ left_after (judging (manager_from links.now exponent (areas_of regions.now) entry.now)) (shown entry.now) beats.now)) }
     ensures rises { IfOk result (λ x. IsStrictlySortedBy row_order x.1.items) }
     ensures members { IfOk result (λ x. (row : Row) → Contains x.1.items row

@@ -1,6 +1,6 @@
 //! What the beats of a manager leave for those that come.
 
-ghost use Rattle.std.specs.Prelude.{◌≡◌, ◌<◌, ◌++◌, ℕ, List, [], length, map, IfOk, OnOk};
+ghost use Rattle.std.specs.Prelude.{◌≡◌, ◌<◌, ◌++◌, List, [], length, map, IfOk, OnOk};
 ghost use Rattle.std.specs.Bool.{Decides};
 ghost use Rattle.tl_topology.specs.Regions.{Area, areas_of};
 ghost use Rattle.tl_topology.specs.Topology.{IsSound};
@@ -9,10 +9,9 @@ ghost use Rattle.tl_definitions.specs.Breaks.{row_of};
 ghost use Rattle.tl_definitions.specs.Judging.{judged_rules, judged_next};
 ghost use Rattle.tl_definitions.specs.Managers.{manager_at};
 ghost use Rattle.tl_definitions.specs.Rules.{Manager};
-ghost use Rattle.tl_manager_rules.specs.Manager as managers;
 ghost use Rattle.tl_same.specs.SameItems.{SameItems};
 ghost use Rattle.tl_span.specs.Links.{SameLink, AreOpening};
-ghost use Rattle.tl_span.specs.States.{shown, IsOf, StandsFor, SameSpan, AreFormed, Serves};
+ghost use Rattle.tl_span.specs.States.{shown, HasLink, IsOf, StandsFor, SameSpan, AreFormed, Serves};
 
 use crate::links::{Found, LinkState};
 use crate::rows::add_rows;
@@ -28,7 +27,7 @@ use tl_topology::{LinkDecl, RegionMap, Topo};
 /// the same.
 #[derive(Drop)]
 pub struct SpanState {
-    /// One for each link of the topology, by number; that of another manager's link stays empty where no beat of it comes.
+    /// One for each link of the manager, in the order of their numbers.
     links: Vec<LinkState>,
     clients: ManagerState,
 }
@@ -60,12 +59,11 @@ impl SpanState {
     #[tactic(auto, using(crate::proofs::StateLaws::opening_stands))]
     pub fn opening(alloc: Global, topo: &Topo, manager: u16) -> Result<SpanState, AllocError>
         requires manager { manager < length topo.now.managers }
-        ensures { (regions : List Area) → IfOk result (λ state. StandsFor (manager_at topo.now manager regions) (length topo.now.links) state []) }
+        ensures { (regions : List Area) → IfOk result (λ state. StandsFor (manager_at topo.now manager regions) state []) }
     {
-        Ok(SpanState {
-            links: opening_links(alloc, topo.link_count())?,
-            clients: ManagerState::new(alloc, topo, manager)?,
-        })
+        let clients = ManagerState::new(alloc, topo, manager)?;
+        let links = opening_links(alloc, clients.count())?;
+        Ok(SpanState { links, clients })
     }
 
     /// Judges the manager's next beat by what the state shows: puts the rows of what it breaks at the end, and the state then
@@ -82,16 +80,15 @@ impl SpanState {
     ) -> Result<(), AllocError>
         requires decl { IsSound decl.now }
         requires beat { IsWellFormed at.now.beat }
-        requires link { at.now.link < length self.old.links.items }
-        requires client { at.now.link < (managers.shown self.old.clients).count }
+        requires link { HasLink self.old at.now.link }
         requires formed { AreFormed self.old }
-        ensures rows { (m : Manager) (count : ℕ) → IsOf m count self.old → Serves m at.now.link decl.now exponent (areas_of regions.now)
+        ensures rows { (m : Manager) → IsOf m self.old → Serves m at.now.link decl.now exponent (areas_of regions.now)
             → OnOk result (rows.new.items ≡ rows.old.items ++ map (row_of at.now) (judged_rules m (shown self.old) at.now)) }
-        ensures next { (m : Manager) (count : ℕ) → IsOf m count self.old → Serves m at.now.link decl.now exponent (areas_of regions.now)
-            → OnOk result (IsOf m count self.new × (shown self.new ≡ judged_next m (shown self.old) at.now)) }
+        ensures next { (m : Manager) → IsOf m self.old → Serves m at.now.link decl.now exponent (areas_of regions.now)
+            → OnOk result (IsOf m self.new × (shown self.new ≡ judged_next m (shown self.old) at.now)) }
     {
-        let number = usize::from(at.link);
-        match self.links[number].step(alloc, decl, &at.beat)? {
+        let place = self.clients.place(at.link).unwrap();
+        match self.links[place].step(alloc, decl, &at.beat)? {
             Found::Head(answer) => {
                 let format = check_head(alloc, decl, exponent, regions, &at.beat);
                 let request = answer.request.as_ref();
@@ -105,10 +102,9 @@ impl SpanState {
     }
 
     /// A state that shows the same, and so is one for the same manager. AllocError where memory is refused.
-    #[tactic(auto, using(crate::proofs::StateLaws::same_from_parts))]
     pub fn copy(&self, alloc: Global) -> Result<SpanState, AllocError>
         ensures same { IfOk result (SameSpan self.now) }
-        ensures kept { (m : Manager) (count : ℕ) → IsOf m count self.now → IfOk result (IsOf m count) }
+        ensures kept { (m : Manager) → IsOf m self.now → IfOk result (IsOf m) }
     {
         Ok(SpanState {
             links: copied_links(alloc, &self.links)?,
@@ -120,7 +116,6 @@ impl SpanState {
 impl Same for SpanState {
     ghost same = { SameSpan };
 
-    #[tactic(auto, using(crate::proofs::StateLaws::same_from_parts, crate::proofs::StateLaws::parts_from_same))]
     fn is_same(&self, other: &Self) -> bool {
         self.links.is_same(&other.links) && self.clients.is_same(&other.clients)
     }

@@ -92,7 +92,8 @@ fn flagged<M: Monitor>(
     let (topo, _) = read_topo(alloc, TOPOLOGY.as_bytes())?;
     let mut placed = Vec::new(alloc);
     place(alloc, &topo, ("dma0", 1, lines), &mut placed)?;
-    let beats = window(alloc, &topo, &placed)?;
+    let links = [2u16];
+    let beats = window(alloc, &links, &placed)?;
     if !are_of(2, &beats) {
         return Err(Fail::new("beats of another link"));
     }

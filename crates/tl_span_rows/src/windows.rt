@@ -1,7 +1,7 @@
 //! Windows of a manager: the beats of its links in the order of positions, checked from what the beats before them leave.
 
 ghost use Rattle.std.specs.Prelude.{◌≡◌, ◌<◌, [], length, IfOk, IfSome, IsTrue};
-ghost use Rattle.std.specs.List.{All};
+ghost use Rattle.std.specs.List.{All, Contains};
 ghost use Rattle.std.specs.List.Sorted.{IsStrictlySortedBy};
 ghost use Rattle.tl_beats.specs.Beats.{IsWellFormed};
 ghost use Rattle.tl_definitions.specs.Managers.{manager_at};
@@ -15,6 +15,7 @@ use std::alloc::{AllocError, Global};
 use std::cmp::Ordering;
 use std::test::Fail;
 use tl_beats::{Placed, Row, parse_whole_fragment};
+use tl_manager_rules::clients_of;
 use tl_same::Same;
 use tl_span::{SpanJob, SpanResult, SpanState, span_check};
 use tl_tables::{chan_index, rule_text};
@@ -68,29 +69,29 @@ fn order(here: &Placed, there: &Placed) -> Ordering
     cycle.then(channel.then(here.link.cmp(&there.link)))
 }
 
-/// Whether a beat can stand in a window behind its last: well-formed, on a link of the topology, after that one.
-fn fits(topo: &Topo, last: Option<Placed>, at: &Placed) -> bool
+/// Whether a beat can stand in a window behind its last: well-formed, on one of these links, after that one.
+fn fits(links: &[u16], last: Option<Placed>, at: &Placed) -> bool
     ensures formed { IsTrue result → IsWellFormed at.now.beat }
-    ensures within { IsTrue result → at.now.link < length topo.now.links }
+    ensures linked { IsTrue result → Contains links.now at.now.link }
     ensures rises { IsTrue result → IfSome last (λ earlier. IsBefore earlier at.now) }
 {
     let is_after = match last {
         Some(earlier) => order(&earlier, at) == Ordering::Less,
         None => true,
     };
-    is_after && at.beat.is_well_formed() && topo.link(at.link).is_some()
+    is_after && at.beat.is_well_formed() && links.contains(&at.link)
 }
 
-/// The beats, where they can be those of a window.
-pub(crate) fn window(alloc: Global, topo: &Topo, beats: &[Placed]) -> Result<Vec<Placed>, Fail>
+/// The beats, where they can be those of a window on these links.
+pub(crate) fn window(alloc: Global, links: &[u16], beats: &[Placed]) -> Result<Vec<Placed>, Fail>
     ensures formed { IfOk result (λ window. All (λ p. IsWellFormed p.beat) window.items) }
-    ensures within { IfOk result (λ window. All (λ p. p.link < length topo.now.links) window.items) }
+    ensures linked { IfOk result (λ window. All (λ p. Contains links.now p.link) window.items) }
     ensures rises { IfOk result (λ window. IsStrictlySortedBy position_order window.items) }
 {
     let mut window = Vec::new(alloc);
     let mut last = None;
     for at in beats {
-        if !fits(topo, last, at) {
+        if !fits(links, last, at) {
             return Err(Fail::new("no beats of a window"));
         }
         window.push(*at)?;
@@ -111,7 +112,7 @@ pub(crate) fn manager_of(topo: &Topo, name: &str) -> Result<u16, Fail>
 /// The state of a manager before all its beats.
 fn opening(alloc: Global, topo: &Topo, manager: u16) -> Result<SpanState, AllocError>
     requires manager { manager < length topo.now.managers }
-    ensures { IfOk result (λ state. IsOf (manager_at topo.now manager []) (length topo.now.links) state) }
+    ensures { IfOk result (λ state. IsOf (manager_at topo.now manager []) state) }
 {
     let state = SpanState::opening(alloc, topo, manager)?;
     Ok(state)
@@ -127,10 +128,11 @@ fn checked(
     entry: SpanState,
 ) -> Result<SpanResult, Fail>
     requires manager { manager < length topo.now.managers }
-    requires entry { IsOf (manager_at topo.now manager []) (length topo.now.links) entry }
-    ensures { IfOk result (λ checked. IsOf (manager_at topo.now manager []) (length topo.now.links) checked.exit) }
+    requires entry { IsOf (manager_at topo.now manager []) entry }
+    ensures { IfOk result (λ checked. IsOf (manager_at topo.now manager []) checked.exit) }
 {
-    let beats = window(alloc, topo, beats)?;
+    let links = clients_of(alloc, topo, manager)?;
+    let beats = window(alloc, &links, beats)?;
     let job = SpanJob::new(alloc, topo, manager, regions, beats, entry)?;
     let Ok(checked) = span_check(alloc, job) else {
         return Err(Fail::new("out of memory"));
@@ -146,8 +148,8 @@ fn after(
     manager: u16,
     checked: &SpanResult,
 ) -> Result<SpanState, AllocError>
-    requires { IsOf (manager_at topo.now manager []) (length topo.now.links) checked.now.exit }
-    ensures { IfOk result (λ state. IsOf (manager_at topo.now manager []) (length topo.now.links) state) }
+    requires { IsOf (manager_at topo.now manager []) checked.now.exit }
+    ensures { IfOk result (λ state. IsOf (manager_at topo.now manager []) state) }
 {
     let state = checked.exit().copy(alloc)?;
     Ok(state)
@@ -162,7 +164,7 @@ pub(crate) fn first_window(
     beats: &[Placed],
 ) -> Result<SpanResult, Fail>
     requires manager { manager < length topo.now.managers }
-    ensures { IfOk result (λ checked. IsOf (manager_at topo.now manager []) (length topo.now.links) checked.exit) }
+    ensures { IfOk result (λ checked. IsOf (manager_at topo.now manager []) checked.exit) }
 {
     let entry = opening(alloc, topo, manager)?;
     checked(alloc, topo, manager, regions, beats, entry)
@@ -177,8 +179,8 @@ pub(crate) fn next_window(
     beats: &[Placed],
 ) -> Result<SpanResult, Fail>
     requires manager { manager < length topo.now.managers }
-    requires before { IsOf (manager_at topo.now manager []) (length topo.now.links) before.now.exit }
-    ensures { IfOk result (λ checked. IsOf (manager_at topo.now manager []) (length topo.now.links) checked.exit) }
+    requires before { IsOf (manager_at topo.now manager []) before.now.exit }
+    ensures { IfOk result (λ checked. IsOf (manager_at topo.now manager []) checked.exit) }
 {
     let entry = after(alloc, topo, manager, before)?;
     let regions = RegionMap::new(alloc);

@@ -17,7 +17,7 @@ use Rattle.tl_beats.specs.Beats.{IsWellFormed}
 use Rattle.tl_beats.specs.Fragments.{AreBeats}
 use Rattle.tl_beats.specs.declared.Beat.{Beat}
 use Rattle.tl_beats.specs.declared.Placed.{Placed}
-use Rattle.tl_definitions.specs.Positions.{Recorded, placed_from, placed_beats, all_placed, by_range, insert_by_range, position_order, beats_of, beats_of_all, clients_from}
+use Rattle.tl_definitions.specs.Positions.{Recorded, placed_from, placed_beats, all_placed, by_range, insert_by_range, position_order, beats_of, beats_of_all}
 use Rattle.tl_definitions.proofs.Lists.{contains_none, contains_here, contains_there, contains_cases, contains_kept, kept_from, none_kept, all_of, all_by, onto, onto_reverse}
 use Rattle.tl_definitions.proofs.OrderLaws.{then_less, tie_then_less, tied, below}
 use Rattle.tl_definitions.proofs.PositionLaws.{beats_are_in_order, beats_are_of_fragments, position_total, positions_are_ordered}
@@ -27,7 +27,7 @@ use Rattle.tl_windows.specs.Present.{IsCapture, of_link, range_order}
 use Rattle.tl_windows.specs.Ranges.{AreRanges}
 use Rattle.tl_windows.specs.Spans.{IsSpan}
 use Rattle.tl_windows.specs.Shares.{windows_from, windows_of_all}
-use Rattle.tl_windows.specs.Windows.{window_of, lies_in, beats_in, is_within, beats_within, HasBeat, AreWindows, AreBeatsOf, joined, WindowsAreWhole, LinksAreKept, ChannelsAreKept, OneLinkIsItsOwn, ClientsRise}
+use Rattle.tl_windows.specs.Windows.{window_of, lies_in, beats_in, is_within, beats_within, HasBeat, AreWindows, AreBeatsOf, joined, WindowsAreWhole, LinksAreKept, ChannelsAreKept, OneLinkIsItsOwn}
 use Rattle.tl_windows.proofs.OrderLemmas.{link_order}
 use Rattle.tl_windows.proofs.PresentLemmas.{placed_at, beats_rise, placed_is_of, placed_from_some, less_cases, less_is, ranges_of, ranges_tail, ranges_kept, placed_strict}
 use Rattle.tl_windows.proofs.EntryLemmas.{all_kept, tie_then}
@@ -185,32 +185,6 @@ pub channels_are_kept : ChannelsAreKept
 channels_are_kept links fs link chan is has =
     sym (on_one link chan (reverse (beats_of_all links fs))) ∙ ap (before_on link chan) (kept_reverse (λ (p : Placed). p.link == link) (beats_of_all links fs))
     ∙ ap (λ ps. before_on link chan (reverse ps)) (links_are_kept links fs link is has)
-
--- ---- the links of a manager
-
-clients_low : (manager number : ℕ) (decls : List LinkDecl) (n : ℕ) → Contains (clients_from manager number decls) n → number ≤ n
-clients_low manager number [] n h = absurd (contains_none n h)
-clients_low manager number (link ∷ decls) n h = elim (link.manager == manager) as (λ b. Contains (cond b (number ∷ clients_from manager (number + 1) decls) (clients_from manager (number + 1) decls)) n → number ≤ n) [
-  | true ↦ λ g. elim (contains_cases number (clients_from manager (number + 1) decls) n g) [
-    | inl is ↦ omega arith
-    | inr there ↦ (let low = clients_low manager (number + 1) decls n there in omega arith)
-  ]
-  | false ↦ λ g. (let low = clients_low manager (number + 1) decls n g in omega arith)
-] h
-
-from_rise : (manager number : ℕ) (decls : List LinkDecl) → IsStrictlySortedBy nat_cmp (clients_from manager number decls)
-unfolding IsStrictlySortedBy
-from_rise manager number [] = tt
-from_rise manager number (link ∷ decls) = elim (link.manager == manager) as (λ b. IsStrictlySortedBy nat_cmp (cond b (number ∷ clients_from manager (number + 1) decls) (clients_from manager (number + 1) decls))) [
-  | true ↦ (
-    all_by (λ n. nat_cmp number n ≡ Less) (clients_from manager (number + 1) decls) (λ n h. let low = clients_low manager (number + 1) decls n h in below number n (omega arith)),
-    from_rise manager (number + 1) decls,
-  )
-  | false ↦ from_rise manager (number + 1) decls
-]
-
-pub clients_rise : ClientsRise
-clients_rise manager decls = from_rise manager 0 decls
 
 -- ---- spans and windows
 

@@ -4,11 +4,10 @@ use Rattle.std.specs.List.{All, Contains}
 use Rattle.std.specs.List.Sorted.{IsStrictlySortedBy}
 use Rattle.std.specs.Ordering.{nat_cmp}
 use Rattle.tl_tables.specs.declared.Chan.{Chan}
-use Rattle.tl_topology.specs.declared.LinkDecl.{LinkDecl}
 use Rattle.tl_beats.specs.Beats.{IsWellFormed}
 use Rattle.tl_beats.specs.declared.Placed.{Placed}
 use Rattle.tl_definitions.specs.Heads.{before_on}
-use Rattle.tl_definitions.specs.Positions.{Recorded, position_order, beats_of, beats_of_all, clients_of}
+use Rattle.tl_definitions.specs.Positions.{Recorded, position_order, beats_of, beats_of_all}
 use Rattle.tl_windows.specs.Present.{IsPresent}
 
 -- the window that holds a cycle
@@ -67,7 +66,3 @@ ChannelsAreKept = (links : List ℕ) (fs : List Recorded) (link : ℕ) (chan : C
 -- One link alone has its own list.
 abbrev pub OneLinkIsItsOwn : Type 0
 OneLinkIsItsOwn = (link : ℕ) (fs : List Recorded) → IsPresent fs → beats_of_all (link ∷ []) fs ≡ beats_of link fs
-
--- The numbers of a manager's links rise.
-abbrev pub ClientsRise : Type 0
-ClientsRise = (manager : ℕ) (decls : List LinkDecl) → IsStrictlySortedBy nat_cmp (clients_of manager decls)

@@ -1,6 +1,6 @@
 //! What follows for windows and links.
 
-ghost use Rattle.tl_windows.specs.Windows.{WindowsAreWhole, LinksAreKept, ChannelsAreKept, OneLinkIsItsOwn, ClientsRise};
+ghost use Rattle.tl_windows.specs.Windows.{WindowsAreWhole, LinksAreKept, ChannelsAreKept, OneLinkIsItsOwn};
 
 /// The beats of the windows that have one, one behind the other, are all beats.
 pub fn windows_are_whole()
@@ -20,9 +20,4 @@ pub fn channels_are_kept()
 /// The list of one link alone is its own.
 pub fn one_link_is_its_own()
     ensures { OneLinkIsItsOwn }
-{}
-
-/// The numbers of a manager's links rise.
-pub fn clients_rise()
-    ensures { ClientsRise }
 {}

@@ -1,17 +1,14 @@
-use Rattle.std.proofs.Common.{ℕ, List, [], get_or, sym, ap, subst, ◌∙◌, arith}
+use Rattle.std.proofs.Common.{[], get_or, sym, ap, subst, ◌∙◌}
 use Rattle.std.proofs.Common.{◌∷◌}
 use Rattle.std.specs.List.{Contains}
 use Rattle.std.specs.List.Sorted.{IsStrictlySortedBy}
 use Rattle.tl_definitions.specs.Captures.{manager_beats}
 use Rattle.tl_definitions.specs.Report.{of_manager, IsReport}
 use Rattle.std.specs.Ordering.{nat_cmp}
-use Rattle.std.proofs.lemmas.List.{length-map}
 use Rattle.tl_topology.specs.Regions.{areas_of}
-use Rattle.tl_topology.specs.declared.LinkDecl.{LinkDecl}
 use Rattle.tl_definitions.specs.Managers.{declared_links, manager_at}
 use Rattle.tl_definitions.specs.Positions.{beats_of_all}
-use Rattle.tl_windows.proofs.LawLemmas.{clients_rise}
-use Rattle.tl_plain.proofs.CaptureLaws.{clients_below}
+use Rattle.tl_manager_rules.proofs.ClientLaws.{clients_rise}
 use Rattle.tl_plain.proofs.ScratchLaws.{checked_report}
 use Rattle.tl_plain.proofs.checking.manager_rows.Goals as goal
 
@@ -19,13 +16,9 @@ pub beats-requires : goal.beats-requires
 beats-requires c =
     subst (IsStrictlySortedBy nat_cmp) (sym (c.deref.ensures.value ∙ c.in_ok-links.ensures)) (clients_rise c.args.manager (declared_links c.args.topo.now))
 
-pub new-requires-clause-within : goal.new-requires-clause-within
-new-requires-clause-within c k d below =
-    let decls : List LinkDecl = declared_links c.args.topo.now in
-    let are = c.deref.ensures.value ∙ c.in_ok-links.ensures in
-    let client = subst (λ links. Contains links (get_or c.in_ok-beats.beats.items k d).link) are (c.in_ok-beats.ensures.kept.linked k d below) in
-    let lt = clients_below c.args.manager 0 decls (get_or c.in_ok-beats.beats.items k d).link client in
-    omega (arith, lt, length-map c.args.topo.now.links (λ (p : List ℕ × LinkDecl). p.1))
+pub new-requires-clause-linked : goal.new-requires-clause-linked
+new-requires-clause-linked c k d below =
+    subst (λ links. Contains links (get_or c.in_ok-beats.beats.items k d).link) (c.deref.ensures.value ∙ c.in_ok-links.ensures) (c.in_ok-beats.ensures.kept.linked k d below)
 
 pub new-requires-clause-entry : goal.new-requires-clause-entry
 new-requires-clause-entry c = (c.in_ok-entry.ensures (areas_of c.args.regions.now)).is_of

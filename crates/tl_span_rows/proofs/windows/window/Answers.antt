@@ -1,5 +1,5 @@
-use Rattle.std.proofs.Common.{◌<◌, length, get_or, false, rules, sym, subst}
-use Rattle.std.specs.List.{All, AllByRecursion}
+use Rattle.std.proofs.Common.{get_or, false, rules, sym, subst}
+use Rattle.std.specs.List.{All, AllByRecursion, Contains}
 use Rattle.std.specs.List.Sorted.{IsStrictlySortedBy}
 use Rattle.std.proofs.lemmas.List.Elements.{All-nil, All-push}
 use Rattle.tl_tables.specs.declared.Chan.TheVariants as chan
@@ -21,7 +21,7 @@ no_beat = record {
 pub loop-at-init : goal.loop-at-init
 loop-at-init c = record {
   formed = subst (All (λ (p : Placed). IsWellFormed p.beat)) (sym c.new-window.ensures.items) (All-nil (λ (p : Placed). IsWellFormed p.beat));
-  within = subst (All (λ (p : Placed). p.link < length c.args.topo.now.links)) (sym c.new-window.ensures.items) (All-nil (λ (p : Placed). p.link < length c.args.topo.now.links));
+  linked = subst (All (λ (p : Placed). Contains c.args.links.now p.link)) (sym c.new-window.ensures.items) (All-nil (λ (p : Placed). Contains c.args.links.now p.link));
   rises = subst (IsStrictlySortedBy position_order) (sym c.new-window.ensures.items) (strict_none position_order);
   last = λ p next. subst (AllByRecursion (λ (q : Placed). IsBefore q p)) (sym c.new-window.ensures.items) tt;
 }
@@ -33,8 +33,8 @@ loop-at-preserved c =
     record {
       formed = subst (All (λ (p : Placed). IsWellFormed p.beat)) (sym c.in_ok-push.ensures.items)
           (All-push (λ (p : Placed). IsWellFormed p.beat) c.loop-at.window.items _ c.loop-at.invariant.formed (c.fits.ensures.formed (search rules)));
-      within = subst (All (λ (p : Placed). p.link < length c.args.topo.now.links)) (sym c.in_ok-push.ensures.items)
-          (All-push (λ (p : Placed). p.link < length c.args.topo.now.links) c.loop-at.window.items _ c.loop-at.invariant.within (c.fits.ensures.within (search rules)));
+      linked = subst (All (λ (p : Placed). Contains c.args.links.now p.link)) (sym c.in_ok-push.ensures.items)
+          (All-push (λ (p : Placed). Contains c.args.links.now p.link) c.loop-at.window.items _ c.loop-at.invariant.linked (c.fits.ensures.linked (search rules)));
       rises = subst (IsStrictlySortedBy position_order) (sym c.in_ok-push.ensures.items)
           (strict_more position_order c.loop-at.window.items at c.loop-at.invariant.rises below);
       last = λ p next. subst (AllByRecursion (λ (q : Placed). IsBefore q p)) (sym c.in_ok-push.ensures.items)

@@ -5,5 +5,5 @@ use Rattle.tl_manager_rules.specs.Manager.{past_at}
 use Rattle.tl_manager_rules.proofs.manager.ManagerState.any_probe_open.Given as goal
 
 -- none of the clients tried so far has one
-abbrev pub invariant-loop-client : goal.invariant-loop-client
-invariant-loop-client l = list_any (λ client. is_some ((past_at l.self client).probe l.block)) (take l.client-index l.self.clients.items) ≡ false
+abbrev pub invariant-loop-place : goal.invariant-loop-place
+invariant-loop-place l = list_any (λ client. is_some ((past_at l.self client).probe l.block)) (take l.place l.self.clients) ≡ false

@@ -10,7 +10,7 @@ use Rattle.tl_manager_rules.proofs.manager.ManagerState.broken_rules.Goals.{then
 pub loop-rule-preserved : goal.loop-rule-preserved
 loop-rule-preserved c =
     let state = c.args.self.now in
-    let breaks = breaks_manager state.clients.items state.exponent (past_at state) c.args.link (head_with c.args.head.now c.args.request c.args.op) in
+    let breaks = breaks_manager state.clients state.exponent (past_at state) c.args.link (head_with c.args.head.now c.args.request c.args.op) in
     elim c.if-breaks.branch [
       | then-breaks w ↦ record {
         found = picked breaks manager_order c.loop-rule.rule-index rule.F1 (omega arith) (sym c.breaks.ensures ∙ w.if-breaks.true) c.loop-rule.invariant.found (w.rules-is ∙ w.push.ensures);

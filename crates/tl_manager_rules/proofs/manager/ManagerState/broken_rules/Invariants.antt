@@ -8,6 +8,6 @@ use Rattle.tl_manager_rules.proofs.manager.ManagerState.broken_rules.Given as go
 -- the rules so far are the broken ones of those tried
 abbrev pub invariant-loop-rule : goal.invariant-loop-rule
 invariant-loop-rule l = record {
-  found : l.rules ≡ filter (breaks_manager l.self.clients.items l.self.exponent (past_at l.self) l.link (head_with l.head l.request l.op)) (take l.rule-index manager_order);
+  found : l.rules ≡ filter (breaks_manager l.self.clients l.self.exponent (past_at l.self) l.link (head_with l.head l.request l.op)) (take l.rule-index manager_order);
   few : length l.rules ≤ l.rule-index;
 }

@@ -5,5 +5,5 @@ use Rattle.tl_manager_rules.specs.Manager.{past_at}
 use Rattle.tl_manager_rules.proofs.manager.ManagerState.conflicts_with_other.Given as goal
 
 -- none of the clients tried so far forbids it
-abbrev pub invariant-loop-client : goal.invariant-loop-client
-invariant-loop-client l = list_any (λ client. not (client == l.link) && conflicts l.set ((past_at l.self client).bound l.block)) (take l.client-index l.self.clients.items) ≡ false
+abbrev pub invariant-loop-place : goal.invariant-loop-place
+invariant-loop-place l = list_any (λ client. not (client == l.link) && conflicts l.set ((past_at l.self client).bound l.block)) (take l.place l.self.clients) ≡ false

@@ -1,8 +1,12 @@
-use Rattle.std.proofs.Common.{length, ◌∙◌}
-use Rattle.tl_definitions.specs.Managers.{manager_at}
+use Rattle.std.proofs.Common.{ap, length, ◌∙◌}
+use Rattle.tl_definitions.specs.Managers.{manager_at, declared_links}
+use Rattle.tl_manager_rules.proofs.ClientLaws.{clients_rise}
 use Rattle.tl_span.proofs.StateLaws.{opening_stands}
 use Rattle.tl_span.proofs.state.SpanState.opening.Goals as goal
 
 pub returns : goal.returns
-returns c regions = opening_stands (manager_at c.args.topo.now c.args.manager regions) (length c.args.topo.now.links) _ (c.in_ok-opening_links.ensures.0 ∙ c.link_count.ensures.count)
-    c.in_ok-opening_links.ensures.1 (c.in_ok-new.ensures.opening regions) c.in_ok-new.ensures.count
+returns c regions =
+    let stands = c.in_ok-clients.ensures.opening regions in
+    opening_stands (manager_at c.args.topo.now c.args.manager regions) _ (clients_rise c.args.manager (declared_links c.args.topo.now))
+    (c.in_ok-links.ensures.0 ∙ c.count.ensures ∙ ap length stands.clients)
+    c.in_ok-links.ensures.1 stands (c.in_ok-clients.ensures.count ∙ ap length stands.clients)

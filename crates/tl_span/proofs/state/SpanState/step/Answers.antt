@@ -8,23 +8,27 @@ use Rattle.tl_topology.specs.Regions.{areas_of}
 use Rattle.tl_span.specs.Links.{IsFound}
 use Rattle.tl_span.specs.States.{flow_at, past_at, shown}
 use Rattle.tl_span.proofs.StateLaws.{head_next, later_next}
-use Rattle.tl_span.proofs.StepLaws.{at_link, burst_here, flow_here, on_ok, whatever, head_is_judged, served_format, head_rows, later_rows}
+use Rattle.tl_span.proofs.StepLaws.{at_place, link_at, burst_here, flow_here, on_ok, whatever, head_is_judged, served_format, head_rows, later_rows}
 use Rattle.tl_span.proofs.state.SpanState.step.Goals as goal
 
 pub check_later-requires-clause-head : goal.check_later-requires-clause-head
 check_later-requires-clause-head c =
     let p = c.args.at.now in
     let link = c.index_mut.result.now in
-    let at = at_link c.args.self.now.links.items c.from-number.result p.link link c.from-number.ensures c.requires.link c.index_mut.ensures.value in
+    let place = c.unwrap-place.result in
+    let stood = at_place c.args.self.now p.link place link c.place.result c.place.ensures c.unwrap-place.ensures c.requires.link c.index_mut.ensures.value in
+    let at = link_at c.args.self.now p.link place link stood.0 stood.1 in
     let found = subst (IsFound c.args.decl.now p.beat link) c.in-Later.is c.in_ok-answer.ensures.found in
     subst IsWellFormed found.2 (c.requires.formed p.link p.beat.chan found.0 (burst_here c.args.self.now p.link link p.beat.chan at ∙ found.1))
 
 pub returns-in_ok-add_rows-in-Head-2-clause-rows : goal.returns-in_ok-add_rows-in-Head-2-clause-rows
-returns-in_ok-add_rows-in-Head-2-clause-rows c m count of serves =
+returns-in_ok-add_rows-in-Head-2-clause-rows c m of serves =
     let p = c.args.at.now in
     let old = c.args.self.now in
     let link = c.index_mut.result.now in
-    let at = at_link old.links.items c.from-number.result p.link link c.from-number.ensures c.requires.link c.index_mut.ensures.value in
+    let place = c.unwrap-place.result in
+    let stood = at_place old p.link place link c.place.result c.place.ensures c.unwrap-place.ensures c.requires.link c.index_mut.ensures.value in
+    let at = link_at old p.link place link stood.0 stood.1 in
     let found = subst (IsFound c.args.decl.now p.beat link) c.in-Head.is c.in_ok-answer.ensures.found in
     let opcode = message_of c.args.decl.now p.beat in
     let past = flow_here old p.link link at in
@@ -41,24 +45,28 @@ returns-in_ok-add_rows-in-Head-2-clause-rows c m count of serves =
     c.add_rows-in-Head-2.ensures
 
 pub returns-in_ok-add_rows-in-Head-2-clause-next : goal.returns-in_ok-add_rows-in-Head-2-clause-next
-returns-in_ok-add_rows-in-Head-2-clause-next c m count of serves =
+returns-in_ok-add_rows-in-Head-2-clause-next c m of serves =
     let p = c.args.at.now in
     let old = c.args.self.now in
     let link = c.index_mut.result.now in
-    let at = at_link old.links.items c.from-number.result p.link link c.from-number.ensures c.requires.link c.index_mut.ensures.value in
+    let place = c.unwrap-place.result in
+    let stood = at_place old p.link place link c.place.result c.place.ensures c.unwrap-place.ensures c.requires.link c.index_mut.ensures.value in
+    let at = link_at old p.link place link stood.0 stood.1 in
     let found = subst (IsFound c.args.decl.now p.beat link) c.in-Head.is c.in_ok-answer.ensures.found in
     let request = c.as_ref-request.ensures.value ∙ found.2 ∙ ap (λ f. flow.answered_in f p.beat (message_of c.args.decl.now p.beat)) (flow_here old p.link link at) in
+    let shows = c.in_ok-clients-in-Head.ensures.next m.clients m.exponent (past_at old) of.clients request in
     whatever c.add_rows-in-Head-2.result
-    (head_next m count old _ p c.args.decl.now link c.step.new.self of serves.declared c.requires.beat at c.in_ok-answer.ensures.next
-    (ap (λ k. set old.links.items k c.step.new.self) c.from-number.ensures) found.0
-    (c.in_ok-clients-in-Head.ensures.next m.clients m.exponent (past_at old) of.clients request) c.in_ok-clients-in-Head.ensures.count)
+    (head_next m old _ p c.args.decl.now place link c.step.new.self of serves.declared c.requires.beat stood.0 stood.1 c.in_ok-answer.ensures.next refl (shows.clients ∙ sym of.clients.clients) found.0
+    shows c.in_ok-clients-in-Head.ensures.count)
 
 pub returns-in-Later-clause-rows : goal.returns-in-Later-clause-rows
-returns-in-Later-clause-rows c m count of serves =
+returns-in-Later-clause-rows c m of serves =
     let p = c.args.at.now in
     let old = c.args.self.now in
     let link = c.index_mut.result.now in
-    let at = at_link old.links.items c.from-number.result p.link link c.from-number.ensures c.requires.link c.index_mut.ensures.value in
+    let place = c.unwrap-place.result in
+    let stood = at_place old p.link place link c.place.result c.place.ensures c.unwrap-place.ensures c.requires.link c.index_mut.ensures.value in
+    let at = link_at old p.link place link stood.0 stood.1 in
     let found = subst (IsFound c.args.decl.now p.beat link) c.in-Later.is c.in_ok-answer.ensures.found in
     on_ok c.add_rows-in-Later.result
     (λ one. later_rows m old p c.args.decl.now c.in-Later.head found.0 c.check_later.result c.args.rows.now.items c.add_rows-in-Later.new.rows.items serves.declared
@@ -66,12 +74,13 @@ returns-in-Later-clause-rows c m count of serves =
     c.add_rows-in-Later.ensures
 
 pub returns-in-Later-clause-next : goal.returns-in-Later-clause-next
-returns-in-Later-clause-next c m count of serves =
+returns-in-Later-clause-next c m of serves =
     let p = c.args.at.now in
     let old = c.args.self.now in
     let link = c.index_mut.result.now in
-    let at = at_link old.links.items c.from-number.result p.link link c.from-number.ensures c.requires.link c.index_mut.ensures.value in
+    let place = c.unwrap-place.result in
+    let stood = at_place old p.link place link c.place.result c.place.ensures c.unwrap-place.ensures c.requires.link c.index_mut.ensures.value in
+    let at = link_at old p.link place link stood.0 stood.1 in
     let found = subst (IsFound c.args.decl.now p.beat link) c.in-Later.is c.in_ok-answer.ensures.found in
     whatever c.add_rows-in-Later.result
-    (later_next m count old _ p c.args.decl.now link c.step.new.self of serves.declared c.requires.beat at c.in_ok-answer.ensures.next
-    (ap (λ k. set old.links.items k c.step.new.self) c.from-number.ensures) found.0 found.1 refl)
+    (later_next m old _ p c.args.decl.now place link c.step.new.self of serves.declared c.requires.beat stood.0 stood.1 c.in_ok-answer.ensures.next refl refl found.0 found.1 refl)

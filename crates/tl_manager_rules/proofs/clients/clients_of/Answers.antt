@@ -6,8 +6,8 @@ use Rattle.tl_topology.specs.declared.LinkDecl.{LinkDecl}
 use Rattle.tl_definitions.specs.Positions.{clients_from}
 use Rattle.tl_definitions.specs.Managers.{declared_links}
 use Rattle.tl_manager_rules.proofs.ManagerLaws.{one_more}
-use Rattle.tl_manager_rules.proofs.manager.clients_of.Goals as goal
-use Rattle.tl_manager_rules.proofs.manager.clients_of.Goals.{in-Some+then-link-manager+in_ok-push, in-Some+else-link-manager, in_default}
+use Rattle.tl_manager_rules.proofs.clients.clients_of.Goals as goal
+use Rattle.tl_manager_rules.proofs.clients.clients_of.Goals.{in-Some+then-link-manager+in_ok-push, in-Some+else-link-manager, in_default}
 
 -- The links tried with one more, of which it is known whether it is the manager's.
 tried : (manager n : ℕ) (links : List LinkDecl) (link : LinkDecl) (own : List ℕ) → slice_get links n ≡ Some link → own ≡ cond (link.manager == manager) (n ∷ []) []

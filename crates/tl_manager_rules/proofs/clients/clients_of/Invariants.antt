@@ -1,7 +1,7 @@
 use Rattle.std.proofs.Common.{◌≡◌, take}
 use Rattle.tl_definitions.specs.Positions.{clients_from}
 use Rattle.tl_definitions.specs.Managers.{declared_links}
-use Rattle.tl_manager_rules.proofs.manager.clients_of.Given as goal
+use Rattle.tl_manager_rules.proofs.clients.clients_of.Given as goal
 
 -- the manager's links among the first ones
 abbrev pub invariant-loop-number : goal.invariant-loop-number

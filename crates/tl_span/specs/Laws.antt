@@ -1,5 +1,5 @@
 -- What follows for states and for results of windows.
-use Rattle.std.specs.Prelude.{◌≡◌, ◌↔◌, ℕ, List, [], ◌∷◌, ◌++◌, filter, reverse}
+use Rattle.std.specs.Prelude.{◌≡◌, ◌↔◌, List, [], ◌∷◌, ◌++◌, filter, reverse}
 use Rattle.std.specs.List.{Contains}
 use Rattle.tl_topology.specs.Regions.{Area}
 use Rattle.tl_beats.specs.declared.Placed.{Placed}

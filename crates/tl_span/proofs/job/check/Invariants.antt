@@ -1,4 +1,4 @@
-use Rattle.std.proofs.Common.{◌≡◌, ◌++◌, drop, length}
+use Rattle.std.proofs.Common.{◌≡◌, ◌++◌, drop}
 use Rattle.tl_topology.specs.Regions.{areas_of}
 use Rattle.tl_definitions.specs.Judging.{judging}
 use Rattle.tl_definitions.specs.Passes.{rows_judged, left_after}

@@ -1,4 +1,4 @@
-use Rattle.std.proofs.Common.{ℕ, Bool, ap, sym, subst, ◌∙◌, length, ◌<◌}
+use Rattle.std.proofs.Common.{ap, sym, subst, ◌∙◌, length, ◌<◌}
 use Rattle.std.specs.Prelude.{is_some}
 use Rattle.tl_perm_rules.specs.Client.{ClientView}
 use Rattle.tl_manager_rules.specs.Manager.{past_at}

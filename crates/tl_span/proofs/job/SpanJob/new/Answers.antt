@@ -1,13 +1,9 @@
-use Rattle.std.proofs.Common.{◌≡◌, List, length, sym, ap, subst, ◌∙◌}
+use Rattle.std.proofs.Common.{◌≡◌, sym, ap, subst, ◌∙◌}
 use Rattle.std.specs.Prelude.{map, unwrap_or}
-use Rattle.std.specs.List.{All}
 use Rattle.std.proofs.lemmas.Option.{slice_get-map, unwrap_or-slice_get}
 use Rattle.tl_topology.specs.Regions.{areas_of}
-use Rattle.tl_topology.specs.Topology.{IsSound}
-use Rattle.tl_topology.specs.declared.LinkDecl.{LinkDecl}
-use Rattle.tl_definitions.specs.Managers.{declared_links, manager_at}
+use Rattle.tl_definitions.specs.Managers.{manager_at}
 use Rattle.tl_definitions.specs.Positions.{links_of}
-use Rattle.tl_definitions.specs.Rules.{Manager}
 use Rattle.tl_span.specs.Jobs.{manager_from}
 use Rattle.tl_span.specs.States.{IsOf}
 use Rattle.tl_span.proofs.JobLaws.{is_job}

@@ -1,5 +1,4 @@
 use Rattle.std.proofs.Common.{refl, sym, ap, subst, ◌∙◌}
-use Rattle.std.proofs.Math.ListN.{set}
 use Rattle.tl_beats.specs.Beats.{IsWellFormed}
 use Rattle.tl_definitions.specs.Heads.{message_of}
 use Rattle.tl_flow_rules.specs.Flow as flow

@@ -20,19 +20,6 @@ use tl_tables::{
 };
 use tl_topology::LinkDecl;
 
-/// The flow rules, in the order of reports.
-const FLOW_ORDER: [Rule; 9] = [
-    Rule::S1,
-    Rule::S2,
-    Rule::S3,
-    Rule::S4,
-    Rule::S5,
-    Rule::S6,
-    Rule::S7,
-    Rule::S8,
-    Rule::S9,
-];
-
 /// What is in flight on one link. [TileLink 1.8: source and sink identifiers]
 #[derive(Drop)]
 pub struct FlowState {
@@ -189,11 +176,15 @@ impl FlowState {
         ensures { result ≡ filter (breaks_flow (shown self.now) (record { op = op; beat = head.now; request = request.now })) flow_order }
     {
         let mut rules = RuleList::new(alloc);
-        for rule in FLOW_ORDER {
-            if self.breaks(op, head, request, rule) {
-                rules.push(rule);
-            }
-        }
+        rules.push_if(self.breaks(op, head, request, Rule::S1), Rule::S1);
+        rules.push_if(self.breaks(op, head, request, Rule::S2), Rule::S2);
+        rules.push_if(self.breaks(op, head, request, Rule::S3), Rule::S3);
+        rules.push_if(self.breaks(op, head, request, Rule::S4), Rule::S4);
+        rules.push_if(self.breaks(op, head, request, Rule::S5), Rule::S5);
+        rules.push_if(self.breaks(op, head, request, Rule::S6), Rule::S6);
+        rules.push_if(self.breaks(op, head, request, Rule::S7), Rule::S7);
+        rules.push_if(self.breaks(op, head, request, Rule::S8), Rule::S8);
+        rules.push_if(self.breaks(op, head, request, Rule::S9), Rule::S9);
         rules
     }
 

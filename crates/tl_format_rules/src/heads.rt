@@ -14,19 +14,6 @@ use tl_beats::Beat;
 use tl_tables::{Chan, Op, Rule, carries_data, is_of_block, op_of, param_ok};
 use tl_topology::{LinkDecl, RegionMap};
 
-/// The rules of a head with a message, in the order of reports.
-const FORMAT_ORDER: [Rule; 9] = [
-    Rule::F2,
-    Rule::F3,
-    Rule::F4,
-    Rule::F5,
-    Rule::F6,
-    Rule::F7,
-    Rule::F8,
-    Rule::F9,
-    Rule::F10,
-];
-
 /// Whether one region permits the request to all its bytes, or there are no regions.
 #[tactic(auto, using(crate::proofs::Lanes::last_coded))]
 fn is_in_region(regions: &RegionMap, op: Op, beat: &Beat) -> bool
@@ -86,10 +73,14 @@ pub fn check_head(
         rules.push(Rule::F1);
         return rules;
     };
-    for rule in FORMAT_ORDER {
-        if breaks(link, exponent, regions, op, beat, rule) {
-            rules.push(rule);
-        }
-    }
+    rules.push_if(breaks(link, exponent, regions, op, beat, Rule::F2), Rule::F2);
+    rules.push_if(breaks(link, exponent, regions, op, beat, Rule::F3), Rule::F3);
+    rules.push_if(breaks(link, exponent, regions, op, beat, Rule::F4), Rule::F4);
+    rules.push_if(breaks(link, exponent, regions, op, beat, Rule::F5), Rule::F5);
+    rules.push_if(breaks(link, exponent, regions, op, beat, Rule::F6), Rule::F6);
+    rules.push_if(breaks(link, exponent, regions, op, beat, Rule::F7), Rule::F7);
+    rules.push_if(breaks(link, exponent, regions, op, beat, Rule::F8), Rule::F8);
+    rules.push_if(breaks(link, exponent, regions, op, beat, Rule::F9), Rule::F9);
+    rules.push_if(breaks(link, exponent, regions, op, beat, Rule::F10), Rule::F10);
     rules
 }

@@ -12,9 +12,6 @@ use tl_beats::Beat;
 use tl_tables::{Chan, Op, Rule, op_of};
 use tl_topology::LinkDecl;
 
-/// The rules of a later beat, in the order of reports.
-const LATER: [Rule; 3] = [Rule::F5, Rule::F7, Rule::U1];
-
 /// Whether a later beat has the fields that all beats of its burst share.
 fn is_alike(head: &Beat, beat: &Beat) -> bool
     ensures { result ≡ is_alike head.now beat.now }
@@ -56,10 +53,8 @@ pub fn check_later(alloc: Global, link: &LinkDecl, head: &Beat, beat: &Beat) -> 
     let Some(op) = op_of(link.level, head.chan, head.opcode) else {
         return rules;
     };
-    for rule in LATER {
-        if breaks(link, op, head, beat, rule) {
-            rules.push(rule);
-        }
-    }
+    rules.push_if(breaks(link, op, head, beat, Rule::F5), Rule::F5);
+    rules.push_if(breaks(link, op, head, beat, Rule::F7), Rule::F7);
+    rules.push_if(breaks(link, op, head, beat, Rule::U1), Rule::U1);
     rules
 }

@@ -1,6 +1,6 @@
 //! The rules of one beat.
 
-ghost use Rattle.std.specs.Prelude.{◌≡◌, ◌<◌, [], ◌∷◌, ◌++◌, length};
+ghost use Rattle.std.specs.Prelude.{◌≡◌, ◌==◌, ◌<◌, ◌≤◌, ◌+◌, [], ◌∷◌, ◌++◌, length, if◌then◌else◌};
 
 use smallvec::SmallVec;
 use std::alloc::Global;
@@ -40,6 +40,24 @@ impl RuleList {
         ensures { self.new ≡ self.old ++ rule ∷ [] }
     {
         self.rules.push_reserved(rule);
+    }
+
+    /// Puts a rule at the end if it is broken, where there is room for it.
+    pub fn push_if(&mut self, broken: bool, rule: Rule)
+        requires { length self.old < 10 }
+        ensures exact { self.new ≡ self.old ++ (if broken then rule ∷ [] else []) }
+        ensures few { length self.new ≤ length self.old + 1 }
+    {
+        if broken {
+            self.push(rule);
+        }
+    }
+
+    /// Whether there are none.
+    pub fn is_empty(&self) -> bool
+        ensures { result ≡ (length self.now == 0) }
+    {
+        self.rules.is_empty()
     }
 
     /// The rules.

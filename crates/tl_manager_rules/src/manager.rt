@@ -29,9 +29,6 @@ use tl_same::Same;
 use tl_tables::{Op, Perm, Rule, is_grant, is_probe, op_of};
 use tl_topology::{LinkDecl, Topo};
 
-/// The manager rules, in the order of reports.
-const MANAGER_ORDER: [Rule; 3] = [Rule::M1, Rule::M2, Rule::M3];
-
 /// What all clients of a manager can hold, and what is open on their links. [TileLink 1.8: coherence]
 #[derive(Drop)]
 pub struct ManagerState {
@@ -216,11 +213,9 @@ impl ManagerState {
         ensures { result ≡ filter (breaks_manager self.now.clients self.now.exponent (past_at self.now) link (head_with head.now request op)) manager_order }
     {
         let mut rules = RuleList::new(alloc);
-        for rule in MANAGER_ORDER {
-            if self.breaks(link, op, head, request, rule) {
-                rules.push(rule);
-            }
-        }
+        rules.push_if(self.breaks(link, op, head, request, Rule::M1), Rule::M1);
+        rules.push_if(self.breaks(link, op, head, request, Rule::M2), Rule::M2);
+        rules.push_if(self.breaks(link, op, head, request, Rule::M3), Rule::M3);
         rules
     }
 

@@ -24,18 +24,6 @@ use tl_tables::{
 };
 use tl_topology::LinkDecl;
 
-/// The permission rules, in the order of reports.
-const PERMISSION_ORDER: [Rule; 8] = [
-    Rule::P1,
-    Rule::P2,
-    Rule::P3,
-    Rule::P4,
-    Rule::P5,
-    Rule::P6,
-    Rule::P7,
-    Rule::P8,
-];
-
 /// What one client, on its link, can hold of each block, and what is open on it. [TileLink 1.8: permission transitions]
 #[derive(Drop)]
 pub struct ClientState {
@@ -148,11 +136,14 @@ impl ClientState {
         ensures { result ≡ filter (breaks_permission strict self.now.exponent (shown self.now).past (head_with head.now None op)) permission_order }
     {
         let mut rules = RuleList::new(alloc);
-        for rule in PERMISSION_ORDER {
-            if self.breaks(strict, op, head, rule) {
-                rules.push(rule);
-            }
-        }
+        rules.push_if(self.breaks(strict, op, head, Rule::P1), Rule::P1);
+        rules.push_if(self.breaks(strict, op, head, Rule::P2), Rule::P2);
+        rules.push_if(self.breaks(strict, op, head, Rule::P3), Rule::P3);
+        rules.push_if(self.breaks(strict, op, head, Rule::P4), Rule::P4);
+        rules.push_if(self.breaks(strict, op, head, Rule::P5), Rule::P5);
+        rules.push_if(self.breaks(strict, op, head, Rule::P6), Rule::P6);
+        rules.push_if(self.breaks(strict, op, head, Rule::P7), Rule::P7);
+        rules.push_if(self.breaks(strict, op, head, Rule::P8), Rule::P8);
         rules
     }
 

@@ -1,20 +1,19 @@
-use Rattle.std.proofs.Common.{length, arith, sym, ap, ◌∙◌, length-append}
+use Rattle.std.proofs.Common.{◌≡◌, ◌++◌, ◌∷◌, [], Some, append-nil, sym, ap, ◌∙◌}
+use Rattle.std.specs.Prelude.{filter}
+use Rattle.std.specs.Option.{option_map_or}
 use Rattle.tl_tables.specs.declared.Rule.TheVariants as rule
+use Rattle.tl_definitions.specs.Heads.{message_of}
 use Rattle.tl_definitions.specs.Breaks.{breaks_later, later_order}
-use Rattle.tl_format_rules.proofs.Picks.{picked, passed}
+use Rattle.tl_format_rules.proofs.Picks.{told}
 use Rattle.tl_format_rules.proofs.later.check_later.Goals as goal
-use Rattle.tl_format_rules.proofs.later.check_later.Goals.{then-breaks, else-breaks}
 
-pub loop-rule-preserved : goal.loop-rule-preserved
-loop-rule-preserved c =
-    let breaks = breaks_later c.args.link.now c.in-Some.op c.args.head.now c.args.beat.now in
-    elim c.if-breaks.branch [
-      | then-breaks w ↦ record {
-        found = picked breaks later_order c.loop-rule.rule-index rule.F1 (omega arith) (sym c.breaks.ensures ∙ w.if-breaks.true) c.loop-rule.invariant.found (w.rules-is ∙ w.push.ensures);
-        few = let e = simp length-append at (ap length (w.rules-is ∙ w.push.ensures)) in omega (arith, c.loop-rule.invariant.few);
-      }
-      | else-breaks w ↦ record {
-        found = passed breaks later_order c.loop-rule.rule-index rule.F1 (omega arith) (sym c.breaks.ensures ∙ w.if-breaks.false) c.loop-rule.invariant.found w.rules-is;
-        few = let e = ap length w.rules-is in omega (arith, c.loop-rule.invariant.few);
-      }
-    ]
+pub returns : goal.returns
+returns c =
+    let broken = breaks_later c.args.link.now c.in-Some.op c.args.head.now c.args.beat.now in
+    let message : message_of c.args.link.now c.args.head.now ≡ Some c.in-Some.op = sym c.op_of.ensures ∙ c.in-Some.is in
+    sym (append-nil c.push_if-3.new.self)
+    ∙ told broken rule.U1 [] _ _ c.breaks-3.ensures c.push_if-3.ensures.exact
+    ∙ told broken rule.F7 (rule.U1 ∷ []) _ _ c.breaks-2.ensures c.push_if-2.ensures.exact
+    ∙ told broken rule.F5 (rule.F7 ∷ rule.U1 ∷ []) _ _ c.breaks.ensures c.push_if.ensures.exact
+    ∙ ap (λ rules. rules ++ filter broken later_order) c.new-rules.ensures
+    ∙ ap (λ found. option_map_or (λ o. filter (breaks_later c.args.link.now o c.args.head.now c.args.beat.now) later_order) found []) (sym message)

@@ -1,21 +1,22 @@
-use Rattle.std.proofs.Common.{length, arith, sym, ap, ◌∙◌, length-append}
+use Rattle.std.proofs.Common.{◌++◌, ◌∷◌, [], append-nil, sym, ap, ◌∙◌}
+use Rattle.std.specs.Prelude.{filter}
 use Rattle.tl_tables.specs.declared.Rule.TheVariants as rule
 use Rattle.tl_definitions.specs.Rules.{breaks_flow, flow_order}
-use Rattle.tl_format_rules.proofs.Picks.{picked, passed}
+use Rattle.tl_format_rules.proofs.Picks.{told}
 use Rattle.tl_flow_rules.specs.Flow.{shown}
 use Rattle.tl_flow_rules.proofs.flow.FlowState.broken_rules.Goals as goal
-use Rattle.tl_flow_rules.proofs.flow.FlowState.broken_rules.Goals.{then-breaks, else-breaks}
 
-pub loop-rule-preserved : goal.loop-rule-preserved
-loop-rule-preserved c =
-    let breaks = breaks_flow (shown c.args.self.now) (record { op = c.args.op; beat = c.args.head.now; request = c.args.request.now }) in
-    elim c.if-breaks.branch [
-      | then-breaks w ↦ record {
-        found = picked breaks flow_order c.loop-rule.rule-index rule.F1 (omega arith) (sym c.breaks.ensures ∙ w.if-breaks.true) c.loop-rule.invariant.found (w.rules-is ∙ w.push.ensures);
-        few = let e = simp length-append at (ap length (w.rules-is ∙ w.push.ensures)) in omega (arith, c.loop-rule.invariant.few);
-      }
-      | else-breaks w ↦ record {
-        found = passed breaks flow_order c.loop-rule.rule-index rule.F1 (omega arith) (sym c.breaks.ensures ∙ w.if-breaks.false) c.loop-rule.invariant.found w.rules-is;
-        few = let e = ap length w.rules-is in omega (arith, c.loop-rule.invariant.few);
-      }
-    ]
+pub returns : goal.returns
+returns c =
+    let broken = breaks_flow (shown c.args.self.now) (record { op = c.args.op; beat = c.args.head.now; request = c.args.request.now }) in
+    sym (append-nil c.push_if-9.new.self)
+    ∙ told broken rule.S9 [] _ _ c.breaks-9.ensures c.push_if-9.ensures.exact
+    ∙ told broken rule.S8 (rule.S9 ∷ []) _ _ c.breaks-8.ensures c.push_if-8.ensures.exact
+    ∙ told broken rule.S7 (rule.S8 ∷ rule.S9 ∷ []) _ _ c.breaks-7.ensures c.push_if-7.ensures.exact
+    ∙ told broken rule.S6 (rule.S7 ∷ rule.S8 ∷ rule.S9 ∷ []) _ _ c.breaks-6.ensures c.push_if-6.ensures.exact
+    ∙ told broken rule.S5 (rule.S6 ∷ rule.S7 ∷ rule.S8 ∷ rule.S9 ∷ []) _ _ c.breaks-5.ensures c.push_if-5.ensures.exact
+    ∙ told broken rule.S4 (rule.S5 ∷ rule.S6 ∷ rule.S7 ∷ rule.S8 ∷ rule.S9 ∷ []) _ _ c.breaks-4.ensures c.push_if-4.ensures.exact
+    ∙ told broken rule.S3 (rule.S4 ∷ rule.S5 ∷ rule.S6 ∷ rule.S7 ∷ rule.S8 ∷ rule.S9 ∷ []) _ _ c.breaks-3.ensures c.push_if-3.ensures.exact
+    ∙ told broken rule.S2 (rule.S3 ∷ rule.S4 ∷ rule.S5 ∷ rule.S6 ∷ rule.S7 ∷ rule.S8 ∷ rule.S9 ∷ []) _ _ c.breaks-2.ensures c.push_if-2.ensures.exact
+    ∙ told broken rule.S1 (rule.S2 ∷ rule.S3 ∷ rule.S4 ∷ rule.S5 ∷ rule.S6 ∷ rule.S7 ∷ rule.S8 ∷ rule.S9 ∷ []) _ _ c.breaks.ensures c.push_if.ensures.exact
+    ∙ ap (λ rules. rules ++ filter broken flow_order) c.new-rules.ensures

@@ -1,21 +1,21 @@
-use Rattle.std.proofs.Common.{None, length, arith, sym, ap, ◌∙◌, length-append}
+use Rattle.std.proofs.Common.{None, ◌++◌, ◌∷◌, [], append-nil, sym, ap, ◌∙◌}
+use Rattle.std.specs.Prelude.{filter}
 use Rattle.tl_tables.specs.declared.Rule.TheVariants as rule
 use Rattle.tl_definitions.specs.Rules.{breaks_permission, permission_order}
-use Rattle.tl_format_rules.proofs.Picks.{picked, passed}
+use Rattle.tl_format_rules.proofs.Picks.{told}
 use Rattle.tl_perm_rules.specs.Client.{shown, head_with}
 use Rattle.tl_perm_rules.proofs.client.ClientState.broken_rules.Goals as goal
-use Rattle.tl_perm_rules.proofs.client.ClientState.broken_rules.Goals.{then-breaks, else-breaks}
 
-pub loop-rule-preserved : goal.loop-rule-preserved
-loop-rule-preserved c =
-    let breaks = breaks_permission c.args.strict c.args.self.now.exponent (shown c.args.self.now).past (head_with c.args.head.now None c.args.op) in
-    elim c.if-breaks.branch [
-      | then-breaks w ↦ record {
-        found = picked breaks permission_order c.loop-rule.rule-index rule.F1 (omega arith) (sym c.breaks.ensures ∙ w.if-breaks.true) c.loop-rule.invariant.found (w.rules-is ∙ w.push.ensures);
-        few = let e = simp length-append at (ap length (w.rules-is ∙ w.push.ensures)) in omega (arith, c.loop-rule.invariant.few);
-      }
-      | else-breaks w ↦ record {
-        found = passed breaks permission_order c.loop-rule.rule-index rule.F1 (omega arith) (sym c.breaks.ensures ∙ w.if-breaks.false) c.loop-rule.invariant.found w.rules-is;
-        few = let e = ap length w.rules-is in omega (arith, c.loop-rule.invariant.few);
-      }
-    ]
+pub returns : goal.returns
+returns c =
+    let broken = breaks_permission c.args.strict c.args.self.now.exponent (shown c.args.self.now).past (head_with c.args.head.now None c.args.op) in
+    sym (append-nil c.push_if-8.new.self)
+    ∙ told broken rule.P8 [] _ _ c.breaks-8.ensures c.push_if-8.ensures.exact
+    ∙ told broken rule.P7 (rule.P8 ∷ []) _ _ c.breaks-7.ensures c.push_if-7.ensures.exact
+    ∙ told broken rule.P6 (rule.P7 ∷ rule.P8 ∷ []) _ _ c.breaks-6.ensures c.push_if-6.ensures.exact
+    ∙ told broken rule.P5 (rule.P6 ∷ rule.P7 ∷ rule.P8 ∷ []) _ _ c.breaks-5.ensures c.push_if-5.ensures.exact
+    ∙ told broken rule.P4 (rule.P5 ∷ rule.P6 ∷ rule.P7 ∷ rule.P8 ∷ []) _ _ c.breaks-4.ensures c.push_if-4.ensures.exact
+    ∙ told broken rule.P3 (rule.P4 ∷ rule.P5 ∷ rule.P6 ∷ rule.P7 ∷ rule.P8 ∷ []) _ _ c.breaks-3.ensures c.push_if-3.ensures.exact
+    ∙ told broken rule.P2 (rule.P3 ∷ rule.P4 ∷ rule.P5 ∷ rule.P6 ∷ rule.P7 ∷ rule.P8 ∷ []) _ _ c.breaks-2.ensures c.push_if-2.ensures.exact
+    ∙ told broken rule.P1 (rule.P2 ∷ rule.P3 ∷ rule.P4 ∷ rule.P5 ∷ rule.P6 ∷ rule.P7 ∷ rule.P8 ∷ []) _ _ c.breaks.ensures c.push_if.ensures.exact
+    ∙ ap (λ rules. rules ++ filter broken permission_order) c.new-rules.ensures

@@ -73,28 +73,17 @@ impl Bounds {
         perm_of(self.holds.get(&block).copied())
     }
 
-    /// Sets the bound of the block. Only where it rises from Nothing can there be no memory, and then nothing has changed.
-    fn set(&mut self, block: u64, perm: Perm) -> Result<(), AllocError>
+    /// Sets the bound of the block, and answers the bound that it had. Only where it rises from Nothing can there be no memory,
+    /// and then nothing has changed.
+    pub fn set(&mut self, block: u64, perm: Perm) -> Result<Perm, AllocError>
+        ensures old { IfOk result (λ old. old ≡ bound_at self.old block) }
         ensures ok { OnOk result ((other : ℕ) → bound_at self.new other ≡ (if block == other then perm else bound_at self.old other)) }
         ensures err { OnErr result ((other : ℕ) → bound_at self.new other ≡ bound_at self.old other) }
         ensures absent { OnErr result (bound_at self.old block ≡ Nothing) }
         ensures wanted { OnErr result (is_above perm Nothing ≡ true) }
     {
-        self.holds.set(block, hold_of(perm))
-    }
-
-    /// Makes room for a bound of the block: that and the bound that it has can be put there without memory. What is shown of the
-    /// block is open until then. At want of memory nothing has changed.
-    pub fn make_room(&mut self, block: u64, perm: Perm) -> Result<(), AllocError>
-        ensures others { (other : ℕ) → (block == other) ≡ false → bound_at self.new other ≡ bound_at self.old other }
-        ensures room { OnOk result (bound_at self.new block ≡ Nothing → perm ≡ Nothing) }
-        ensures kept { OnOk result (bound_at self.new block ≡ Nothing → bound_at self.old block ≡ Nothing) }
-        ensures err { OnErr result ((other : ℕ) → bound_at self.new other ≡ bound_at self.old other) }
-    {
-        if perm != Perm::Nothing {
-            self.set(block, perm)?;
-        }
-        Ok(())
+        let before = self.holds.set(block, hold_of(perm))?;
+        Ok(perm_of(before))
     }
 
     /// Sets the bound of the block, where there is room for it.

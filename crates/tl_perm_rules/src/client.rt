@@ -226,18 +226,17 @@ impl ClientState {
         let Some((block, set)) = claim(self.exponent, op, head, request) else {
             return self.open_and_close(op, head, request);
         };
-        let before = self.bounds.get(block);
-        self.bounds.make_room(block, set)?;
-        match self.open_and_close(op, head, request) {
-            Ok(()) => {
-                self.bounds.put(block, set);
-                Ok(())
-            }
-            Err(error) => {
-                self.bounds.put(block, before);
-                Err(error)
-            }
+        if set == Perm::Nothing {
+            self.open_and_close(op, head, request)?;
+            self.bounds.put(block, set);
+            return Ok(());
         }
+        let before = self.bounds.set(block, set)?;
+        let done = self.open_and_close(op, head, request);
+        if done.is_err() {
+            self.bounds.put(block, before);
+        }
+        done
     }
 
     /// Opens and closes what a head with this message does. Each opens at most one, so that at want of memory nothing has

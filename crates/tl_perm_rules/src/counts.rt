@@ -17,19 +17,6 @@ pub struct Counts {
     others: Entries<u64, u64>,
 }
 
-/// A count with one more. One of 2^64 could not be kept; sources and sinks, of 16 bits each, lead to none above 2^16.
-fn one_more(others: Option<u64>) -> Result<u64, AllocError>
-    ensures { IfOk result (λ more. more ≡ count_of others) }
-{
-    match others {
-        None => Ok(0),
-        Some(others) => match others.checked_add(1) {
-            Some(more) => Ok(more),
-            None => Err(AllocError),
-        },
-    }
-}
-
 /// A count with one less.
 fn one_less(others: Option<u64>) -> Option<u64>
     ensures { count_of result ≡ count_of others - 1 }
@@ -64,8 +51,16 @@ impl Counts {
         ensures ok { OnOk result ((other : ℕ) → count_at self.new other ≡ one_if (block == other) + count_at self.old other) }
         ensures err { OnErr result ((other : ℕ) → count_at self.new other ≡ count_at self.old other) }
     {
-        let more = one_more(self.others.get(&block).copied())?;
-        self.others.set(block, Some(more))
+        let Some(others) = self.others.set(block, Some(0))? else {
+            return Ok(());
+        };
+        // One of 2^64 could not be kept; sources and sinks, of 16 bits each, lead to none above 2^16.
+        let (kept, done) = match others.checked_add(1) {
+            Some(more) => (more, Ok(())),
+            None => (others, Err(AllocError)),
+        };
+        let _ = self.others.set(block, Some(kept));
+        done
     }
 
     /// One less is open on the block.
@@ -82,7 +77,8 @@ impl Counts {
         ensures err { OnErr result ((other : ℕ) → count_at self.new other ≡ count_at self.old other) }
     {
         let others = self.others.get(&block).copied().unwrap_or(0);
-        self.others.set(block, Some(others))
+        self.others.set(block, Some(others))?;
+        Ok(())
     }
 
     /// What is open on the new block takes the place of what was open on the old one; None is no block. Only where there is

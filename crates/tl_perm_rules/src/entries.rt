@@ -34,23 +34,19 @@ impl<K: Ord + Drop, V: Drop> Entries<K, V> {
         self.entries.get(key)
     }
 
-    /// Gives the key this value, or takes its entry out. Only a value of a key that has none can find no memory, and then
-    /// nothing has changed.
-    pub fn set(&mut self, key: K, value: Option<V>) -> Result<(), AllocError>
+    /// Gives the key this value, or takes its entry out, and answers the value that it had. Only a value of a key that has none
+    /// can find no memory, and then nothing has changed.
+    pub fn set(&mut self, key: K, value: Option<V>) -> Result<Option<V>, AllocError>
+        ensures old { IfOk result (λ old. old ≡ entry_of K.cmp self.old key) }
         ensures ok { OnOk result ((other : K) → entry_of K.cmp self.new other ≡ (if is_at (K.cmp key) other then value else entry_of K.cmp self.old other)) }
         ensures err { OnErr result ((other : K) → entry_of K.cmp self.new other ≡ entry_of K.cmp self.old other) }
         ensures absent { OnErr result (entry_of K.cmp self.old key ≡ None) }
         ensures wanted { OnErr result (IsSome value) }
     {
         match value {
-            Some(value) => {
-                self.entries.insert(key, value)?;
-            }
-            None => {
-                self.entries.remove(&key);
-            }
+            Some(value) => Ok(self.entries.insert(key, value)?),
+            None => Ok(self.entries.remove(&key)),
         }
-        Ok(())
     }
 
     /// A map with the same entries.

@@ -60,8 +60,7 @@ impl OpenBlocks {
         ensures err_counts { OnErr result ((block : ℕ) → open_on self.new block ≡ open_on self.old block) }
         ensures wanted { OnErr result (IsSome entry) }
     {
-        let before = self.blocks.get(&key).copied();
-        self.blocks.set(key, entry)?;
+        let before = self.blocks.set(key, entry)?;
         let counted = self.counts.replace(known_block(before), known_block(entry));
         if counted.is_err() {
             let _ = self.blocks.set(key, before);

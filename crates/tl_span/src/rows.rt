@@ -8,8 +8,8 @@ use tl_beats::{Placed, Row};
 use tl_format_rules::RuleList;
 
 /// Puts the rows of one beat at the end.
-pub fn add_rows(rows: &mut Vec<Row>, at: &Placed, rules: RuleList) -> Result<(), AllocError>
-    ensures { OnOk result (rows.new.items ≡ rows.old.items ++ map (row_of at.now) rules) }
+pub fn add_rows(rows: &mut Vec<Row>, at: &Placed, rules: &RuleList) -> Result<(), AllocError>
+    ensures { OnOk result (rows.new.items ≡ rows.old.items ++ map (row_of at.now) rules.now) }
 {
     for rule in rules.as_slice() {
         rows.push(Row {

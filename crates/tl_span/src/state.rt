@@ -93,11 +93,11 @@ impl SpanState {
                 let format = check_head(alloc, decl, exponent, regions, &at.beat);
                 let request = answer.request.as_ref();
                 let clients = self.clients.step(alloc, at.link, decl, &at.beat, request)?;
-                add_rows(rows, at, format)?;
-                add_rows(rows, at, answer.rules)?;
-                add_rows(rows, at, clients)
+                add_rows(rows, at, &format)?;
+                add_rows(rows, at, &answer.rules)?;
+                add_rows(rows, at, &clients)
             }
-            Found::Later(head) => add_rows(rows, at, check_later(alloc, decl, &head, &at.beat)),
+            Found::Later(head) => add_rows(rows, at, &check_later(alloc, decl, &head, &at.beat)),
         }
     }
 

@@ -18,6 +18,7 @@ impl Present {
         ensures { IfOk result (λ beats. beats.items ≡ beats_of link self.now) }
     {
         let mut beats = Vec::new(alloc);
+        beats.reserve(self.ranges.count(0, u64::MAX, link))?;
         self.ranges.push_link(0, u64::MAX, link, &mut beats)?;
         Ok(beats)
     }
@@ -92,10 +93,21 @@ impl Present {
         ensures { IfOk result (λ beats. beats.items ≡ beats_within from to (beats_of_all links.now self.now)) }
     {
         let mut beats = Vec::new(alloc);
+        beats.reserve(self.count(from, to, links))?;
         for link in links {
             self.ranges.push_link(from, to, *link, &mut beats)?;
         }
         let sorted = in_order(beats)?;
         Ok(sorted)
+    }
+    /// How many beats of a span these links have, so that their room is asked once.
+    fn count(&self, from: u64, to: u64, links: &[u16]) -> usize
+        requires { from ≤ to }
+    {
+        let mut count = 0usize;
+        for link in links {
+            count = count.saturating_add(self.ranges.count(from, to, *link));
+        }
+        count
     }
 }

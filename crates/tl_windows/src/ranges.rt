@@ -10,7 +10,7 @@ ghost use Rattle.tl_windows.specs.Ranges.{ends_at, without_end};
 ghost use Rattle.tl_windows.specs.Shares.{windows_of_all};
 ghost use Rattle.tl_windows.specs.Windows.{beats_within};
 
-use crate::walks::{all_of_link, first_number, lowest_other, push_all_windows, push_span};
+use crate::walks::{all_of_link, first_number, lowest_other, push_all_windows, push_span, span_count};
 use std::alloc::{AllocError, Global};
 use std::collections::BTreeMap;
 use std::marker::Model;
@@ -112,6 +112,13 @@ impl Ranges {
             fragment.last(),
             fragment.number(),
         )
+    }
+
+    /// How many beats of a span a link has: what room `push_link` asks.
+    pub(crate) fn count(&self, from: u64, to: u64, link: u16) -> usize
+        requires { from ≤ to }
+    {
+        span_count(&self.ends, from, to, link)
     }
 
     /// Puts the beats of a span of a link behind others. AllocError where memory is refused.

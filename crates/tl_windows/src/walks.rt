@@ -6,7 +6,7 @@ ghost use Rattle.std.specs.Option.{option_map, option_map_or};
 ghost use Rattle.tl_windows.specs.Present.{recorded, least};
 ghost use Rattle.tl_windows.specs.Ranges.{from_key, walked, span_beats, own_windows, itself, other_number, nowhere, begins_after};
 
-use crate::cut::push_beats;
+use crate::cut::{bounds, push_beats};
 use crate::shares::push_windows;
 use std::alloc::{AllocError, Global};
 use std::collections::BTreeMap;
@@ -72,6 +72,24 @@ pub(crate) fn push_span(
         push_beats(from, to, link, fragment, beats)?;
     }
     Ok(())
+}
+
+/// How many beats of a span a link has.
+pub(crate) fn span_count(ends: &Ends, from: u64, to: u64, link: u16) -> usize
+    requires { from ≤ to }
+{
+    let mut count = 0usize;
+    for ((of, _), fragment) in ends.range((link, from)..) {
+        if *of != link {
+            return count;
+        }
+        if to < fragment.first() {
+            return count;
+        }
+        let (start, end) = bounds(fragment, from, to);
+        count = count.saturating_add(end - start);
+    }
+    count
 }
 
 /// Puts the windows in which a fragment of a link has a beat behind others.

@@ -10,6 +10,6 @@ pub returns : goal.returns
 returns c =
     let is = ranges_of c.args.self.now (subst IsPresent c.self.view_is c.self.invariant.0) in
     let own = own_beats c.args.link c.args.self.now is in
-    c.in_ok-push_link.ensures ∙ ap (λ ps. ps ++ beats_within 0 18446744073709551615 (all_placed (of_link c.args.link c.self.inside.ranges))) c.new-beats.ensures.items
+    c.in_ok-push_link.ensures ∙ ap (λ ps. ps ++ beats_within 0 18446744073709551615 (all_placed (of_link c.args.link c.self.inside.ranges))) (c.in_ok-reserve.ensures.items ∙ c.new-beats.ensures.items)
     ∙ ap (λ fs. beats_within 0 18446744073709551615 (all_placed (of_link c.args.link fs))) c.self.view_is ∙ ap (beats_within 0 18446744073709551615) (sym own)
     ∙ whole (beats_of c.args.link c.args.self.now) (formed_of c.args.link c.args.self.now is)

@@ -97,7 +97,10 @@ impl SpanState {
                 add_rows(rows, at, &answer.rules)?;
                 add_rows(rows, at, &clients)
             }
-            Found::Later(head) => add_rows(rows, at, &check_later(alloc, decl, &head, &at.beat)),
+            Found::Later(head) => {
+                let later = check_later(alloc, decl, &head, &at.beat);
+                add_rows(rows, at, &later)
+            }
         }
     }
 

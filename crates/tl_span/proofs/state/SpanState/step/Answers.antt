@@ -10,8 +10,8 @@ use Rattle.tl_span.proofs.StateLaws.{head_next, later_next}
 use Rattle.tl_span.proofs.StepLaws.{at_place, link_at, burst_here, flow_here, on_ok, whatever, head_is_judged, served_format, head_rows, later_rows}
 use Rattle.tl_span.proofs.state.SpanState.step.Goals as goal
 
-pub check_later-requires-clause-head : goal.check_later-requires-clause-head
-check_later-requires-clause-head c =
+pub check_later-later-requires-clause-head : goal.check_later-later-requires-clause-head
+check_later-later-requires-clause-head c =
     let p = c.args.at.now in
     let link = c.index_mut.result.now in
     let place = c.unwrap-place.result in
@@ -68,8 +68,8 @@ returns-in-Later-clause-rows c m of serves =
     let at = link_at old p.link place link stood.0 stood.1 in
     let found = subst (IsFound c.args.decl.now p.beat link) c.in-Later.is c.in_ok-answer.ensures.found in
     on_ok c.add_rows-in-Later.result
-    (λ one. later_rows m old p c.args.decl.now c.in-Later.head found.0 c.check_later.result c.args.rows.now.items c.add_rows-in-Later.new.rows.items serves.declared
-    (burst_here old p.link link p.beat.chan at ∙ found.1) found.2 c.check_later.ensures one)
+    (λ one. later_rows m old p c.args.decl.now c.in-Later.head found.0 c.check_later-later.result c.args.rows.now.items c.add_rows-in-Later.new.rows.items serves.declared
+    (burst_here old p.link link p.beat.chan at ∙ found.1) found.2 c.check_later-later.ensures one)
     c.add_rows-in-Later.ensures
 
 pub returns-in-Later-clause-next : goal.returns-in-Later-clause-next

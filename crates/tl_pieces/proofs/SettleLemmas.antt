@@ -6,6 +6,9 @@ use Rattle.tl_pieces.specs.declared.key.PieceKey.{PieceKey}
 use Rattle.tl_pieces.specs.declared.slot.Slot.{Slot}
 use Rattle.tl_pieces.specs.declared.slot.Mark.{Mark}
 use Rattle.tl_pieces.specs.declared.slot.Mark.TheVariants as mark
+use Rattle.std.specs.List.{AllByRecursion}
+use Rattle.std.specs.Ordering.{is_le}
+use Rattle.tl_pieces.specs.Keys.{key_cmp, from, IsNotBefore}
 use Rattle.tl_pieces.specs.Slots.{passes, some_wanted, first}
 use Rattle.tl_pieces.specs.Pieces.{Pass, Piece, exit_of, opening_of, exit_before, IsGood, Follows, IsWanted, IsFree, ChainsFrom, NoneIsWanted, IsFirst}
 use Rattle.tl_pieces.specs.Marks.{piece_of, shown, passed, left, IsExact, IsMarked}
@@ -129,3 +132,21 @@ module _ {S R : Type 0} where
           | true ↦ λ h. inl (means m l e.0 e.1 is.0 h, refl)
           | false ↦ λ h. inr (means_not m l e.0 e.1 is.0 h, first_marked m (left e) es is.1)
         ] refl
+
+    -- the same from a key on
+    pub next_marked : (from_key : PieceKey) (m : Mark) (l : Option (ℕ × Option S)) (es : List (PieceKey × Slot S R)) → IsMarked same os l es → IsFirst (λ l k p. IsNotBefore from_key k × Means m l k p) l (shown es) (first m (from from_key es))
+    next_marked q m l [] is = refl
+    next_marked q m l (e ∷ es) is =
+        elim (is_le (key_cmp q e.0)) as (λ b. is_le (key_cmp q e.0) ≡ b → IsFirst (λ l k p. IsNotBefore q k × Means m l k p) l (shown (e ∷ es)) (first m (cond (b && not false) (e ∷ from q es) (from q es)))) [
+          | true ↦ λ low.
+              elim (passes m e.1) as (λ b. passes m e.1 ≡ b → IsFirst (λ l k p. IsNotBefore q k × Means m l k p) l (shown (e ∷ es)) (cond b (Some e.0) (first m (from q es)))) [
+                | true ↦ λ h. inl ((low, means m l e.0 e.1 is.0 h), refl)
+                | false ↦ λ h. inr (λ both. means_not m l e.0 e.1 is.0 h both.1, next_marked q m (left e) es is.1)
+              ] refl
+          | false ↦ λ high. inr (λ both. true≢false (sym both.0 ∙ high), next_marked q m (left e) es is.1)
+        ] refl
+
+    -- each piece is of an owner
+    pub owned_marked : (l : Option (ℕ × Option S)) (es : List (PieceKey × Slot S R)) → IsMarked same os l es → AllByRecursion (λ e. is_some (opening_of e.0.owner os) ≡ true) (shown es)
+    owned_marked l [] is = tt
+    owned_marked l (e ∷ es) is = (is.0.owner, owned_marked (left e) es is.1)

@@ -1,5 +1,5 @@
 -- What changes of slots show.
-use Rattle.std.proofs.Common.{◌≡◌, ℕ, Bool, true, false, not, ◌&&◌, ◌==◌, cond, List, [], ◌∷◌, refl, ap, ◌∙◌, subst, Less, Equal, Greater, Option, Some, None}
+use Rattle.std.proofs.Common.{◌≡◌, ℕ, suc, length, Bool, true, false, not, ◌&&◌, ◌==◌, cond, List, [], ◌∷◌, refl, ap, ◌∙◌, subst, Less, Equal, Greater, Option, Some, None}
 use Rattle.std.specs.Prelude.{is_some}
 use Rattle.std.specs.Ordering.{match_ordering, is_le}
 use Rattle.std.specs.Option.{option_map, option_or}
@@ -12,8 +12,8 @@ use Rattle.tl_pieces.specs.declared.slot.Stored.{Stored}
 use Rattle.tl_pieces.specs.declared.slot.Change.TheVariants as to
 use Rattle.tl_pieces.specs.Keys.{key_cmp, value_at, change, before, Rises}
 use Rattle.tl_pieces.specs.Slots.{changed, blank, last_result}
-use Rattle.tl_pieces.specs.Pieces.{Piece, Board, empty, with_live, with_result, with_pieces, exit_of, last_exit}
-use Rattle.tl_pieces.specs.Marks.{piece_of, pass_of, passed, shown}
+use Rattle.tl_pieces.specs.Pieces.{Piece, Board, result_of, empty, with_live, with_result, with_pieces, exit_of, last_exit}
+use Rattle.tl_pieces.specs.Marks.{piece_of, pass_of, pass_at, passed, shown}
 
 module _ {S R : Type 0} (k : PieceKey) where
   shown_change : (f : Slot S R → Slot S R) (g : Piece S R → Piece S R) → ((v : Slot S R) → piece_of (f v) ≡ g (piece_of v)) → (es : List (PieceKey × Slot S R)) → shown (change k f es) ≡ change k g (shown es)
@@ -121,3 +121,15 @@ module _ {S R : Type 0} where
         | true ↦ ap (λ t. (e.0, piece_of e.1) ∷ t) (before_shown k es)
         | false ↦ before_shown k es
       ]
+
+pub count_shown : {S R : Type 0} (es : List (PieceKey × Slot S R)) → length es ≡ length (shown es)
+count_shown [] = refl
+count_shown (e ∷ es) = ap suc (count_shown es)
+
+pub pass_shown : {S R : Type 0} (x : Option (Stored S R)) → option_map pass_of x ≡ passed x
+pass_shown None = refl
+pass_shown (Some r) = refl
+
+pub result_shown : {S R : Type 0} (o : Option (Slot S R)) → result_of (option_map piece_of o) ≡ pass_at o
+result_shown None = refl
+result_shown (Some s) = refl

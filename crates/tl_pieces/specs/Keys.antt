@@ -1,6 +1,6 @@
 -- Keys of pieces, and lists of entries in the order of their keys.
-use Rattle.std.specs.Prelude.{◌≡◌, ℕ, ◌==◌, cond, List, [], ◌∷◌, ◌++◌, Option, Some, None}
-use Rattle.std.specs.Ordering.{nat_cmp, ordering_then}
+use Rattle.std.specs.Prelude.{◌≡◌, ℕ, true, ◌==◌, cond, List, [], ◌∷◌, ◌++◌, Option, Some, None}
+use Rattle.std.specs.Ordering.{nat_cmp, ordering_then, is_le}
 use Rattle.std.specs.declared.cmp.Ordering.{Ordering}
 use Rattle.std.specs.BTreeMap.{is_at}
 use Rattle.std.specs.Map.{keys_of, lookup}
@@ -12,6 +12,10 @@ use Rattle.tl_pieces.specs.declared.key.PieceKey.{PieceKey}
 -- by owner, and then by window
 abbrev pub key_cmp : PieceKey → PieceKey → Ordering
 key_cmp x y = ordering_then (nat_cmp x.owner y.owner) (nat_cmp x.window y.window)
+
+-- the second key is the first one, or stands behind it
+abbrev pub IsNotBefore : PieceKey → PieceKey → Type 0
+IsNotBefore from k = is_le (key_cmp from k) ≡ true
 
 module _ {V : Type 0} where
   -- the value of the key, if there is one

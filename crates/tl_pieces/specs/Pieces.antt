@@ -1,12 +1,13 @@
 -- What a map of pieces shows, and which pieces are wanted.
-use Rattle.std.specs.Prelude.{◌≡◌, ℕ, ◌⊎◌, ◌==◌, cond, List, [], ◌∷◌, Option, Some, None, ⊤}
+use Rattle.std.specs.Prelude.{◌≡◌, ℕ, ◌⊎◌, ◌==◌, cond, List, [], ◌∷◌, Option, Some, None, is_some, true, ⊤}
 use Rattle.std.specs.Option.{option_or}
 use Rattle.std.specs.Ordering.{nat_cmp}
 use Rattle.std.specs.BTreeMap.{is_at}
+use Rattle.std.specs.List.{AllByRecursion}
 use Rattle.std.specs.List.Sorted.{IsStrictlySortedBy}
 use Rattle.std.specs.Map.{keys_of, lookup}
 use Rattle.tl_pieces.specs.declared.key.PieceKey.{PieceKey}
-use Rattle.tl_pieces.specs.Keys.{before, value_at}
+use Rattle.tl_pieces.specs.Keys.{before, value_at, Rises, IsNotBefore}
 
 -- a result of a window: the state that it was checked from, the state after it, and its rows
 pub record Pass (S R : Type 0) : Type 0 where
@@ -70,6 +71,12 @@ module _ {S R : Type 0} where
 
   abbrev pub piece_at : PieceKey → Board S R → Option (Piece S R)
   piece_at k b = value_at k b.pieces
+
+  -- what every board is: owners and keys rise, and each piece is of an owner
+  pub record IsBoard (b : Board S R) : Type 0 where
+    pub owners : OwnersRise b.openings
+    pub keys : Rises b.pieces
+    pub owned : AllByRecursion (λ e. is_some (opening_of e.0.owner b.openings) ≡ true) b.pieces
 
   -- the pieces of an owner
   abbrev pub owned_by : ℕ → List (PieceKey × Piece S R) → List (PieceKey × Piece S R)
@@ -143,6 +150,13 @@ module _ {S R : Type 0} where
 
     abbrev pub IsFirstFree : Board S R → Option PieceKey → Type 0
     IsFirstFree b r = IsFirst (IsFree b.openings) None b.pieces r
+
+    -- the same from a key on
+    abbrev pub IsNextWanted : Board S R → PieceKey → Option PieceKey → Type 0
+    IsNextWanted b from r = IsFirst (λ l k p. IsNotBefore from k × IsWanted b.openings l k p) None b.pieces r
+
+    abbrev pub IsNextFree : Board S R → PieceKey → Option PieceKey → Type 0
+    IsNextFree b from r = IsFirst (λ l k p. IsNotBefore from k × IsFree b.openings l k p) None b.pieces r
 
   -- the exit of the last piece of an owner that has a result
   abbrev pub last_exit : ℕ → List (PieceKey × Piece S R) → Option S

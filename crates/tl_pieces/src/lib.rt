@@ -8,7 +8,9 @@ mod piece_map;
 mod slot;
 mod slots;
 mod tally;
+mod walk;
 
 pub use key::PieceKey;
 pub use piece_map::PieceMap;
 pub use slot::Stored;
+pub use walk::{PieceRef, Pieces};

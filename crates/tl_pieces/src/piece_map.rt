@@ -1,6 +1,6 @@
 //! The map.
 
-ghost use Rattle.std.specs.Prelude.{◌≡◌, [], length, Some, None, OnOk, OnErr, is_some, true};
+ghost use Rattle.std.specs.Prelude.{◌≡◌, ◌==◌, [], length, Some, None, OnOk, OnErr, is_some, true};
 ghost use Rattle.std.specs.Bool.{Decides};
 ghost use Rattle.std.specs.Arc.{arc_value};
 ghost use Rattle.std.specs.Option.{option_map};
@@ -8,14 +8,16 @@ ghost use Rattle.std.specs.Ordering.{nat_cmp};
 ghost use Rattle.std.specs.BTreeMap.{insert_entry, is_at};
 ghost use Rattle.std.specs.Map.{remove_entry};
 ghost use Rattle.tl_pieces.specs.Keys.{key_cmp, change};
-ghost use Rattle.tl_pieces.specs.Pieces.{empty, with_result, with_live, with_pieces, with_openings, piece_at, opening_of, live_of, beats_of, entry_for, IsSettled, HasNoneWanted, EachOwnerIsChained, IsFirstWanted, IsFirstFree};
+ghost use Rattle.tl_pieces.specs.Pieces.{empty, with_result, with_live, with_pieces, with_openings, piece_at, opening_of, result_of, live_of, beats_of, entry_for, IsBoard, IsSettled, HasNoneWanted, EachOwnerIsChained, IsFirstWanted, IsFirstFree, IsNextWanted, IsNextFree};
 ghost use Rattle.tl_pieces.specs.Marks.{pass_of};
+ghost use Rattle.tl_pieces.specs.Walk.{pieces_left};
 
 use crate::key::PieceKey;
 use crate::marks::{exit, judge, judge_next};
 use crate::openings::Openings;
-use crate::slot::{Change, Stored};
+use crate::slot::{Change, Mark, Stored};
 use crate::slots::Slots;
+use crate::walk::Pieces;
 use std::alloc::{AllocError, Global};
 use std::marker::Model;
 use std::sync::Arc;
@@ -79,6 +81,30 @@ impl<S: Same + Drop, R: Drop> PieceMap<S, R> {
         self.openings.get(owner)
     }
 
+    /// How many pieces there are.
+    pub fn len(&self) -> usize
+        ensures exact { result ≡ length self.now.pieces }
+        // The keys rise, and each is of an owner; so do the owners.
+        ensures kept { IsBoard self.now }
+    {
+        let _ = self.openings.len();
+        self.slots.len()
+    }
+
+    /// Whether there are no pieces.
+    pub fn is_empty(&self) -> bool
+        ensures { result ≡ (length self.now.pieces == 0) }
+    {
+        self.len() == 0
+    }
+
+    /// All pieces, in the order of their keys.
+    pub fn iter(&self) -> Pieces<'_, S, R>
+        ensures { pieces_left result ≡ self.now.pieces }
+    {
+        self.slots.walk()
+    }
+
     /// Whether there is a piece of the key.
     pub fn contains(&self, key: PieceKey) -> bool
         ensures { result ≡ is_some (piece_at key self.now) }
@@ -93,6 +119,16 @@ impl<S: Same + Drop, R: Drop> PieceMap<S, R> {
         match self.slots.get(key) {
             Some(slot) => slot.beats,
             None => 0,
+        }
+    }
+
+    /// The result of a piece.
+    pub fn result(&self, key: PieceKey) -> Option<&Stored<S, R>>
+        ensures { option_map (λ r. pass_of r.now) result ≡ result_of (piece_at key self.now) }
+    {
+        match self.slots.get(key) {
+            Some(slot) => slot.result.as_ref(),
+            None => None,
         }
     }
 
@@ -130,6 +166,20 @@ impl<S: Same + Drop, R: Drop> PieceMap<S, R> {
         ensures same { self.new ≡ self.old }
     {
         self.slots.first_free()
+    }
+
+    /// The first piece from the key on that is wanted, whatever its ticket. It costs a step for each piece from the key to it.
+    pub fn next_wanted(&self, key: PieceKey) -> Option<PieceKey>
+        ensures { IsNextWanted S.same self.now key result }
+    {
+        self.slots.first_at_least(Mark::Wanted, key)
+    }
+
+    /// The first piece from the key on that is wanted and has no live ticket. It costs a step for each piece from the key to it.
+    pub fn next_free(&self, key: PieceKey) -> Option<PieceKey>
+        ensures { IsNextFree S.same self.now key result }
+    {
+        self.slots.first_at_least(Mark::Free, key)
     }
 
     /// What a job for the key is to start from: the exit of the nearest earlier window of its owner that has a result, or else

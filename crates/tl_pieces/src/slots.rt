@@ -1,16 +1,19 @@
 //! Slots of pieces by key, with tallies of those that are wanted and of those that are free. Nothing here knows what is wanted.
 
-ghost use Rattle.std.specs.Prelude.{◌≡◌, ◌++◌, [], not, Some, None, OnOk, OnErr, is_some, MatchOption};
+ghost use Rattle.std.specs.Prelude.{◌≡◌, ◌++◌, [], length, not, Some, None, OnOk, OnErr, is_some, MatchOption};
 ghost use Rattle.std.specs.Option.{option_map};
 ghost use Rattle.std.specs.BTreeMap.{insert_entry, is_at};
 ghost use Rattle.std.specs.Map.{remove_entry};
 ghost use Rattle.tl_pieces.specs.declared.slot.Mark.TheVariants as mark;
 ghost use Rattle.tl_pieces.specs.Keys.{key_cmp, value_at, change, before, after, from, first_key, if_owned, EndsWith, Rises};
+ghost use Rattle.tl_pieces.specs.Marks.{shown};
+ghost use Rattle.tl_pieces.specs.Walk.{pieces_left};
 ghost use Rattle.tl_pieces.specs.Slots.{blank, changed, turn, first, found, last_result, some_wanted};
 
 use crate::key::PieceKey;
 use crate::slot::{Change, Mark, Slot, Stored};
 use crate::tally::Tally;
+use crate::walk::Pieces;
 use std::alloc::{AllocError, Global};
 use std::collections::BTreeMap;
 use std::marker::Model;
@@ -49,6 +52,21 @@ impl<S, R> Slots<S, R> {
         }
     }
 
+    /// How many slots there are.
+    pub(crate) fn len(&self) -> usize
+        ensures exact { result ≡ length self.now }
+        ensures order { Rises self.now }
+    {
+        self.map.len()
+    }
+
+    /// A walk over all pieces.
+    pub(crate) fn walk(&self) -> Pieces<'_, S, R>
+        ensures { pieces_left result ≡ shown self.now }
+    {
+        Pieces::new(self.map.iter())
+    }
+
     /// Whether none is wanted.
     pub(crate) fn none_wanted(&self) -> bool
         ensures none { result ≡ not (some_wanted self.now) }
@@ -76,6 +94,13 @@ impl<S, R> Slots<S, R> {
         let _ = self.map.len();
         self.free.cursor = find(&self.map, Mark::Free, self.free);
         self.free.cursor
+    }
+
+    /// The first from the key on that has the mark.
+    pub(crate) fn first_at_least(&self, mark: Mark, key: PieceKey) -> Option<PieceKey>
+        ensures { result ≡ first mark (from key self.now) }
+    {
+        first_from(&self.map, mark, key)
     }
 
     /// Whether the key has a slot.

@@ -1,31 +1,20 @@
 -- The pieces of one owner, among those of all.
-use Rattle.std.proofs.Common.{◌≡◌, ℕ, ◌≤◌, ◌<◌, ◌==◌, true, false, cond, List, [], ◌∷◌, refl, sym, ap, ◌∙◌, subst, arith, Less, Option, Some, None, eqb-true}
+use Rattle.std.proofs.Common.{◌≡◌, ℕ, ◌≤◌, ◌<◌, ◌==◌, true, false, cond, List, [], ◌∷◌, refl, sym, ap, ◌∙◌, subst, arith, Option, Some, None, eqb-true}
 use Rattle.std.proofs.lemmas.Bool.Decides.{nat_tests}
 use Rattle.std.specs.Prelude.{⊤}
 use Rattle.std.specs.List.{AllByRecursion}
 use Rattle.std.specs.Map.{keys_of}
 use Rattle.std.proofs.lemmas.Map.Keys.{sorted_head, sorted_tail}
 use Rattle.tl_pieces.specs.declared.key.PieceKey.{PieceKey}
-use Rattle.tl_pieces.specs.Keys.{key_cmp, Rises}
-use Rattle.tl_pieces.specs.Pieces.{Pass, Piece, exit_of, opening_of, exit_before, left_by, Follows, ChainsFrom, Links, IsChain, owned_by}
-use Rattle.tl_pieces.proofs.OrderLemmas.{owner_ge}
+use Rattle.tl_pieces.specs.Keys.{key_cmp, owned_by, Rises}
+use Rattle.tl_pieces.specs.Pieces.{Pass, Piece, exit_of, opening_of, exit_before, left_by, Follows, ChainsFrom, Links, IsChain}
+use Rattle.tl_pieces.proofs.OwnerLemmas.{owners_later, none_left}
 
 module _ {S R : Type 0} (same : S → S → Type 0) (os : List (ℕ × S)) (o : ℕ) where
   -- no later key has an owner before that of the last
   abbrev IsPast : Option (ℕ × Option S) → List (PieceKey × Piece S R) → Type 0
   IsPast None es = ⊤
   IsPast (Some l) es = AllByRecursion (λ (k : PieceKey). l.0 ≤ k.owner) (keys_of es)
-
-  later : (k : PieceKey) (es : List (PieceKey × Piece S R)) → AllByRecursion (λ y. key_cmp k y ≡ Less) (keys_of es) → AllByRecursion (λ (y : PieceKey). k.owner ≤ y.owner) (keys_of es)
-  later k [] a = tt
-  later k (e ∷ es) a = (owner_ge e.0 k a.0, later k es a.1)
-
-  none_left : (m : ℕ) → o < m → (es : List (PieceKey × Piece S R)) → AllByRecursion (λ (y : PieceKey). m ≤ y.owner) (keys_of es) → owned_by o es ≡ []
-  none_left m low [] a = refl
-  none_left m low (e ∷ es) a =
-      let le : m ≤ e.0.owner = a.0 in
-      let no : (e.0.owner == o) ≡ false = grind (arith, nat_tests) in
-      ap (λ b. cond b (e ∷ owned_by o es) (owned_by o es)) no ∙ none_left m low es a.1
 
   linked : (x : S) (b : Option S) (r : Option (Pass S R)) (P : S → Type 0) → b ≡ Some x → Follows same b r → ((p : Pass S R) → r ≡ Some p → P p.exit) → Links same x r P
   linked x None r P h f g = cc
@@ -45,7 +34,7 @@ module _ {S R : Type 0} (same : S → S → Type 0) (os : List (ℕ × S)) (o : 
       rest = sorted_tail key_cmp e.0 (keys_of es) s
 
       past : AllByRecursion (λ (y : PieceKey). e.0.owner ≤ y.owner) (keys_of es)
-      past = later e.0 es (sorted_head key_cmp e.0 (keys_of es) s)
+      past = owners_later e.0 es (sorted_head key_cmp e.0 (keys_of es) s)
 
       opens : (e.0.owner == o) ≡ false → opening_of o os ≡ Some x → cond (e.0.owner == o) (exit_of e.1.result) (opening_of o os) ≡ Some x
       opens f is = ap (λ b. cond b (exit_of e.1.result) (opening_of o os)) f ∙ is
@@ -58,6 +47,6 @@ module _ {S R : Type 0} (same : S → S → Type 0) (os : List (ℕ × S)) (o : 
             | true ↦ λ t _.
                 let le : l.0 ≤ e.0.owner = p.0 in
                 let low : o < e.0.owner = grind (arith, nat_tests) in
-                subst (IsChain same x) (sym (none_left e.0.owner low es past)) tt
+                subst (IsChain same x) (sym (none_left o e.0.owner low es past)) tt
             | false ↦ λ _ g. go (opens f g)
           ] refl is

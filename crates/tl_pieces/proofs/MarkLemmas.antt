@@ -1,4 +1,8 @@
 -- Marks under changes of slots.
+use Rattle.tl_pieces.specs.Pieces.{Piece, opening_of, exit_of, exit_before, IsGood}
+use Rattle.tl_pieces.specs.Marks.{shown, passed, left, ends, pass_at, IsExact, IsMarked, IsMarkedBehind, IsMarkedBut}
+use Rattle.std.specs.List.{AllByRecursion}
+use Rattle.std.specs.Ordering.{nat_cmp}
 use Rattle.std.proofs.Common.{◌≡◌, ℕ, ◌≤◌, ◌<◌, Bool, true, false, not, cond, List, [], ◌∷◌, ◌++◌, refl, sym, ap, ◌∙◌, subst, arith, append_assoc, ◌==◌, Option, Some, None}
 use Rattle.std.proofs.lemmas.Bool.Decides.{nat_tests}
 use Rattle.std.specs.Prelude.{is_some, ⊤}
@@ -11,8 +15,7 @@ use Rattle.tl_pieces.specs.declared.slot.Stored.{Stored}
 use Rattle.tl_pieces.specs.declared.slot.Change.TheVariants as to
 use Rattle.tl_pieces.specs.Keys.{key_cmp, value_at, change, before, after, first_key, if_owned, Rises, EndsWith}
 use Rattle.tl_pieces.specs.Slots.{changed, blank}
-use Rattle.tl_pieces.specs.Pieces.{opening_of, exit_of, exit_before, IsGood}
-use Rattle.tl_pieces.specs.Marks.{passed, left, ends, pass_at, IsExact, IsMarked, IsMarkedBehind, IsMarkedBut}
+use Rattle.tl_pieces.proofs.OpeningLemmas.{opening_take}
 use Rattle.tl_pieces.proofs.OrderLemmas.{owner_le, owner_ge}
 use Rattle.tl_pieces.proofs.PlaceLemmas.{Above, Below, split, below_of, above_of, place_before, place_change, place_remove, place_lookup, remove_insert, lookup_insert}
 
@@ -210,6 +213,23 @@ module _ {S R : Type 0} (same : S → S → Type 0) (os : List (ℕ × S)) where
       at : (l : Option (ℕ × Option S)) (o : ℕ) → is_some (opening_of o os) ≡ true → exit_before ps l o ≡ exit_before os l o
       at None o owner = h o owner
       at (Some l) o owner = ap (cond (l.0 == o) l.1) (h o owner)
+
+  -- an owner without pieces goes
+  pub marked_without : (o : ℕ) (l : Option (ℕ × Option S)) (es : List (PieceKey × Slot S R)) → AllByRecursion (λ (e : PieceKey × Piece S R). (e.0.owner == o) ≡ false) (shown es) → IsMarked same os l es
+      → IsMarked same (remove_entry (is_at (nat_cmp o)) os) l es
+  marked_without o l [] a m = tt
+  marked_without o l (e ∷ es) a m =
+      let kept : opening_of e.0.owner (remove_entry (is_at (nat_cmp o)) os) ≡ opening_of e.0.owner os = opening_take o e.0.owner os a.0 in (
+        record {
+          owner = ap is_some kept ∙ m.0.owner;
+          mark = subst (λ (b : Option S). Decides (not e.1.wanted) (IsGood same b (passed e.1.result))) (sym (at l kept)) m.0.mark;
+        },
+        marked_without o (left e) es a.1 m.1,
+      )
+    where
+      at : (l : Option (ℕ × Option S)) → opening_of e.0.owner (remove_entry (is_at (nat_cmp o)) os) ≡ opening_of e.0.owner os → exit_before (remove_entry (is_at (nat_cmp o)) os) l e.0.owner ≡ exit_before os l e.0.owner
+      at None h = h
+      at (Some l) h = ap (cond (l.0 == e.0.owner) l.1) h
 
 -- ---- the exit before a key, from the last piece before it
 

@@ -1,5 +1,6 @@
 -- The opening states that are shown.
-use Rattle.std.proofs.Common.{◌≡◌, ℕ, suc, true, false, cond, List, [], ◌∷◌, refl, sym, ap, ◌∙◌, subst, Less, Equal, Greater, Option, Some, None, length, true≢false}
+use Rattle.std.proofs.Common.{◌==◌, arith, ◌≡◌, ℕ, suc, true, false, cond, List, [], ◌∷◌, refl, sym, ap, ◌∙◌, subst, Less, Equal, Greater, Option, Some, None, length, true≢false}
+use Rattle.std.proofs.lemmas.Bool.Decides.{nat_tests}
 use Rattle.std.specs.Prelude.{is_some}
 use Rattle.std.specs.Arc.{arc_value}
 use Rattle.std.specs.declared.sync.Arc.{Arc}
@@ -77,3 +78,25 @@ module _ {S : Type 0} where
   -- the others keep their opening states
   pub opening_put : (o : ℕ) (s : S) (os : List (ℕ × S)) → opening_of o os ≡ None → (q : ℕ) → is_some (opening_of q os) ≡ true → opening_of q (insert_entry nat_cmp os o s) ≡ opening_of q os
   opening_put o s os none q some = put_apart o q s os none (differ o q os none some)
+
+-- ---- an owner goes
+
+apart_at : (q o : ℕ) → (q == o) ≡ false → is_at (nat_cmp q) o ≡ false
+apart_at q o apart =
+    elim (nat_cmp q o) as (λ c. nat_cmp q o ≡ c → is_eq c ≡ false) [
+      | Less ↦ λ _. refl
+      | Equal ↦ λ e. let is : q ≡ o = exact_unsigned q o e in grind (arith, nat_tests)
+      | Greater ↦ λ _. refl
+    ] refl
+
+module _ {S : Type 0} where
+  -- the others keep their opening states
+  pub opening_take : (o q : ℕ) (os : List (ℕ × S)) → (q == o) ≡ false → opening_of q (remove_entry (is_at (nat_cmp o)) os) ≡ opening_of q os
+  opening_take o q [] apart = refl
+  opening_take o q (e ∷ os) apart =
+      elim (is_at (nat_cmp o) e.0) as (λ b. is_at (nat_cmp o) e.0 ≡ b → opening_of q (cond b os (e ∷ remove_entry (is_at (nat_cmp o)) os)) ≡ opening_of q (e ∷ os)) [
+        | true ↦ λ t.
+            let is : o ≡ e.0 = exact_unsigned o e.0 (is_equal (nat_cmp o e.0) t) in
+            sym (ap (λ b. cond b (Some e.1) (opening_of q os)) (ap (is_at (nat_cmp q)) (sym is) ∙ apart_at q o apart))
+        | false ↦ λ _. ap (cond (is_at (nat_cmp q) e.0) (Some e.1)) (opening_take o q os apart)
+      ] refl

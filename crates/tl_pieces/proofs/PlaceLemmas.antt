@@ -30,6 +30,10 @@ module _ {V : Type 0} (k : PieceKey) where
   before_over [] ys b = refl
   before_over (x ∷ xs) ys b = ap (λ o. cond (true && not (is_le o)) (x ∷ before k (xs ++ ys)) (before k (xs ++ ys))) b.0 ∙ ap (λ t. x ∷ t) (before_over xs ys b.1)
 
+  after_over : (xs ys : List (PieceKey × V)) → Below xs → after k (xs ++ ys) ≡ after k ys
+  after_over [] ys b = refl
+  after_over (x ∷ xs) ys b = ap (λ o. cond (is_lt o && not false) (x ∷ after k (xs ++ ys)) (after k (xs ++ ys))) b.0 ∙ after_over xs ys b.1
+
   change_over : (f : V → V) (xs ys : List (PieceKey × V)) → Below xs → change k f (xs ++ ys) ≡ xs ++ change k f ys
   change_over f [] ys b = refl
   change_over f (x ∷ xs) ys b = ap (λ o. cond (is_eq o) ((x.0, f x.1) ∷ (xs ++ ys)) (x ∷ change k f (xs ++ ys))) b.0 ∙ ap (λ t. x ∷ t) (change_over f xs ys b.1)
@@ -66,6 +70,9 @@ module _ {V : Type 0} (k : PieceKey) where
           nil : (zs : List (PieceKey × V)) → zs ++ [] ≡ zs
           nil [] = refl
           nil (z ∷ zs) = ap (λ t. z ∷ t) (nil zs)
+
+      pub place_after : after k (xs ++ (k, v) ∷ ys) ≡ ys
+      place_after = after_over xs ((k, v) ∷ ys) (below_of xs ys s) ∙ ap (λ o. cond (is_lt o && not false) ((k, v) ∷ after k ys) (after k ys)) (key_self k) ∙ after_above ys (above_of xs ys s)
 
       pub place_change : (f : V → V) → change k f (xs ++ (k, v) ∷ ys) ≡ xs ++ (k, f v) ∷ ys
       place_change f = change_over f xs ((k, v) ∷ ys) (below_of xs ys s) ∙ ap (λ o. xs ++ cond (is_eq o) ((k, f v) ∷ ys) ((k, v) ∷ change k f ys)) (key_self k)

@@ -1,7 +1,7 @@
 -- What changes of slots show.
 use Rattle.std.proofs.Common.{◌≡◌, ℕ, suc, length, Bool, true, false, not, ◌&&◌, ◌==◌, cond, List, [], ◌∷◌, refl, ap, ◌∙◌, subst, Less, Equal, Greater, Option, Some, None}
 use Rattle.std.specs.Prelude.{is_some}
-use Rattle.std.specs.Ordering.{match_ordering, is_le}
+use Rattle.std.specs.Ordering.{match_ordering, is_le, is_lt}
 use Rattle.std.specs.Option.{option_map, option_or}
 use Rattle.std.specs.BTreeMap.{is_at, insert_entry}
 use Rattle.std.specs.List.Sorted.{IsStrictlySortedBy}
@@ -10,7 +10,7 @@ use Rattle.tl_pieces.specs.declared.key.PieceKey.{PieceKey}
 use Rattle.tl_pieces.specs.declared.slot.Slot.{Slot}
 use Rattle.tl_pieces.specs.declared.slot.Stored.{Stored}
 use Rattle.tl_pieces.specs.declared.slot.Change.TheVariants as to
-use Rattle.tl_pieces.specs.Keys.{key_cmp, value_at, change, before, Rises}
+use Rattle.tl_pieces.specs.Keys.{key_cmp, value_at, change, before, after, first_key, owned_by, Rises}
 use Rattle.tl_pieces.specs.Slots.{changed, blank, last_result}
 use Rattle.tl_pieces.specs.Pieces.{Piece, Board, result_of, empty, with_live, with_result, with_pieces, exit_of, last_exit}
 use Rattle.tl_pieces.specs.Marks.{piece_of, pass_of, pass_at, passed, shown}
@@ -133,3 +133,20 @@ pass_shown (Some r) = refl
 pub result_shown : {S R : Type 0} (o : Option (Slot S R)) → result_of (option_map piece_of o) ≡ pass_at o
 result_shown None = refl
 result_shown (Some s) = refl
+
+-- the first of an owner
+pub first_owned_shown : {S R : Type 0} (o : ℕ) (es : List (PieceKey × Slot S R)) → first_key (owned_by o es) ≡ first_key (owned_by o (shown es))
+first_owned_shown o [] = refl
+first_owned_shown o (e ∷ es) =
+    elim (e.0.owner == o) as (λ b. first_key (cond b (e ∷ owned_by o es) (owned_by o es)) ≡ first_key (cond b ((e.0, piece_of e.1) ∷ owned_by o (shown es)) (owned_by o (shown es)))) [
+      | true ↦ refl
+      | false ↦ first_owned_shown o es
+    ]
+
+pub after_shown : {S R : Type 0} (k : PieceKey) (es : List (PieceKey × Slot S R)) → shown (after k es) ≡ after k (shown es)
+after_shown k [] = refl
+after_shown k (e ∷ es) =
+    elim (is_lt (key_cmp k e.0) && not false) as (λ b. shown (cond b (e ∷ after k es) (after k es)) ≡ cond b ((e.0, piece_of e.1) ∷ after k (shown es)) (after k (shown es))) [
+      | true ↦ ap (λ t. (e.0, piece_of e.1) ∷ t) (after_shown k es)
+      | false ↦ after_shown k es
+    ]

@@ -41,6 +41,15 @@ module _ {V : Type 0} where
   first_key [] = None
   first_key (e ∷ es) = Some e.0
 
+  -- the entries of an owner, and those of all others
+  abbrev pub owned_by : ℕ → List (PieceKey × V) → List (PieceKey × V)
+  owned_by o [] = []
+  owned_by o (e ∷ es) = cond (e.0.owner == o) (e ∷ owned_by o es) (owned_by o es)
+
+  abbrev pub without : ℕ → List (PieceKey × V) → List (PieceKey × V)
+  without o [] = []
+  without o (e ∷ es) = cond (e.0.owner == o) (without o es) (e ∷ without o es)
+
   -- the last entry of a list; None: there is none
   abbrev pub EndsWith : List (PieceKey × V) → Option (PieceKey × V) → Type 0
   EndsWith es None = es ≡ []
@@ -54,3 +63,7 @@ module _ {V : Type 0} where
 abbrev pub if_owned : ℕ → Option PieceKey → Option PieceKey
 if_owned o None = None
 if_owned o (Some k) = cond (k.owner == o) (Some k) None
+
+-- the first key that an owner may have
+abbrev pub start_of : ℕ → PieceKey
+start_of o = record { owner = o; window = 0 }

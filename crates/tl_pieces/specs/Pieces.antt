@@ -1,13 +1,13 @@
 -- What a map of pieces shows, and which pieces are wanted.
-use Rattle.std.specs.Prelude.{◌≡◌, ℕ, ◌⊎◌, ◌==◌, cond, List, [], ◌∷◌, Option, Some, None, is_some, true, ⊤}
+use Rattle.std.specs.Prelude.{◌≡◌, ℕ, ◌⊎◌, ◌==◌, cond, List, [], ◌∷◌, Option, Some, None, is_some, true, map, ⊤}
 use Rattle.std.specs.Option.{option_or}
 use Rattle.std.specs.Ordering.{nat_cmp}
 use Rattle.std.specs.BTreeMap.{is_at}
 use Rattle.std.specs.List.{AllByRecursion}
 use Rattle.std.specs.List.Sorted.{IsStrictlySortedBy}
-use Rattle.std.specs.Map.{keys_of, lookup}
+use Rattle.std.specs.Map.{keys_of, lookup, remove_entry}
 use Rattle.tl_pieces.specs.declared.key.PieceKey.{PieceKey}
-use Rattle.tl_pieces.specs.Keys.{before, value_at, Rises, IsNotBefore}
+use Rattle.tl_pieces.specs.Keys.{before, value_at, owned_by, without, Rises, IsNotBefore}
 
 -- a result of a window: the state that it was checked from, the state after it, and its rows
 pub record Pass (S R : Type 0) : Type 0 where
@@ -78,10 +78,13 @@ module _ {S R : Type 0} where
     pub keys : Rises b.pieces
     pub owned : AllByRecursion (λ e. is_some (opening_of e.0.owner b.openings) ≡ true) b.pieces
 
-  -- the pieces of an owner
-  abbrev pub owned_by : ℕ → List (PieceKey × Piece S R) → List (PieceKey × Piece S R)
-  owned_by o [] = []
-  owned_by o (e ∷ es) = cond (e.0.owner == o) (e ∷ owned_by o es) (owned_by o es)
+  -- all pieces of an owner lose their results and their live tickets
+  abbrev pub touched_all : ℕ → List (PieceKey × Piece S R) → List (PieceKey × Piece S R)
+  touched_all o es = map (λ e. (e.0, cond (e.0.owner == o) (empty e.1.beats) e.1)) es
+
+  -- an owner goes with all its pieces
+  abbrev pub without_owner : ℕ → Board S R → Board S R
+  without_owner o b = record { openings = remove_entry (is_at (nat_cmp o)) b.openings; pieces = without o b.pieces }
 
   abbrev pub exit_of : Option (Pass S R) → Option S
   exit_of None = None

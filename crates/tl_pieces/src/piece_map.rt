@@ -7,8 +7,8 @@ ghost use Rattle.std.specs.Option.{option_map};
 ghost use Rattle.std.specs.Ordering.{nat_cmp};
 ghost use Rattle.std.specs.BTreeMap.{insert_entry, is_at};
 ghost use Rattle.std.specs.Map.{remove_entry};
-ghost use Rattle.tl_pieces.specs.Keys.{key_cmp, change};
-ghost use Rattle.tl_pieces.specs.Pieces.{empty, with_result, with_live, with_pieces, with_openings, piece_at, opening_of, result_of, live_of, beats_of, entry_for, IsBoard, IsSettled, HasNoneWanted, EachOwnerIsChained, IsFirstWanted, IsFirstFree, IsNextWanted, IsNextFree};
+ghost use Rattle.tl_pieces.specs.Keys.{key_cmp, change, after, first_key, owned_by, without, Rises};
+ghost use Rattle.tl_pieces.specs.Pieces.{empty, with_result, with_live, with_pieces, with_openings, without_owner, touched_all, piece_at, opening_of, result_of, live_of, beats_of, entry_for, IsBoard, IsSettled, HasNoneWanted, EachOwnerIsChained, IsFirstWanted, IsFirstFree, IsNextWanted, IsNextFree};
 ghost use Rattle.tl_pieces.specs.Marks.{pass_of};
 ghost use Rattle.tl_pieces.specs.Walk.{pieces_left};
 
@@ -67,6 +67,23 @@ impl<S: Same + Drop, R: Drop> PieceMap<S, R> {
         Ok(())
     }
 
+    /// Takes out an owner, if it is there, with all its pieces. It costs no more than that owner's pieces.
+    pub fn remove_owner(&mut self, owner: u32)
+        ensures { self.new ≡ without_owner owner self.old }
+    {
+        self.clear(owner);
+        self.openings.take(owner);
+    }
+
+    /// Takes out all pieces of an owner. It costs no more than these.
+    pub fn clear(&mut self, owner: u32)
+        ensures { self.new ≡ with_pieces self.old (without owner self.old.pieces) }
+    {
+        while let Some(key) = self.first_of(owner) {
+            self.remove(key);
+        }
+    }
+
     /// How many owners there are.
     pub fn owners(&self) -> usize
         ensures { result ≡ length self.now.openings }
@@ -103,6 +120,22 @@ impl<S: Same + Drop, R: Drop> PieceMap<S, R> {
         ensures { pieces_left result ≡ self.now.pieces }
     {
         self.slots.walk()
+    }
+
+    /// The key of the first piece of an owner.
+    pub fn first_of(&self, owner: u32) -> Option<PieceKey>
+        ensures key { result ≡ first_key (owned_by owner self.now.pieces) }
+        ensures order { Rises self.now.pieces }
+    {
+        self.slots.first_of_owner(owner)
+    }
+
+    /// The key of the piece behind the key that is of its owner.
+    pub fn next_of(&self, key: PieceKey) -> Option<PieceKey>
+        ensures key { result ≡ first_key (owned_by key.owner (after key self.now.pieces)) }
+        ensures order { Rises self.now.pieces }
+    {
+        self.slots.next_of_owner(key)
     }
 
     /// Whether there is a piece of the key.
@@ -225,6 +258,18 @@ impl<S: Same + Drop, R: Drop> PieceMap<S, R> {
         let next = self.slots.next_of_owner(key);
         self.slots.change(key, Change::Touched(beats));
         judge_next(&self.openings, &mut self.slots, next);
+    }
+
+    /// All pieces of an owner lose their results and their live tickets. It costs no more than that owner's pieces.
+    pub fn touch_all(&mut self, owner: u32)
+        ensures { self.new ≡ with_pieces self.old (touched_all owner self.old.pieces) }
+    {
+        let mut next = self.first_of(owner);
+        while let Some(key) = next {
+            let beats = self.beats(key);
+            self.touch(key, beats);
+            next = self.next_of(key);
+        }
     }
 
     /// A piece gets a result; its ticket stays.

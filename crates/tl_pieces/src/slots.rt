@@ -5,7 +5,7 @@ ghost use Rattle.std.specs.Option.{option_map};
 ghost use Rattle.std.specs.BTreeMap.{insert_entry, is_at};
 ghost use Rattle.std.specs.Map.{remove_entry};
 ghost use Rattle.tl_pieces.specs.declared.slot.Mark.TheVariants as mark;
-ghost use Rattle.tl_pieces.specs.Keys.{key_cmp, value_at, change, before, after, from, first_key, if_owned, EndsWith, Rises};
+ghost use Rattle.tl_pieces.specs.Keys.{key_cmp, value_at, change, before, after, from, first_key, if_owned, start_of, EndsWith, Rises};
 ghost use Rattle.tl_pieces.specs.Marks.{shown};
 ghost use Rattle.tl_pieces.specs.Walk.{pieces_left};
 ghost use Rattle.tl_pieces.specs.Slots.{blank, changed, turn, first, found, last_result, some_wanted};
@@ -144,10 +144,24 @@ impl<S, R> Slots<S, R> {
         None
     }
 
+    /// The key of the first slot of an owner.
+    pub(crate) fn first_of_owner(&self, owner: u32) -> Option<PieceKey>
+        ensures key { result ≡ if_owned owner (first_key (from (start_of owner) self.now)) }
+        ensures order { Rises self.now }
+    {
+        let _ = self.map.len();
+        match self.map.range(PieceKey { owner, window: 0 }..).next() {
+            Some((at, _)) if at.owner == owner => Some(*at),
+            _ => None,
+        }
+    }
+
     /// The key of the slot behind the key, if it is of its owner.
     pub(crate) fn next_of_owner(&self, key: PieceKey) -> Option<PieceKey>
-        ensures { result ≡ if_owned key.owner (first_key (after key self.now)) }
+        ensures key { result ≡ if_owned key.owner (first_key (after key self.now)) }
+        ensures order { Rises self.now }
     {
+        let _ = self.map.len();
         let mut later = self.map.range((Bound::Excluded(key), Bound::Unbounded));
         match later.next() {
             Some((at, _)) if at.owner == key.owner => Some(*at),

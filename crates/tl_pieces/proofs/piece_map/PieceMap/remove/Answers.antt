@@ -13,7 +13,7 @@ pub judge_next-requires : goal.judge_next-requires
 judge_next-requires g c =
     let es = c.self.inside.slots in
     let slot = slot_found c.args.key es (ap (λ (b : Board g.row.S.Denot g.row.R.Denot). is_some (piece_at c.args.key b)) c.self.view_is ∙ c.requires) in
-    but_taken g.S.Same.same c.self.inside.openings c.args.key slot.0 es c.take.ensures.order slot.1 c.self.invariant c.next_of_owner-next.result c.next_of_owner-next.ensures c.take.new.self c.take.ensures.slots
+    but_taken g.S.Same.same c.self.inside.openings c.args.key slot.0 es c.take.ensures.order slot.1 c.self.invariant c.next_of_owner-next.result c.next_of_owner-next.ensures.key c.take.new.self c.take.ensures.slots
 
 pub returns : goal.returns
 returns g c =

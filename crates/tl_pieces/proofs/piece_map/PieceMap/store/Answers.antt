@@ -12,7 +12,7 @@ judge_next-requires g c =
     let es = c.self.inside.slots in
     let k = c.args.key in
     let slot = slot_found k es (ap (λ (b : Board g.row.S.Denot g.row.R.Denot). is_some (piece_at k b)) c.self.view_is ∙ c.requires) in
-    but_stored g.S.Same.same c.self.inside.openings k slot.0 es c.change.ensures.order slot.1 c.self.invariant c.next_of_owner-next.result c.next_of_owner-next.ensures c.args.stored c.judge.result c.change.new.self c.judge.new.slots
+    but_stored g.S.Same.same c.self.inside.openings k slot.0 es c.change.ensures.order slot.1 c.self.invariant c.next_of_owner-next.result c.next_of_owner-next.ensures.key c.args.stored c.judge.result c.change.new.self c.judge.new.slots
     c.change.ensures.slots c.judge.ensures.order c.judge.ensures.exact c.judge.ensures.slots
 
 pub returns : goal.returns

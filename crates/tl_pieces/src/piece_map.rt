@@ -8,7 +8,7 @@ ghost use Rattle.std.specs.Ordering.{nat_cmp};
 ghost use Rattle.std.specs.BTreeMap.{insert_entry, is_at};
 ghost use Rattle.std.specs.Map.{remove_entry};
 ghost use Rattle.tl_pieces.specs.Keys.{key_cmp, change, after, first_key, owned_by, without, Rises};
-ghost use Rattle.tl_pieces.specs.Pieces.{empty, with_result, with_live, with_pieces, with_openings, without_owner, touched_all, piece_at, opening_of, result_of, live_of, beats_of, entry_for, IsBoard, IsSettled, HasNoneWanted, EachOwnerIsChained, IsFirstWanted, IsFirstFree, IsNextWanted, IsNextFree};
+ghost use Rattle.tl_pieces.specs.Pieces.{empty, with_result, with_live, with_pieces, with_openings, without_owner, touched_all, piece_at, opening_of, result_of, live_of, beats_of, entry_for, IsBoard, OwnersRise, IsSettled, HasNoneWanted, EachOwnerIsChained, IsFirstWanted, IsFirstFree, IsNextWanted, IsNextFree};
 ghost use Rattle.tl_pieces.specs.Marks.{pass_of};
 ghost use Rattle.tl_pieces.specs.Walk.{pieces_left};
 
@@ -86,7 +86,8 @@ impl<S: Same + Drop, R: Drop> PieceMap<S, R> {
 
     /// How many owners there are.
     pub fn owners(&self) -> usize
-        ensures { result ≡ length self.now.openings }
+        ensures exact { result ≡ length self.now.openings }
+        ensures order { OwnersRise self.now.openings }
     {
         self.openings.len()
     }
@@ -104,7 +105,7 @@ impl<S: Same + Drop, R: Drop> PieceMap<S, R> {
         // The keys rise, and each is of an owner; so do the owners.
         ensures kept { IsBoard self.now }
     {
-        let _ = self.openings.len();
+        let _ = self.owners();
         self.slots.len()
     }
 

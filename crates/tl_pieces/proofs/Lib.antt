@@ -10,3 +10,4 @@ pub mod MarkLemmas
 pub mod SettleLemmas
 pub mod ChainLemmas
 pub mod TouchLemmas
+pub mod ReadyLemmas

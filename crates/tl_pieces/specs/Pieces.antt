@@ -99,6 +99,15 @@ module _ {S R : Type 0} where
   IsFirst P l [] r = r ≡ None
   IsFirst P l (e ∷ es) r = (P l e.0 e.1 × (r ≡ Some e.0)) ⊎ ((P l e.0 e.1 → ⊥) × IsFirst P (left_by e.0 e.1) es r)
 
+  -- the exit of the last piece of an owner that has a result
+  abbrev pub last_exit : ℕ → List (PieceKey × Piece S R) → Option S
+  last_exit o [] = None
+  last_exit o (e ∷ es) = option_or (last_exit o es) (cond (e.0.owner == o) (exit_of e.1.result) None)
+
+  -- what a job for a key is to start from: the exit of the nearest earlier window of the owner that has a result, or else the owner's opening state
+  abbrev pub entry_for : PieceKey → Board S R → Option S
+  entry_for k b = option_or (last_exit k.owner (before k b.pieces)) (opening_of k.owner b.openings)
+
   module _ (same : S → S → Type 0) where
     -- not wanted: there is a result, and its entry is the exit before it, if that is there
     abbrev pub IsGood : Option S → Option (Pass S R) → Type 0
@@ -138,6 +147,11 @@ module _ {S R : Type 0} where
     IsChain s [] = ⊤
     IsChain s (e ∷ es) = Links s e.1.result (λ t. IsChain t es)
 
+    -- the same, and they end with another state
+    abbrev pub IsChainTo : S → List (PieceKey × Piece S R) → S → Type 0
+    IsChainTo s [] t = s ≡ t
+    IsChainTo s (e ∷ es) t = Links s e.1.result (λ u. IsChainTo u es t)
+
     -- the pieces of each owner stand in a chain from its opening state
     abbrev pub EachOwnerIsChained : Board S R → Type 0
     EachOwnerIsChained b = (o : ℕ) (s : S) → opening_of o b.openings ≡ Some s → IsChain s (owned_by o b.pieces)
@@ -161,11 +175,6 @@ module _ {S R : Type 0} where
     abbrev pub IsNextFree : Board S R → PieceKey → Option PieceKey → Type 0
     IsNextFree b from r = IsFirst (λ l k p. IsNotBefore from k × IsFree b.openings l k p) None b.pieces r
 
-  -- the exit of the last piece of an owner that has a result
-  abbrev pub last_exit : ℕ → List (PieceKey × Piece S R) → Option S
-  last_exit o [] = None
-  last_exit o (e ∷ es) = option_or (last_exit o es) (cond (e.0.owner == o) (exit_of e.1.result) None)
-
-  -- what a job for a key is to start from: the exit of the nearest earlier window of the owner that has a result, or else the owner's opening state
-  abbrev pub entry_for : PieceKey → Board S R → Option S
-  entry_for k b = option_or (last_exit k.owner (before k b.pieces)) (opening_of k.owner b.openings)
+    -- the owner's pieces before the key stand in a chain from its opening state to the state that a job for the key is to start from
+    abbrev pub HasTrueEntry : Board S R → PieceKey → Type 0
+    HasTrueEntry b k = (s : S) → opening_of k.owner b.openings ≡ Some s → (t : S) × (entry_for k b ≡ Some t) × IsChainTo s (owned_by k.owner (before k b.pieces)) t

@@ -1,6 +1,6 @@
 //! The map.
 
-ghost use Rattle.std.specs.Prelude.{◌≡◌, ◌==◌, [], length, Some, None, OnOk, OnErr, is_some, true};
+ghost use Rattle.std.specs.Prelude.{◌≡◌, ◌==◌, [], length, Some, None, OnOk, OnErr, IfSome, is_some, true};
 ghost use Rattle.std.specs.Bool.{Decides};
 ghost use Rattle.std.specs.Arc.{arc_value};
 ghost use Rattle.std.specs.Option.{option_map};
@@ -8,7 +8,7 @@ ghost use Rattle.std.specs.Ordering.{nat_cmp};
 ghost use Rattle.std.specs.BTreeMap.{insert_entry, is_at};
 ghost use Rattle.std.specs.Map.{remove_entry};
 ghost use Rattle.tl_pieces.specs.Keys.{key_cmp, change, after, first_key, owned_by, without, Rises};
-ghost use Rattle.tl_pieces.specs.Pieces.{empty, with_result, with_live, with_pieces, with_openings, without_owner, touched_all, piece_at, opening_of, result_of, live_of, beats_of, entry_for, IsBoard, OwnersRise, IsSettled, HasNoneWanted, EachOwnerIsChained, IsFirstWanted, IsFirstFree, IsNextWanted, IsNextFree};
+ghost use Rattle.tl_pieces.specs.Pieces.{empty, with_result, with_live, with_pieces, with_openings, without_owner, touched_all, piece_at, opening_of, result_of, live_of, beats_of, entry_for, IsBoard, OwnersRise, HasTrueEntry, IsSettled, HasNoneWanted, EachOwnerIsChained, IsFirstWanted, IsFirstFree, IsNextWanted, IsNextFree};
 ghost use Rattle.tl_pieces.specs.Marks.{pass_of};
 ghost use Rattle.tl_pieces.specs.Walk.{pieces_left};
 
@@ -189,6 +189,8 @@ impl<S: Same + Drop, R: Drop> PieceMap<S, R> {
     /// The first piece that is wanted, whatever its ticket.
     pub fn first_wanted(&mut self) -> Option<PieceKey>
         ensures first { IsFirstWanted S.same self.old result }
+        // No piece before it is wanted, so what a job for it starts from is no guess.
+        ensures entry { IfSome result (λ key. HasTrueEntry S.same self.old key) }
         ensures same { self.new ≡ self.old }
     {
         self.slots.first_wanted()

@@ -80,6 +80,7 @@ impl<S, R> Slots<S, R> {
     pub(crate) fn first_wanted(&mut self) -> Option<PieceKey>
         ensures found { result ≡ first mark.Wanted self.old }
         ensures same { self.new ≡ self.old }
+        ensures order { Rises self.old }
     {
         let _ = self.map.len();
         self.wanted.cursor = find(&self.map, Mark::Wanted, self.wanted);

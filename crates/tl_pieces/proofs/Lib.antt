@@ -1,0 +1,13 @@
+pub mod OrderLemmas
+pub mod TallyLemmas
+pub mod SlotLemmas
+pub mod PlaceLemmas
+pub mod OwnerLemmas
+pub mod NearestLemmas
+pub mod OpeningLemmas
+pub mod ShowLemmas
+pub mod MarkLemmas
+pub mod SettleLemmas
+pub mod ChainLemmas
+pub mod TouchLemmas
+pub mod ReadyLemmas

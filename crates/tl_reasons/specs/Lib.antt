@@ -1,0 +1,5 @@
+pub mod Origins
+pub mod Reasons
+pub mod Openers
+pub mod Links
+pub mod States

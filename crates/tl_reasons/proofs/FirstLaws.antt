@@ -30,7 +30,7 @@ first_has k keys = let same : (k == k) ≡ true = grind (arith, nat_tests) in ap
 rest_has : (j k : ℕ) (keys : List ℕ) → has j keys ≡ true → has j (k ∷ keys) ≡ true
 rest_has j k keys h = elim (k == j) as (λ b. (b || has j keys) ≡ true) [ true ↦ refl | false ↦ h ]
 
-least_has : (keys : List ℕ) (k : ℕ) → least keys ≡ Some k → has k keys ≡ true
+pub least_has : (keys : List ℕ) (k : ℕ) → least keys ≡ Some k → has k keys ≡ true
 least_has [] k h = cc
 least_has (x ∷ keys) k h =
     elim (least keys) as (λ found. least keys ≡ found → Some (option_map_or (min x) found x) ≡ Some k → has k (x ∷ keys) ≡ true) [
@@ -73,6 +73,22 @@ least_is (x ∷ keys) k h none =
 pub none_least : (keys : List ℕ) → ((i : ℕ) → has i keys ≡ false) → least keys ≡ None
 none_least [] none = refl
 none_least (x ∷ keys) none = let never : true ≡ false = sym (first_has x keys) ∙ none x in cc
+
+pub least_below : (keys : List ℕ) (k j : ℕ) → least keys ≡ Some k → has j keys ≡ true → k ≤ j
+least_below [] k j h listed = cc
+least_below (x ∷ []) k j h listed =
+    let is : x ≡ k = ap (λ o. option_map_or (λ z. z) o x) h in
+    let here : (x == j) ≡ true = elim (x == j) as (λ b. (b || false) ≡ true → b ≡ true) [ true ↦ λ g. refl | false ↦ λ g. g ] listed in
+    let same : x ≡ j = grind (arith, nat_tests) in
+    omega arith
+least_below (x ∷ y ∷ keys) k j h listed =
+    let rest : ℕ = option_map_or (min y) (least keys) y in
+    let is : min x rest ≡ k = ap (λ o. option_map_or (λ z. z) o x) h in
+    elim (x == j) as (λ b. (x == j) ≡ b → k ≤ j) [
+      | true ↦ λ e. (let same : x ≡ j = grind (arith, nat_tests) in omega arith)
+      | false ↦ λ e. (let there : has j (y ∷ keys) ≡ true = sym (ap (λ b. b || has j (y ∷ keys)) e) ∙ listed in
+          let below : rest ≤ j = least_below (y ∷ keys) rest j refl there in omega arith)
+    ] refl
 
 -- ---- a walk over entries in order
 

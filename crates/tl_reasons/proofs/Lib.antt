@@ -4,3 +4,7 @@ pub mod StepLaws
 pub mod LinkLaws
 pub mod ManagerLaws
 pub mod AnswerLaws
+pub mod MeaningLaws
+pub mod NamingLaws
+pub mod HeadMeanings
+pub mod RowLaws

@@ -3,3 +3,4 @@ pub mod Reasons
 pub mod Openers
 pub mod Links
 pub mod States
+pub mod Meanings

@@ -3,6 +3,7 @@
 #![tactic(auto)]
 
 mod answers;
+pub mod laws;
 mod link;
 mod manager;
 mod openers;

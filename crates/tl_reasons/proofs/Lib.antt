@@ -1,0 +1,10 @@
+pub mod OpenerLaws
+pub mod FirstLaws
+pub mod StepLaws
+pub mod LinkLaws
+pub mod ManagerLaws
+pub mod AnswerLaws
+pub mod MeaningLaws
+pub mod NamingLaws
+pub mod HeadMeanings
+pub mod RowLaws

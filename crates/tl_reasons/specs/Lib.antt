@@ -1,0 +1,6 @@
+pub mod Origins
+pub mod Reasons
+pub mod Openers
+pub mod Links
+pub mod States
+pub mod Meanings

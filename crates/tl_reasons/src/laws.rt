@@ -1,0 +1,9 @@
+//! What the reasons of broken rules mean. These calls do nothing: each is there for what it promises.
+
+ghost use Rattle.tl_reasons.specs.Meanings.{BrokenRulesHaveTheirReason};
+
+/// Each rule that a beat breaks has the reason that is meant: the opener that is open, the last message that set the bound, the
+/// head of the burst; and none where there is none.
+pub fn broken_rules_have_their_reason()
+    ensures { BrokenRulesHaveTheirReason }
+{}

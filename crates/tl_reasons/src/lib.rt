@@ -1,0 +1,15 @@
+//! The earlier beat that makes a beat break a rule: the opener that is open, the last message that set a bound, the head of a
+//! burst; or that there is none.
+#![tactic(auto)]
+
+mod answers;
+pub mod laws;
+mod link;
+mod manager;
+mod openers;
+mod origin;
+mod reason;
+
+pub use answers::reasons;
+pub use origin::Origin;
+pub use reason::{Question, Reason};

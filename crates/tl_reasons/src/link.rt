@@ -1,0 +1,83 @@
+//! One link, between two of its beats.
+
+ghost use Rattle.std.specs.Prelude.{◌≡◌, ℕ, List, [], ◌∷◌, OnOk};
+ghost use Rattle.tl_topology.specs.Topology.{IsSound};
+ghost use Rattle.tl_beats.specs.Beats.{IsWellFormed};
+ghost use Rattle.tl_beats.specs.declared.Placed.{Placed as AnyPlaced};
+ghost use Rattle.tl_definitions.specs.Heads.{before_on, is_head};
+ghost use Rattle.tl_definitions.specs.Messages.{Links};
+ghost use Rattle.tl_reasons.specs.Links.{IsAt, head_at};
+
+use crate::openers::Openers;
+use std::alloc::{AllocError, Global};
+use tl_beats::Placed;
+use tl_messages::{BurstState, Place};
+use tl_tables::{Chan, chan_index, op_of};
+use tl_topology::LinkDecl;
+
+/// What the beats of one link leave that a reason can name.
+#[derive(Drop)]
+pub(crate) struct LinkOrigins {
+    bursts: BurstState,
+    /// The newest head of each channel.
+    heads: [Option<Placed>; 5],
+    pub(crate) openers: Openers,
+}
+
+impl LinkOrigins {
+    /// That of a link without beats.
+    pub(crate) fn new(alloc: Global) -> LinkOrigins
+        ensures { (exponent : ℕ) (links : Links) (link : ℕ) → IsAt exponent links link result [] }
+    {
+        LinkOrigins {
+            bursts: BurstState::new(),
+            heads: [None; 5],
+            openers: Openers::new(alloc),
+        }
+    }
+
+    /// Whether the next beat of the link is a head.
+    pub(crate) fn is_head(&self, decl: &LinkDecl, place: &Placed) -> bool
+        requires decl { IsSound decl.now }
+        requires beat { IsWellFormed place.now.beat }
+        ensures { (exponent : ℕ) (links : Links) (before : List AnyPlaced) → links place.now.link ≡ decl.now → IsAt exponent links place.now.link self.now before
+            → result ≡ is_head decl.now (before_on place.now.link place.now.beat.chan before) }
+    {
+        let mut bursts = self.bursts;
+        match bursts.step(decl, &place.beat) {
+            Place::Head => true,
+            Place::Later(_) => false,
+        }
+    }
+
+    /// The newest head of a channel.
+    pub(crate) fn head(&self, chan: Chan) -> Option<Placed>
+        ensures { result ≡ head_at self.now chan }
+    {
+        self.heads[chan_index(chan)]
+    }
+
+    /// What the next beat of the link leaves. AllocError where memory is refused: then it may have part of the beat.
+    pub(crate) fn step(
+        &mut self,
+        exponent: u8,
+        decl: &LinkDecl,
+        place: &Placed,
+    ) -> Result<(), AllocError>
+        requires decl { IsSound decl.now }
+        requires beat { IsWellFormed place.now.beat }
+        ensures { (links : Links) (before : List AnyPlaced) → links place.now.link ≡ decl.now → IsAt exponent links place.now.link self.old before
+            → OnOk result (IsAt exponent links place.now.link self.new (place.now ∷ before)) }
+    {
+        match self.bursts.step(decl, &place.beat) {
+            Place::Later(_) => Ok(()),
+            Place::Head => {
+                self.heads[chan_index(place.beat.chan)] = Some(*place);
+                match op_of(decl.level, place.beat.chan, place.beat.opcode) {
+                    Some(op) => self.openers.take(exponent, op, place),
+                    None => Ok(()),
+                }
+            }
+        }
+    }
+}

@@ -56,6 +56,7 @@ fn opening_states(alloc: Global, exponent: u8, count: usize) -> Result<Vec<Clien
     ensures each { IfOk result (λ states. AllByRecursion (λ state. client_state.StandsFor exponent state []) states.items) }
 {
     let mut states = Vec::new(alloc);
+    states.reserve_exact(count)?;
     for _ in 0..count {
         states.push(ClientState::new(alloc, exponent))?;
     }
@@ -67,6 +68,7 @@ fn copied(alloc: Global, states: &[ClientState]) -> Result<Vec<ClientState>, All
     ensures { IfOk result (λ copy. SameItems SameClient states.now copy.items) }
 {
     let mut copy = Vec::new(alloc);
+    copy.reserve_exact(states.len())?;
     for state in states {
         copy.push(state.copy()?)?;
     }

@@ -37,6 +37,7 @@ fn opening_links(alloc: Global, count: usize) -> Result<Vec<LinkState>, AllocErr
     ensures { IfOk result (λ links. (length links.items ≡ count) × AreOpening links.items) }
 {
     let mut links = Vec::new(alloc);
+    links.reserve_exact(count)?;
     for _ in 0..count {
         links.push(LinkState::new(alloc))?;
     }
@@ -48,6 +49,7 @@ fn copied_links(alloc: Global, links: &[LinkState]) -> Result<Vec<LinkState>, Al
     ensures { IfOk result (λ copies. SameItems SameLink links.now copies.items) }
 {
     let mut copies = Vec::new(alloc);
+    copies.reserve_exact(links.len())?;
     for link in links {
         copies.push(link.copy()?)?;
     }

@@ -11,3 +11,4 @@ pub mod SettleLemmas
 pub mod ChainLemmas
 pub mod TouchLemmas
 pub mod ReadyLemmas
+pub mod MoveLemmas

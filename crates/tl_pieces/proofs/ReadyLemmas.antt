@@ -20,11 +20,11 @@ pub if_some : {A : Type 0} (o : Option A) (P : A → Type 0) → ((x : A) → o 
 if_some None P f = tt
 if_some (Some x) P f = f x refl
 
-either_then : {S : Type 0} (a : Option S) (y : S) (z : Option S) → option_or (option_or a (Some y)) z ≡ option_or a (Some y)
+pub either_then : {S : Type 0} (a : Option S) (y : S) (z : Option S) → option_or (option_or a (Some y)) z ≡ option_or a (Some y)
 either_then None y z = refl
 either_then (Some x) y z = refl
 
-either_none : {S : Type 0} (a z : Option S) → option_or (option_or a None) z ≡ option_or a z
+pub either_none : {S : Type 0} (a z : Option S) → option_or (option_or a None) z ≡ option_or a z
 either_none None z = refl
 either_none (Some x) z = refl
 

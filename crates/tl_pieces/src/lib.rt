@@ -2,6 +2,7 @@
 #![tactic(auto)]
 
 mod key;
+pub mod laws;
 mod marks;
 mod openings;
 mod piece_map;

@@ -24,9 +24,9 @@ use std::sync::Arc;
 use tl_same::Same;
 
 /// Owners with their opening states, and the pieces of each: its windows that hold beats, with their results and their live
-/// tickets. A piece is wanted if it has no result, or if the window before it has one (or none is before it) whose exit (or the
-/// opening state) isn't the entry of its own. Every call but those that go over all pieces of an owner costs a few steps down a
-/// tree, and at most two comparisons of states.
+/// tickets. A piece is wanted if it has no result, or if the exit before it is there and isn't its own entry: the exit of its
+/// owner's window just before, or the opening state where there is none. Which pieces are wanted is kept: each change judges the
+/// piece behind it, and compares states only there. A call costs a few steps down a tree, but where it says what more.
 #[derive(Drop)]
 pub struct PieceMap<S: Same, R> {
     openings: Openings<S>,
@@ -67,7 +67,7 @@ impl<S: Same + Drop, R: Drop> PieceMap<S, R> {
         Ok(())
     }
 
-    /// Takes out an owner, if it is there, with all its pieces. It costs no more than that owner's pieces.
+    /// Takes out an owner, if it is there, with all its pieces. It goes over these alone.
     pub fn remove_owner(&mut self, owner: u32)
         ensures { self.new ≡ without_owner owner self.old }
     {
@@ -75,7 +75,7 @@ impl<S: Same + Drop, R: Drop> PieceMap<S, R> {
         self.openings.take(owner);
     }
 
-    /// Takes out all pieces of an owner. It costs no more than these.
+    /// Takes out all pieces of an owner. It goes over these alone.
     pub fn clear(&mut self, owner: u32)
         ensures { self.new ≡ with_pieces self.old (without owner self.old.pieces) }
     {
@@ -186,7 +186,7 @@ impl<S: Same + Drop, R: Drop> PieceMap<S, R> {
         self.slots.none_wanted()
     }
 
-    /// The first piece that is wanted, whatever its ticket.
+    /// The first piece that is wanted, whatever its ticket. It goes on from where it was before, or from what was changed since.
     pub fn first_wanted(&mut self) -> Option<PieceKey>
         ensures first { IsFirstWanted S.same self.old result }
         // No piece before it is wanted, so what a job for it starts from is no guess.
@@ -196,7 +196,7 @@ impl<S: Same + Drop, R: Drop> PieceMap<S, R> {
         self.slots.first_wanted()
     }
 
-    /// The first piece that is wanted and has no live ticket.
+    /// The first piece that is wanted and has no live ticket. It goes on from where it was before, or from what was changed since.
     pub fn first_free(&mut self) -> Option<PieceKey>
         ensures first { IsFirstFree S.same self.old result }
         ensures same { self.new ≡ self.old }
@@ -219,7 +219,7 @@ impl<S: Same + Drop, R: Drop> PieceMap<S, R> {
     }
 
     /// What a job for the key is to start from: the exit of the nearest earlier window of its owner that has a result, or else
-    /// the owner's opening state.
+    /// the owner's opening state. It costs a step for each window between that has none.
     pub fn entry_for(&self, key: PieceKey) -> Option<&Arc<S>>
         ensures { option_map (λ a. arc_value a.now) result ≡ entry_for key self.now }
     {
@@ -253,7 +253,7 @@ impl<S: Same + Drop, R: Drop> PieceMap<S, R> {
         judge_next(&self.openings, &mut self.slots, next);
     }
 
-    /// The window of a piece has so many beats now: it loses its result and its live ticket.
+    /// A piece has so many beats now, and loses its result and its live ticket.
     pub fn touch(&mut self, key: PieceKey, beats: usize)
         requires { is_some (piece_at key self.old) ≡ true }
         ensures { self.new ≡ with_pieces self.old (change key (λ _. empty beats) self.old.pieces) }
@@ -263,7 +263,7 @@ impl<S: Same + Drop, R: Drop> PieceMap<S, R> {
         judge_next(&self.openings, &mut self.slots, next);
     }
 
-    /// All pieces of an owner lose their results and their live tickets. It costs no more than that owner's pieces.
+    /// All pieces of an owner lose their results and their live tickets. It goes over these alone.
     pub fn touch_all(&mut self, owner: u32)
         ensures { self.new ≡ with_pieces self.old (touched_all owner self.old.pieces) }
     {

@@ -14,7 +14,7 @@ abbrev pub is_of : Placed → Row → Bool
 is_of p row = ((row.link == p.link) && (row.cycle == p.beat.cycle)) && same_chan row.chan p.beat.chan
 
 abbrev pub told_of : Manager → List Placed → Placed → Row → Told
-told_of m before p row = record { row = row; reason = reason_at m before p row.rule }
+told_of m before p row = record { row = row; place = p; reason = reason_at m before p row.rule }
 
 -- The rows of beats in their order that come after others: of each beat those among these rows that are of it.
 abbrev pub told_after : Manager → List Row → List Placed → List Placed → List Told

@@ -16,11 +16,13 @@ use std::collections::BTreeSet;
 use tl_beats::{Placed, Row};
 use tl_topology::Topo;
 
-/// A row, and what makes it so.
+/// A row with its beat, and what makes it so.
 #[derive(Clone, Copy, Debug, PartialEq)]
 pub struct Told {
     /// The row.
     pub row: Row,
+    /// Its beat.
+    pub place: Placed,
     /// What makes its beat break its rule.
     pub reason: Reason,
 }
@@ -61,7 +63,11 @@ fn tell_beat(
     for row in rows {
         if is_of(place, row) {
             let reason = state.reason(topo, clients, place, row.rule);
-            told.push(Told { row: *row, reason })?;
+            told.push(Told {
+                row: *row,
+                place: *place,
+                reason,
+            })?;
         }
     }
     Ok(())

@@ -15,7 +15,7 @@ loop-row-preserved c exponent before stands =
     elim c.if-is_of.branch [
       | then-is_of+in_ok-push w ↦ ap (λ (v : Vec Told _). v.items) w.told-is ∙ w.in_ok-push.ensures.items
           ∙ row_told (told_of m before p) (is_of p) c.args.told.now.items c.loop-row.told.items c.args.rows.now c.loop-row.row-index _ c.loop-row-test.true known _ (sym c.is_of.ensures ∙ w.if-is_of.true)
-          (ap (λ r. record { row = _; reason = r }) (w.reason-reason.ensures exponent before stands))
+          (ap (λ r. record { row = _; place = _; reason = r }) (w.reason-reason.ensures exponent before stands))
       | else-is_of w ↦ ap (λ (v : Vec Told _). v.items) w.told-is
           ∙ row_passed (told_of m before p) (is_of p) c.args.told.now.items c.loop-row.told.items c.args.rows.now c.loop-row.row-index _ c.loop-row-test.true known (sym c.is_of.ensures ∙ w.if-is_of.false)
     ]

@@ -11,7 +11,7 @@ use Rattle.tl_reasons.specs.declared.reason.Question.{Question}
 use Rattle.tl_reasons.specs.Reasons.{reason_at, answer}
 use Rattle.tl_reasons.proofs.ManagerLaws.{drop_more}
 
-take_next : {X : Type 0} (xs : List X) (n : ℕ) (x : X) → slice_get xs n ≡ Some x → take (suc n) xs ≡ take n xs ++ x ∷ []
+pub take_next : {X : Type 0} (xs : List X) (n : ℕ) (x : X) → slice_get xs n ≡ Some x → take (suc n) xs ≡ take n xs ++ x ∷ []
 take_next [] n x h = cc
 take_next (y ∷ xs) zero x h = cc
 take_next (y ∷ xs) (suc n) x h = ap (λ ys. y ∷ ys) (take_next xs n x h)

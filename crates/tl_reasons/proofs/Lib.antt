@@ -8,3 +8,4 @@ pub mod MeaningLaws
 pub mod NamingLaws
 pub mod HeadMeanings
 pub mod RowLaws
+pub mod TellingLaws

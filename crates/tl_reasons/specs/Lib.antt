@@ -4,3 +4,4 @@ pub mod Openers
 pub mod Links
 pub mod States
 pub mod Meanings
+pub mod Telling

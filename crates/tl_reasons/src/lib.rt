@@ -9,7 +9,9 @@ mod manager;
 mod openers;
 mod origin;
 mod reason;
+mod telling;
 
 pub use answers::reasons;
 pub use origin::Origin;
 pub use reason::{Question, Reason};
+pub use telling::{Told, tell};

@@ -1,0 +1,42 @@
+use Rattle.std.proofs.Common.{◌+◌, ◌++◌, Vec, false, [], drop, take, get_or, sym, ap, subst, ◌∙◌}
+use Rattle.std.specs.Prelude.{reverse}
+use Rattle.tl_tables.specs.declared.Chan.TheVariants as chan
+use Rattle.tl_beats.specs.declared.Placed.{Placed}
+use Rattle.tl_reasons.specs.declared.telling.Told.{Told}
+use Rattle.tl_reasons.specs.States.{StandsFor, manager_with}
+use Rattle.tl_reasons.specs.Telling.{told_after}
+use Rattle.tl_reasons.proofs.AnswerLaws.{passed_more, next_left}
+use Rattle.tl_reasons.proofs.TellingLaws.{told_next, untold}
+use Rattle.tl_reasons.proofs.telling.tell.Goals as goal
+use Rattle.tl_reasons.proofs.telling.tell.Goals.{then-contains+in_ok-tell_beat, else-contains}
+
+pub loop-place-init : goal.loop-place-init
+loop-place-init c = record {
+  count = c.in_ok-state.ensures.count;
+  stands = c.in_ok-state.ensures.stands c.args.clients.now;
+  found = ap (λ told. told ++ told_after (manager_with c.args.topo.now c.args.exponent c.args.clients.now) c.args.rows.now [] c.args.beats.now) c.new-told.ensures.items;
+}
+
+pub loop-place-preserved : goal.loop-place-preserved
+loop-place-preserved c =
+    let m = manager_with c.args.topo.now c.args.exponent c.args.clients.now in
+    let beats = c.args.beats.now in
+    let rows = c.args.rows.now in
+    let i = c.loop-place.place-index in
+    let known = c.loop-place.invariant in
+    let before = reverse (take i beats) in
+    let none : Placed = record { link = 0; fragment = 0; line = 0; beat = record { cycle = 0; chan = chan.A; opcode = 0; param = 0; size = 0; source = 0; sink = 0; address = 0; mask = 0; denied = false; corrupt = false } } in
+    let p : Placed = get_or beats i none in
+    let passed = passed_more beats i none c.loop-place-test.true in
+    record {
+      count = c.in_ok-step.ensures.count ∙ known.count;
+      stands = subst (StandsFor m c.step.new.self) passed (c.in_ok-step.ensures.stands c.args.exponent c.args.clients.now before known.stands);
+      found = told_next m rows before (reverse (take (i + 1) beats)) p (drop i beats) (drop (i + 1) beats) c.loop-place.told.items c.if-contains.told.items (told_after m rows [] beats)
+          (next_left beats i none c.loop-place-test.true) passed
+          (elim c.if-contains.branch [
+            | then-contains+in_ok-tell_beat w ↦ ap (λ (v : Vec Told _). v.items) w.told-is ∙ w.in_ok-tell_beat.ensures c.args.exponent before known.stands
+            | else-contains w ↦ ap (λ (v : Vec Told _). v.items) w.told-is
+                ∙ untold m rows before p c.loop-place.told.items (sym (c.in_ok-cycles.ensures p.beat.cycle) ∙ sym c.contains.ensures ∙ w.if-contains.false)
+          ])
+          known.found;
+    }

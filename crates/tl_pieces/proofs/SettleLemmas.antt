@@ -1,16 +1,18 @@
 -- What exact marks say of the whole.
+use Rattle.std.specs.Prelude.{◌⊎◌, is_none, is_some, ⊤}
+use Rattle.std.specs.Ordering.{is_eq, is_le}
+use Rattle.std.specs.BTreeMap.{is_at}
+use Rattle.tl_pieces.specs.Keys.{value_at, key_cmp, from, IsNotBefore}
+use Rattle.tl_pieces.specs.Slots.{wanted_of, passes, some_wanted, first}
+use Rattle.tl_pieces.specs.Pieces.{IsAt, Pass, Piece, exit_of, opening_of, exit_before, IsGood, Follows, IsWanted, IsFree, ChainsFrom, NoneIsWanted, IsFirst}
+use Rattle.tl_pieces.proofs.OrderLemmas.{key_exact, key_self}
 use Rattle.std.proofs.Common.{◌≡◌, ℕ, ◌==◌, Bool, true, false, not, ◌||◌, ◌&&◌, cond, List, [], ◌∷◌, refl, sym, ap, ◌∙◌, Option, Some, None, inl, inr, true≢false}
-use Rattle.std.specs.Prelude.{is_none, is_some, ⊤}
 use Rattle.std.specs.Bool.{Decides}
 use Rattle.tl_pieces.specs.declared.key.PieceKey.{PieceKey}
 use Rattle.tl_pieces.specs.declared.slot.Slot.{Slot}
 use Rattle.tl_pieces.specs.declared.slot.Mark.{Mark}
 use Rattle.tl_pieces.specs.declared.slot.Mark.TheVariants as mark
 use Rattle.std.specs.List.{AllByRecursion}
-use Rattle.std.specs.Ordering.{is_le}
-use Rattle.tl_pieces.specs.Keys.{key_cmp, from, IsNotBefore}
-use Rattle.tl_pieces.specs.Slots.{passes, some_wanted, first}
-use Rattle.tl_pieces.specs.Pieces.{Pass, Piece, exit_of, opening_of, exit_before, IsGood, Follows, IsWanted, IsFree, ChainsFrom, NoneIsWanted, IsFirst}
 use Rattle.tl_pieces.specs.Marks.{piece_of, shown, passed, left, IsExact, IsMarked}
 
 pub decides_not : {P : Type 0} (r b : Bool) → r ≡ not b → (b ≡ false → P) → (P → b ≡ false) → Decides r P
@@ -150,3 +152,22 @@ module _ {S R : Type 0} where
     pub owned_marked : (l : Option (ℕ × Option S)) (es : List (PieceKey × Slot S R)) → IsMarked same os l es → AllByRecursion (λ e. is_some (opening_of e.0.owner os) ≡ true) (shown es)
     owned_marked l [] is = tt
     owned_marked l (e ∷ es) is = (is.0.owner, owned_marked (left e) es is.1)
+
+    -- the mark of one piece
+    pub wanted_at : (k : PieceKey) (l : Option (ℕ × Option S)) (es : List (PieceKey × Slot S R)) → IsMarked same os l es → Decides (wanted_of (value_at k es)) (IsAt (IsWanted same os) l (shown es) k)
+    wanted_at k l [] m = (λ h. absurd (true≢false (sym h)), λ h. absurd h)
+    wanted_at k l (e ∷ es) m =
+        elim (is_at (key_cmp k) e.0) as (λ b. is_at (key_cmp k) e.0 ≡ b → Decides (wanted_of (cond b (Some e.1) (value_at k es))) (IsAt (IsWanted same os) l (shown (e ∷ es)) k)) [
+          | true ↦ λ t. let is : e.0 ≡ k = sym (key_exact k e.0 t) in (λ h. inl (is, wanted l e.0 e.1 m.0 h), here is)
+          | false ↦ λ f. let apart : e.0 ≡ k → ⊥ = λ is. true≢false (sym (ap (λ q. is_at (key_cmp k) q) is ∙ ap is_eq (key_self k)) ∙ f) in
+              (λ h. inr (apart, (wanted_at k (left e) es m.1).0 h), there apart (wanted_at k (left e) es m.1).1)
+        ] refl
+      where
+        here : e.0 ≡ k → ((e.0 ≡ k) × IsWanted same os l e.0 (piece_of e.1)) ⊎ ((e.0 ≡ k → ⊥) × IsAt (IsWanted same os) (left e) (shown es) k) → e.1.wanted ≡ true
+        here is (inl h) = elim e.1.wanted as (λ b. e.1.wanted ≡ b → b ≡ true) [ true ↦ λ _. refl | false ↦ λ f. absurd (h.1 (good l e.0 e.1 m.0 f)) ] refl
+        here is (inr h) = absurd (h.0 is)
+
+        there : (e.0 ≡ k → ⊥) → (IsAt (IsWanted same os) (left e) (shown es) k → wanted_of (value_at k es) ≡ true)
+            → ((e.0 ≡ k) × IsWanted same os l e.0 (piece_of e.1)) ⊎ ((e.0 ≡ k → ⊥) × IsAt (IsWanted same os) (left e) (shown es) k) → wanted_of (value_at k es) ≡ true
+        there apart go (inl h) = absurd (apart h.0)
+        there apart go (inr h) = go h.1

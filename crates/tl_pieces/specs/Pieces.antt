@@ -108,6 +108,11 @@ module _ {S R : Type 0} where
   abbrev pub entry_for : PieceKey → Board S R → Option S
   entry_for k b = option_or (last_exit k.owner (before k b.pieces)) (opening_of k.owner b.openings)
 
+  -- P is true of the piece of a key, and there is one
+  abbrev pub IsAt : (Option (ℕ × Option S) → PieceKey → Piece S R → Type 0) → Option (ℕ × Option S) → List (PieceKey × Piece S R) → PieceKey → Type 0
+  IsAt P l [] k = ⊥
+  IsAt P l (e ∷ es) k = ((e.0 ≡ k) × P l e.0 e.1) ⊎ ((e.0 ≡ k → ⊥) × IsAt P (left_by e.0 e.1) es k)
+
   module _ (same : S → S → Type 0) where
     -- not wanted: there is a result, and its entry is the exit before it, if that is there
     abbrev pub IsGood : Option S → Option (Pass S R) → Type 0
@@ -161,6 +166,9 @@ module _ {S R : Type 0} where
 
     abbrev pub HasNoneWanted : Board S R → Type 0
     HasNoneWanted b = NoneIsWanted b.openings None b.pieces
+
+    abbrev pub IsWantedAt : Board S R → PieceKey → Type 0
+    IsWantedAt b k = IsAt (IsWanted b.openings) None b.pieces k
 
     abbrev pub IsFirstWanted : Board S R → Option PieceKey → Type 0
     IsFirstWanted b r = IsFirst (IsWanted b.openings) None b.pieces r

@@ -33,6 +33,11 @@ module _ {S R : Type 0} where
   turn f s =
       record { was_wanted = passes mark.Wanted s; is_wanted = passes mark.Wanted (f s); was_free = passes mark.Free s; is_free = passes mark.Free (f s) }
 
+  -- whether a slot is there and wanted
+  abbrev pub wanted_of : Option (Slot S R) → Bool
+  wanted_of None = false
+  wanted_of (Some s) = s.wanted
+
   -- whether some are wanted
   abbrev pub some_wanted : List (PieceKey × Slot S R) → Bool
   some_wanted [] = false

@@ -8,7 +8,7 @@ ghost use Rattle.std.specs.Ordering.{nat_cmp};
 ghost use Rattle.std.specs.BTreeMap.{insert_entry, is_at};
 ghost use Rattle.std.specs.Map.{remove_entry};
 ghost use Rattle.tl_pieces.specs.Keys.{key_cmp, change, after, first_key, owned_by, without, Rises};
-ghost use Rattle.tl_pieces.specs.Pieces.{empty, with_result, with_live, with_pieces, with_openings, without_owner, touched_all, piece_at, opening_of, result_of, live_of, beats_of, entry_for, IsBoard, OwnersRise, HasTrueEntry, IsSettled, HasNoneWanted, EachOwnerIsChained, IsFirstWanted, IsFirstFree, IsNextWanted, IsNextFree};
+ghost use Rattle.tl_pieces.specs.Pieces.{empty, with_result, with_live, with_pieces, with_openings, without_owner, touched_all, piece_at, opening_of, result_of, live_of, beats_of, entry_for, IsBoard, OwnersRise, HasTrueEntry, IsSettled, HasNoneWanted, EachOwnerIsChained, IsWantedAt, IsFirstWanted, IsFirstFree, IsNextWanted, IsNextFree};
 ghost use Rattle.tl_pieces.specs.Marks.{pass_of};
 ghost use Rattle.tl_pieces.specs.Walk.{pieces_left};
 
@@ -173,6 +173,16 @@ impl<S: Same + Drop, R: Drop> PieceMap<S, R> {
         match self.slots.get(key) {
             Some(slot) => slot.live,
             None => None,
+        }
+    }
+
+    /// Whether there is a piece of the key and it is wanted.
+    pub fn is_wanted(&self, key: PieceKey) -> bool
+        ensures { Decides result (IsWantedAt S.same self.now key) }
+    {
+        match self.slots.get(key) {
+            Some(slot) => slot.wanted,
+            None => false,
         }
     }
 

@@ -6,10 +6,12 @@ ghost use Rattle.std.specs.List.{slice_get};
 ghost use Rattle.tl_words.specs.Words.{chan_text_of, op_text_of, param_text_of};
 
 mod beat;
+mod rules;
 #[cfg(test)]
 mod tests;
 
 pub use beat::beat_text;
+pub use rules::rule_line;
 use tl_tables::{Chan, Op};
 
 /// The name of a channel.

@@ -73,14 +73,41 @@ pub fn check_head(
         rules.push(Rule::F1);
         return rules;
     };
-    rules.push_if(breaks(link, exponent, regions, op, beat, Rule::F2), Rule::F2);
-    rules.push_if(breaks(link, exponent, regions, op, beat, Rule::F3), Rule::F3);
-    rules.push_if(breaks(link, exponent, regions, op, beat, Rule::F4), Rule::F4);
-    rules.push_if(breaks(link, exponent, regions, op, beat, Rule::F5), Rule::F5);
-    rules.push_if(breaks(link, exponent, regions, op, beat, Rule::F6), Rule::F6);
-    rules.push_if(breaks(link, exponent, regions, op, beat, Rule::F7), Rule::F7);
-    rules.push_if(breaks(link, exponent, regions, op, beat, Rule::F8), Rule::F8);
-    rules.push_if(breaks(link, exponent, regions, op, beat, Rule::F9), Rule::F9);
-    rules.push_if(breaks(link, exponent, regions, op, beat, Rule::F10), Rule::F10);
+    rules.push_if(
+        breaks(link, exponent, regions, op, beat, Rule::F2),
+        Rule::F2,
+    );
+    rules.push_if(
+        breaks(link, exponent, regions, op, beat, Rule::F3),
+        Rule::F3,
+    );
+    rules.push_if(
+        breaks(link, exponent, regions, op, beat, Rule::F4),
+        Rule::F4,
+    );
+    rules.push_if(
+        breaks(link, exponent, regions, op, beat, Rule::F5),
+        Rule::F5,
+    );
+    rules.push_if(
+        breaks(link, exponent, regions, op, beat, Rule::F6),
+        Rule::F6,
+    );
+    rules.push_if(
+        breaks(link, exponent, regions, op, beat, Rule::F7),
+        Rule::F7,
+    );
+    rules.push_if(
+        breaks(link, exponent, regions, op, beat, Rule::F8),
+        Rule::F8,
+    );
+    rules.push_if(
+        breaks(link, exponent, regions, op, beat, Rule::F9),
+        Rule::F9,
+    );
+    rules.push_if(
+        breaks(link, exponent, regions, op, beat, Rule::F10),
+        Rule::F10,
+    );
     rules
 }

@@ -10,7 +10,9 @@ ghost use Rattle.tl_windows.specs.Ranges.{ends_at, without_end};
 ghost use Rattle.tl_windows.specs.Shares.{windows_of_all};
 ghost use Rattle.tl_windows.specs.Windows.{beats_within};
 
-use crate::walks::{all_of_link, first_number, lowest_other, push_all_windows, push_span, span_count};
+use crate::walks::{
+    all_of_link, first_number, lowest_other, push_all_windows, push_span, span_count,
+};
 use std::alloc::{AllocError, Global};
 use std::collections::BTreeMap;
 use std::marker::Model;

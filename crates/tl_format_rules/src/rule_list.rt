@@ -1,6 +1,6 @@
 //! The rules of one beat.
 
-ghost use Rattle.std.specs.Prelude.{◌≡◌, ◌==◌, ◌<◌, ◌≤◌, ◌+◌, [], ◌∷◌, ◌++◌, length, if◌then◌else◌};
+ghost use Rattle.std.specs.Prelude.{◌≡◌, ◌<◌, ◌≤◌, ◌+◌, [], ◌∷◌, ◌++◌, length, if◌then◌else◌};
 
 use smallvec::SmallVec;
 use std::alloc::Global;
@@ -51,13 +51,6 @@ impl RuleList {
         if broken {
             self.push(rule);
         }
-    }
-
-    /// Whether there are none.
-    pub fn is_empty(&self) -> bool
-        ensures { result ≡ (length self.now == 0) }
-    {
-        self.rules.is_empty()
     }
 
     /// The rules.

@@ -129,8 +129,8 @@ module _ {S R : Type 0} (same : S → S → Type 0) (os : List (ℕ × S)) where
 
   -- ---- after a change, all marks but that of the piece behind
 
-  pub blank_mark : (k : PieceKey) (n : ℕ) (l : Option (ℕ × Option S)) → is_some (opening_of k.owner os) ≡ true → IsExact {R = R} same os l k (blank n)
-  blank_mark k n l owner = record { owner = owner; mark = (λ h. cc, λ h. absurd h) }
+  pub blank_mark : (k : PieceKey) (l : Option (ℕ × Option S)) → is_some (opening_of k.owner os) ≡ true → IsExact {R = R} same os l k blank
+  blank_mark k l owner = record { owner = owner; mark = (λ h. cc, λ h. absurd h) }
 
   one_more : (xs ys : List (PieceKey × Slot S R)) (e : PieceKey × Slot S R) → xs ++ e ∷ ys ≡ (xs ++ e ∷ []) ++ ys
   one_more xs ys e = sym (append_assoc xs (e ∷ []) ys)
@@ -184,10 +184,10 @@ module _ {S R : Type 0} (same : S → S → Type 0) (os : List (ℕ × S)) where
         let all : ds ≡ before k es ++ (k, u) ∷ after k es = is ∙ changed_list (changed (to.Result r)) in
         but_changed (changed (to.Wanted w) u) fs (js ∙ judged_list k u (before k es) (after k es) w ds all t exact) (record { owner = here.0.owner; mark = judged_mark k u (before k es) (after k es) w ds all t exact })
 
-  pub but_put : (k : PieceKey) (n : ℕ) (es ds : List (PieceKey × Slot S R)) → is_some (opening_of k.owner os) ≡ true → value_at k es ≡ None → IsMarked same os None es → ds ≡ insert_entry key_cmp es k (blank n) → Rises ds
+  pub but_put : (k : PieceKey) (es ds : List (PieceKey × Slot S R)) → is_some (opening_of k.owner os) ≡ true → value_at k es ≡ None → IsMarked same os None es → ds ≡ insert_entry key_cmp es k blank → Rises ds
       → (next : Option PieceKey) → next ≡ if_owned k.owner (first_key (after k ds)) → IsMarkedBut same os next ds
-  but_put k n es ds owner none m is s next first =
-      let v : Slot S R = blank n in
+  but_put k es ds owner none m is s next first =
+      let v : Slot S R = blank in
       let found : value_at k ds ≡ Some v = ap (value_at k) is ∙ lookup_insert k v es in
       let apart : ds ≡ before k ds ++ (k, v) ∷ after k ds = split k v ds s found in
       let order : Rises (before k ds ++ (k, v) ∷ after k ds) = subst Rises apart s in
@@ -198,7 +198,7 @@ module _ {S R : Type 0} (same : S → S → Type 0) (os : List (ℕ × S)) where
         front = before k ds ++ (k, v) ∷ [];
         back = after k ds;
         all = apart ∙ one_more (before k ds) (after k ds) (k, v);
-        marked = marked_append None (before k ds) ((k, v) ∷ []) (marked_left None (before k ds) (after k ds) parts) (blank_mark k n (ends None (before k ds)) owner, tt);
+        marked = marked_append None (before k ds) ((k, v) ∷ []) (marked_left None (before k ds) (after k ds) parts) (blank_mark k (ends None (before k ds)) owner, tt);
         behind = subst (λ (l : Option (ℕ × Option S)). IsMarkedBehind same os next l (after k ds)) (ends_push None (before k ds) (k, v))
             (behind_of k (ends None (before k ds)) (left (k, v)) (clear_ends k (before k ds) None (below_of k v (before k ds) (after k ds) order) (λ _ _. tt)) (clear_left k v)
             (after k ds) next (above_of k v (before k ds) (after k ds) order) first (marked_right None (before k ds) (after k ds) parts));

@@ -24,8 +24,8 @@ module _ {S R : Type 0} (k : PieceKey) where
         | false ↦ ap (λ t. (e.0, piece_of e.1) ∷ t) (shown_change f g h es)
       ]
 
-  pub shown_touched : (n : ℕ) (es : List (PieceKey × Slot S R)) → shown (change k (changed (to.Touched n)) es) ≡ change k (λ _. empty n) (shown es)
-  shown_touched n es = shown_change (changed (to.Touched n)) (λ _. empty n) (λ v. refl) es
+  pub shown_touched : (es : List (PieceKey × Slot S R)) → shown (change k (changed to.Touched) es) ≡ change k (λ _. empty) (shown es)
+  shown_touched es = shown_change (changed to.Touched) (λ _. empty) (λ v. refl) es
 
   pub shown_live : (t : Option ℕ) (es : List (PieceKey × Slot S R)) → shown (change k (changed (to.Live t)) es) ≡ change k (with_live t) (shown es)
   shown_live t es = shown_change (changed (to.Live t)) (with_live t) (λ v. refl) es
@@ -41,14 +41,14 @@ module _ {S R : Type 0} (k : PieceKey) where
         | false ↦ ap (λ t. (e.0, piece_of e.1) ∷ t) (shown_wanted w es)
       ]
 
-  pub shown_put : (n : ℕ) (es : List (PieceKey × Slot S R)) → shown (insert_entry key_cmp es k (blank n)) ≡ insert_entry key_cmp (shown es) k (empty n)
-  shown_put n [] = refl
-  shown_put n (e ∷ es) =
-      elim (key_cmp k e.0) as (λ o. shown (match_ordering o ((k, (blank n)) ∷ e ∷ es) ((e.0, (blank n)) ∷ es) (e ∷ insert_entry key_cmp es k (blank n)))
-      ≡ match_ordering o ((k, (empty n)) ∷ shown (e ∷ es)) ((e.0, (empty n)) ∷ shown es) ((e.0, piece_of e.1) ∷ insert_entry key_cmp (shown es) k (empty n))) [
+  pub shown_put : (es : List (PieceKey × Slot S R)) → shown (insert_entry key_cmp es k blank) ≡ insert_entry key_cmp (shown es) k empty
+  shown_put [] = refl
+  shown_put (e ∷ es) =
+      elim (key_cmp k e.0) as (λ o. shown (match_ordering o ((k, blank) ∷ e ∷ es) ((e.0, blank) ∷ es) (e ∷ insert_entry key_cmp es k blank))
+      ≡ match_ordering o ((k, empty) ∷ shown (e ∷ es)) ((e.0, empty) ∷ shown es) ((e.0, piece_of e.1) ∷ insert_entry key_cmp (shown es) k empty)) [
         | Less ↦ refl
         | Equal ↦ refl
-        | Greater ↦ ap (λ t. (e.0, piece_of e.1) ∷ t) (shown_put n es)
+        | Greater ↦ ap (λ t. (e.0, piece_of e.1) ∷ t) (shown_put es)
       ]
 
   pub shown_taken : (es : List (PieceKey × Slot S R)) → shown (remove_entry (is_at (key_cmp k)) es) ≡ remove_entry (is_at (key_cmp k)) (shown es)

@@ -6,7 +6,7 @@ use Rattle.std.specs.Map.{keys_of}
 use Rattle.std.proofs.lemmas.List.{length-append}
 use Rattle.tl_pieces.specs.declared.key.PieceKey.{PieceKey}
 use Rattle.tl_pieces.specs.Keys.{key_cmp, value_at, change, after, first_key, owned_by, Rises}
-use Rattle.tl_pieces.specs.Pieces.{Piece, Board, empty, piece_at, beats_of, with_pieces, touched_all}
+use Rattle.tl_pieces.specs.Pieces.{Piece, Board, empty, piece_at, with_pieces, touched_all}
 use Rattle.tl_pieces.proofs.PlaceLemmas.{place_change, place_lookup, place_after}
 use Rattle.tl_pieces.proofs.OwnerLemmas.{owned_split, first_owner}
 
@@ -34,12 +34,12 @@ module _ {S R : Type 0} (o : ℕ) where
 
   touched_append : (xs ys : List (PieceKey × Piece S R)) → touched_all o (xs ++ ys) ≡ touched_all o xs ++ touched_all o ys
   touched_append [] ys = refl
-  touched_append (x ∷ xs) ys = ap (λ t. (x.0, cond (x.0.owner == o) (empty x.1.beats) x.1) ∷ t) (touched_append xs ys)
+  touched_append (x ∷ xs) ys = ap (λ t. (x.0, cond (x.0.owner == o) empty x.1) ∷ t) (touched_append xs ys)
 
   touched_none : (xs : List (PieceKey × Piece S R)) → first_key (owned_by o xs) ≡ None → touched_all o xs ≡ xs
   touched_none [] h = refl
   touched_none (x ∷ xs) h =
-      elim (x.0.owner == o) as (λ b. first_key (cond b (x ∷ owned_by o xs) (owned_by o xs)) ≡ None → (x.0, cond b (empty x.1.beats) x.1) ∷ touched_all o xs ≡ x ∷ xs) [
+      elim (x.0.owner == o) as (λ b. first_key (cond b (x ∷ owned_by o xs) (owned_by o xs)) ≡ None → (x.0, cond b empty x.1) ∷ touched_all o xs ≡ x ∷ xs) [
         | true ↦ λ g. cc
         | false ↦ λ g. ap (λ t. x ∷ t) (touched_none xs g)
       ] h
@@ -81,7 +81,7 @@ module _ {S R : Type 0} (o : ℕ) where
     pub next_there : is_some (piece_at k now) ≡ true
     next_there = ap is_some found
 
-    module _ (n : ℕ) (new : Board S R) (next : Option PieceKey) (beats : n ≡ beats_of (piece_at k now)) (is : new ≡ with_pieces now (change k (λ _. empty n) now.pieces))
+    module _ (new : Board S R) (next : Option PieceKey) (is : new ≡ with_pieces now (change k (λ _. empty) now.pieces))
         (then : next ≡ first_key (owned_by k.owner (after k new.pieces))) where
       owner : (k.owner == o) ≡ true
       owner = (owned_split o d.back k (sym d.first)).5
@@ -89,19 +89,19 @@ module _ {S R : Type 0} (o : ℕ) where
       none : owned_by o mid ≡ []
       none = (owned_split o d.back k (sym d.first)).4
 
-      new_list : new.pieces ≡ ahead ++ (k, empty v.beats) ∷ rest
+      new_list : new.pieces ≡ ahead ++ (k, empty) ∷ rest
       new_list =
-          ap (λ x. x.pieces) is ∙ ap (change k (λ _. empty n)) now_list ∙ place_change k v ahead rest now_rises (λ _. empty n) ∙ ap (λ m. ahead ++ (k, empty m) ∷ rest) (beats ∙ ap beats_of found)
+          ap (λ x. x.pieces) is ∙ ap (change k (λ _. empty)) now_list ∙ place_change k v ahead rest now_rises (λ _. empty)
 
-      new_rises : Rises (ahead ++ (k, empty v.beats) ∷ rest)
+      new_rises : Rises (ahead ++ (k, empty) ∷ rest)
       new_rises = subst (IsStrictlySortedBy key_cmp) (keys_same ahead) now_rises
         where
-          keys_same : (xs : List (PieceKey × Piece S R)) → keys_of (xs ++ (k, v) ∷ rest) ≡ keys_of (xs ++ (k, empty v.beats) ∷ rest)
+          keys_same : (xs : List (PieceKey × Piece S R)) → keys_of (xs ++ (k, v) ∷ rest) ≡ keys_of (xs ++ (k, empty) ∷ rest)
           keys_same [] = refl
           keys_same (x ∷ xs) = ap (λ t. x.0 ∷ t) (keys_same xs)
 
       behind : after k new.pieces ≡ rest
-      behind = ap (after k) new_list ∙ place_after k (empty v.beats) ahead rest new_rises
+      behind = ap (after k) new_list ∙ place_after k empty ahead rest new_rises
 
       owner_is : k.owner ≡ o
       owner_is = first_owner o d.back k (sym d.first)
@@ -118,14 +118,14 @@ module _ {S R : Type 0} (o : ℕ) where
         back = rest;
         order = d.order;
         all = d.all ∙ ap (λ t. d.front ++ t) apart ∙ sym (append_assoc d.front mid ((k, v) ∷ rest)) ∙ one_more d.front mid rest (k, v);
-        now_is = is ∙ ap (λ x. with_pieces x (change k (λ _. empty n) now.pieces)) d.now_is ∙ ap (with_pieces old) (sym (ap (λ x. x.pieces) is) ∙ new_list ∙ sym front_done);
+        now_is = is ∙ ap (λ x. with_pieces x (change k (λ _. empty) now.pieces)) d.now_is ∙ ap (with_pieces old) (sym (ap (λ x. x.pieces) is) ∙ new_list ∙ sym front_done);
         first = next_is;
       }
         where
-          front_done : touched_all o (d.front ++ mid ++ (k, v) ∷ []) ++ rest ≡ ahead ++ (k, empty v.beats) ∷ rest
+          front_done : touched_all o (d.front ++ mid ++ (k, v) ∷ []) ++ rest ≡ ahead ++ (k, empty) ∷ rest
           front_done =
               ap (λ t. t ++ rest) (touched_append (d.front ++ mid) ((k, v) ∷ []) ∙ ap (λ t. t ++ touched_all o ((k, v) ∷ [])) (touched_append d.front mid ∙ ap (λ t. touched_all o d.front ++ t) (touched_none mid (ap first_key none))))
-              ∙ append_assoc ahead (touched_all o ((k, v) ∷ [])) rest ∙ ap (λ b. ahead ++ (k, cond b (empty v.beats) v) ∷ rest) owner
+              ∙ append_assoc ahead (touched_all o ((k, v) ∷ [])) rest ∙ ap (λ b. ahead ++ (k, cond b empty v) ∷ rest) owner
 
       pub fewer : left_after next new.pieces < left_after (Some k) now.pieces
       fewer =
@@ -136,9 +136,9 @@ module _ {S R : Type 0} (o : ℕ) where
           go None h = omega arith
           go (Some q) h =
               let r = owned_split o rest q (sym h) in
-              let list : new.pieces ≡ (ahead ++ (k, empty v.beats) ∷ r.0) ++ (q, r.1) ∷ r.2 = new_list ∙ ap (λ t. ahead ++ (k, empty v.beats) ∷ t) r.3 ∙ sym (append_assoc ahead ((k, empty v.beats) ∷ r.0) ((q, r.1) ∷ r.2)) in
-              let rises : Rises ((ahead ++ (k, empty v.beats) ∷ r.0) ++ (q, r.1) ∷ r.2) = subst Rises (sym new_list ∙ list) new_rises in
-              let later : after q new.pieces ≡ r.2 = ap (after q) list ∙ place_after q r.1 (ahead ++ (k, empty v.beats) ∷ r.0) r.2 rises in
+              let list : new.pieces ≡ (ahead ++ (k, empty) ∷ r.0) ++ (q, r.1) ∷ r.2 = new_list ∙ ap (λ t. ahead ++ (k, empty) ∷ t) r.3 ∙ sym (append_assoc ahead ((k, empty) ∷ r.0) ((q, r.1) ∷ r.2)) in
+              let rises : Rises ((ahead ++ (k, empty) ∷ r.0) ++ (q, r.1) ∷ r.2) = subst Rises (sym new_list ∙ list) new_rises in
+              let later : after q new.pieces ≡ r.2 = ap (after q) list ∙ place_after q r.1 (ahead ++ (k, empty) ∷ r.0) r.2 rises in
               let long : length rest ≡ length (r.0 ++ (q, r.1) ∷ r.2) = ap length r.3 in
               let sum : length (r.0 ++ (q, r.1) ∷ r.2) ≡ length r.0 + suc (length r.2) = length-append r.0 ((q, r.1) ∷ r.2) in
               let count : length (after q new.pieces) ≡ length r.2 = ap length later in

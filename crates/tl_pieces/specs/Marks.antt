@@ -22,7 +22,7 @@ module _ {S R : Type 0} where
   passed (Some r) = Some (pass_of r)
 
   abbrev pub piece_of : Slot S R → Piece S R
-  piece_of s = record { beats = s.beats; result = passed s.result; live = s.live }
+  piece_of s = record { result = passed s.result; live = s.live }
 
   abbrev pub shown : List (PieceKey × Slot S R) → List (PieceKey × Piece S R)
   shown es = map (λ e. (e.0, piece_of e.1)) es

@@ -15,9 +15,8 @@ pub record Pass (S R : Type 0) : Type 0 where
   pub exit : S
   pub rows : R
 
--- how many beats the window has, its result, and its live ticket
+-- the result of a window, and its live ticket
 pub record Piece (S R : Type 0) : Type 0 where
-  pub beats : ℕ
   pub result : Option (Pass S R)
   pub live : Option ℕ
 
@@ -41,8 +40,8 @@ module _ {S : Type 0} where
   exit_before openings (Some l) o = cond (l.0 == o) l.1 (opening_of o openings)
 
 module _ {S R : Type 0} where
-  abbrev pub empty : ℕ → Piece S R
-  empty n = record { beats = n; result = None; live = None }
+  abbrev pub empty : Piece S R
+  empty = record { result = None; live = None }
 
   abbrev pub with_result : Pass S R → Piece S R → Piece S R
   with_result r p = record p { result = Some r }
@@ -65,10 +64,6 @@ module _ {S R : Type 0} where
   result_of None = None
   result_of (Some p) = p.result
 
-  abbrev pub beats_of : Option (Piece S R) → ℕ
-  beats_of None = 0
-  beats_of (Some p) = p.beats
-
   abbrev pub piece_at : PieceKey → Board S R → Option (Piece S R)
   piece_at k b = value_at k b.pieces
 
@@ -80,7 +75,7 @@ module _ {S R : Type 0} where
 
   -- all pieces of an owner lose their results and their live tickets
   abbrev pub touched_all : ℕ → List (PieceKey × Piece S R) → List (PieceKey × Piece S R)
-  touched_all o es = map (λ e. (e.0, cond (e.0.owner == o) (empty e.1.beats) e.1)) es
+  touched_all o es = map (λ e. (e.0, cond (e.0.owner == o) empty e.1)) es
 
   -- an owner goes with all its pieces
   abbrev pub without_owner : ℕ → Board S R → Board S R

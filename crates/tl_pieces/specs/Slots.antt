@@ -19,14 +19,14 @@ module _ {S R : Type 0} where
   passes mark.Wanted s = s.wanted
   passes mark.Free s = s.wanted && is_none s.live
 
-  abbrev pub blank : ℕ → Slot S R
-  blank n = record { beats = n; result = None; live = None; wanted = true }
+  abbrev pub blank : Slot S R
+  blank = record { result = None; live = None; wanted = true }
 
   abbrev pub changed : Change S R → Slot S R → Slot S R
   changed (to.Wanted w) s = record s { wanted = w }
   changed (to.Live t) s = record s { live = t }
   changed (to.Result r) s = record s { result = Some r }
-  changed (to.Touched n) s = blank n
+  changed to.Touched s = blank
 
   -- what a change does to the marks of a slot
   abbrev pub turn : (Slot S R → Slot S R) → Slot S R → Turn

@@ -10,7 +10,7 @@ use Rattle.tl_pieces.specs.Marks.{pass_of, shown}
 module _ {S R : Type 0} where
   -- the key of a piece and the piece, as an item shows them
   abbrev pub piece_seen : PieceRef S R → PieceKey × Piece S R
-  piece_seen p = (p.key, record { beats = p.beats; result = option_map (λ r. pass_of r.now) p.result; live = p.live })
+  piece_seen p = (p.key, record { result = option_map (λ r. pass_of r.now) p.result; live = p.live })
 
   -- the pieces that it still gives, in their order
   abbrev pub pieces_left : Pieces S R → List (PieceKey × Piece S R)

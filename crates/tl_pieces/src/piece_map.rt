@@ -8,7 +8,7 @@ ghost use Rattle.std.specs.Ordering.{nat_cmp};
 ghost use Rattle.std.specs.BTreeMap.{insert_entry, is_at};
 ghost use Rattle.std.specs.Map.{remove_entry};
 ghost use Rattle.tl_pieces.specs.Keys.{key_cmp, change, after, first_key, owned_by, without, Rises};
-ghost use Rattle.tl_pieces.specs.Pieces.{empty, with_result, with_live, with_pieces, with_openings, without_owner, touched_all, piece_at, opening_of, result_of, live_of, beats_of, entry_for, IsBoard, OwnersRise, HasTrueEntry, IsSettled, HasNoneWanted, EachOwnerIsChained, IsWantedAt, IsFirstWanted, IsFirstFree, IsNextWanted, IsNextFree};
+ghost use Rattle.tl_pieces.specs.Pieces.{empty, with_result, with_live, with_pieces, with_openings, without_owner, touched_all, piece_at, opening_of, result_of, live_of, entry_for, IsBoard, OwnersRise, HasTrueEntry, IsSettled, HasNoneWanted, EachOwnerIsChained, IsWantedAt, IsFirstWanted, IsFirstFree, IsNextWanted, IsNextFree};
 ghost use Rattle.tl_pieces.specs.Marks.{pass_of};
 ghost use Rattle.tl_pieces.specs.Walk.{pieces_left};
 
@@ -146,16 +146,6 @@ impl<S: Same + Drop, R: Drop> PieceMap<S, R> {
         self.slots.contains(key)
     }
 
-    /// How many beats the window of a piece has; 0 where there is no piece.
-    pub fn beats(&self, key: PieceKey) -> usize
-        ensures { result ≡ beats_of (piece_at key self.now) }
-    {
-        match self.slots.get(key) {
-            Some(slot) => slot.beats,
-            None => 0,
-        }
-    }
-
     /// The result of a piece.
     pub fn result(&self, key: PieceKey) -> Option<&Stored<S, R>>
         ensures { option_map (λ r. pass_of r.now) result ≡ result_of (piece_at key self.now) }
@@ -239,15 +229,15 @@ impl<S: Same + Drop, R: Drop> PieceMap<S, R> {
         }
     }
 
-    /// Puts in a piece of an owner: a window with so many beats that was never checked. AllocError where memory is refused:
+    /// Puts in a piece of an owner: a window that was never checked. AllocError where memory is refused:
     /// then nothing has changed.
-    pub fn insert(&mut self, key: PieceKey, beats: usize) -> Result<(), AllocError>
+    pub fn insert(&mut self, key: PieceKey) -> Result<(), AllocError>
         requires owner { is_some (opening_of key.owner self.old.openings) ≡ true }
         requires absent { piece_at key self.old ≡ None }
-        ensures ok { OnOk result (self.new ≡ with_pieces self.old (insert_entry key_cmp self.old.pieces key (empty beats))) }
+        ensures ok { OnOk result (self.new ≡ with_pieces self.old (insert_entry key_cmp self.old.pieces key empty)) }
         ensures err { OnErr result (self.new ≡ self.old) }
     {
-        self.slots.put(key, beats)?;
+        self.slots.put(key)?;
         let next = self.slots.next_of_owner(key);
         judge_next(&self.openings, &mut self.slots, next);
         Ok(())
@@ -263,13 +253,13 @@ impl<S: Same + Drop, R: Drop> PieceMap<S, R> {
         judge_next(&self.openings, &mut self.slots, next);
     }
 
-    /// A piece has so many beats now, and loses its result and its live ticket.
-    pub fn touch(&mut self, key: PieceKey, beats: usize)
+    /// A piece loses its result and its live ticket.
+    pub fn touch(&mut self, key: PieceKey)
         requires { is_some (piece_at key self.old) ≡ true }
-        ensures { self.new ≡ with_pieces self.old (change key (λ _. empty beats) self.old.pieces) }
+        ensures { self.new ≡ with_pieces self.old (change key (λ _. empty) self.old.pieces) }
     {
         let next = self.slots.next_of_owner(key);
-        self.slots.change(key, Change::Touched(beats));
+        self.slots.change(key, Change::Touched);
         judge_next(&self.openings, &mut self.slots, next);
     }
 
@@ -279,8 +269,7 @@ impl<S: Same + Drop, R: Drop> PieceMap<S, R> {
     {
         let mut next = self.first_of(owner);
         while let Some(key) = next {
-            let beats = self.beats(key);
-            self.touch(key, beats);
+            self.touch(key);
             next = self.next_of(key);
         }
     }

@@ -16,7 +16,6 @@ pub struct Stored<S, R> {
 /// A piece, and whether it is wanted.
 #[derive(Drop)]
 pub(crate) struct Slot<S, R> {
-    pub(crate) beats: usize,
     pub(crate) result: Option<Stored<S, R>>,
     pub(crate) live: Option<u64>,
     pub(crate) wanted: bool,
@@ -40,17 +39,16 @@ pub(crate) enum Change<S, R> {
     Live(Option<u64>),
     /// Its result; its mark is not judged.
     Result(Stored<S, R>),
-    /// It has so many beats, and neither a result nor a live ticket.
-    Touched(usize),
+    /// It has neither a result nor a live ticket.
+    Touched,
 }
 
 impl<S, R> Slot<S, R> {
-    /// The slot of a window with so many beats that was never checked.
-    pub(crate) fn blank(beats: usize) -> Self
-        ensures { result ≡ blank beats }
+    /// The slot of a window that was never checked.
+    pub(crate) fn blank() -> Self
+        ensures { result ≡ blank }
     {
         Slot {
-            beats,
             result: None,
             live: None,
             wanted: true,
@@ -78,8 +76,7 @@ impl<S, R> Slot<S, R> {
             Change::Wanted(wanted) => self.wanted = wanted,
             Change::Live(live) => self.live = live,
             Change::Result(stored) => self.result = Some(stored),
-            Change::Touched(beats) => {
-                self.beats = beats;
+            Change::Touched => {
                 self.result = None;
                 self.live = None;
                 self.wanted = true;

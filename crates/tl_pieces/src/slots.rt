@@ -170,18 +170,18 @@ impl<S, R> Slots<S, R> {
         }
     }
 
-    /// Puts in the slot of a window with so many beats that was never checked.
-    pub(crate) fn put(&mut self, key: PieceKey, beats: usize) -> Result<(), AllocError>
+    /// Puts in the slot of a window that was never checked.
+    pub(crate) fn put(&mut self, key: PieceKey) -> Result<(), AllocError>
     where
         S: Drop,
         R: Drop,
         requires absent { value_at key self.old ≡ None }
-        ensures ok { OnOk result (self.new ≡ insert_entry key_cmp self.old key (blank beats)) }
+        ensures ok { OnOk result (self.new ≡ insert_entry key_cmp self.old key blank) }
         ensures err { OnErr result (self.new ≡ self.old) }
         ensures order { Rises self.new }
     {
         let _ = self.map.len();
-        if self.map.insert(key, Slot::blank(beats)).is_err() {
+        if self.map.insert(key, Slot::blank()).is_err() {
             return Err(AllocError);
         }
         self.wanted = self.wanted.turned(key, false, true);

@@ -34,14 +34,14 @@ fn add(alloc: Global, map: &mut Map, owner: u32, opening: u32) -> Result<(), All
     map.add_owner(owner, opening)
 }
 
-fn insert(map: &mut Map, key: PieceKey, beats: usize) -> Result<(), AllocError> {
+fn insert(map: &mut Map, key: PieceKey) -> Result<(), AllocError> {
     if map.contains(key) {
         return Ok(());
     }
     if map.opening(key.owner).is_none() {
         return Ok(());
     }
-    map.insert(key, beats)
+    map.insert(key)
 }
 
 fn store(
@@ -60,9 +60,9 @@ fn store(
     Ok(())
 }
 
-fn touch(map: &mut Map, key: PieceKey, beats: usize) {
+fn touch(map: &mut Map, key: PieceKey) {
     if map.contains(key) {
-        map.touch(key, beats);
+        map.touch(key);
     }
 }
 
@@ -91,9 +91,9 @@ fn board(alloc: Global) -> Result<Map, AllocError> {
     let mut map = PieceMap::new(alloc);
     add(alloc, &mut map, 4, 40)?;
     add(alloc, &mut map, 1, 10)?;
-    insert(&mut map, at(4, 0), 5)?;
-    insert(&mut map, at(1, 7), 2)?;
-    insert(&mut map, at(1, 3), 1)?;
+    insert(&mut map, at(4, 0))?;
+    insert(&mut map, at(1, 7))?;
+    insert(&mut map, at(1, 3))?;
     Ok(map)
 }
 
@@ -128,8 +128,7 @@ fn a_guess_is_wanted_again_where_its_entry_was_another(rt: HostRuntime) -> Resul
 fn a_touched_window_joins_again(rt: HostRuntime) -> Result<(), Fail> {
     let mut map = settled_board(rt.alloc())?;
     assert!(rt; map.settled());
-    touch(&mut map, at(1, 3), 6);
-    assert_eq!(rt; map.beats(at(1, 3)), 6);
+    touch(&mut map, at(1, 3));
     assert_eq!(rt; rows(&map, at(1, 3)), None);
     assert_eq!(rt; map.first_wanted(), Some(at(1, 3)));
     assert_eq!(rt; map.next_wanted(at(1, 4)), None);
@@ -145,10 +144,9 @@ fn a_touched_window_joins_again(rt: HostRuntime) -> Result<(), Fail> {
 fn owners_that_come_and_go(rt: HostRuntime) -> Result<(), Fail> {
     let mut map = settled_board(rt.alloc())?;
     add(rt.alloc(), &mut map, 2, 20)?;
-    insert(&mut map, at(2, 1), 3)?;
+    insert(&mut map, at(2, 1))?;
     map.touch_all(1);
     assert_eq!(rt; map.first_wanted(), Some(at(1, 3)));
-    assert_eq!(rt; map.beats(at(1, 7)), 2);
     assert_eq!(rt; map.next_free(at(1, 8)), Some(at(2, 1)));
     map.remove_owner(1);
     map.remove_owner(2);

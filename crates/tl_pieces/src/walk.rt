@@ -8,8 +8,6 @@ use std::collections::btree_map::Iter;
 #[derive(Drop)]
 pub struct PieceRef<'a, S, R> {
     pub key: PieceKey,
-    /// How many beats the window has.
-    pub beats: usize,
     pub result: Option<&'a Stored<S, R>>,
     /// The live ticket.
     pub live: Option<u64>,
@@ -49,7 +47,6 @@ impl<'a, S, R> Iterator for Pieces<'a, S, R> {
         match self.slots.next() {
             Some((key, slot)) => Some(PieceRef {
                 key: *key,
-                beats: slot.beats,
                 result: slot.result.as_ref(),
                 live: slot.live,
             }),

@@ -14,17 +14,16 @@ judge_next-requires g c =
     let os = c.self.inside.openings in
     let es = c.self.inside.slots in
     let k = c.args.key in
-    let n = c.args.beats in
     let next = c.next_of_owner-next.result in
     let is = c.next_of_owner-next.ensures.key in
     let rises = c.change.ensures.order in
     let slot = slot_found k es (ap (λ (b : Board g.row.S.Denot g.row.R.Denot). is_some (piece_at k b)) c.self.view_is ∙ c.requires) in
     let marked = c.self.invariant in
-    but_changed g.S.Same.same os k slot.0 es rises slot.1 marked next is (blank n) c.change.new.self
-    (c.change.ensures.slots ∙ changed_list g.S.Same.same os k slot.0 es rises slot.1 marked next is (changed (to.Touched n)))
-    (blank_mark g.S.Same.same os k n (ends None (before k es)) (owner_found g.S.Same.same os k slot.0 es rises slot.1 marked next is))
+    but_changed g.S.Same.same os k slot.0 es rises slot.1 marked next is blank c.change.new.self
+    (c.change.ensures.slots ∙ changed_list g.S.Same.same os k slot.0 es rises slot.1 marked next is (changed to.Touched))
+    (blank_mark g.S.Same.same os k (ends None (before k es)) (owner_found g.S.Same.same os k slot.0 es rises slot.1 marked next is))
 
 pub returns : goal.returns
 returns g c =
-    board_step (record { openings = c.self.inside.openings; pieces = shown c.self.inside.slots }) c.args.self.now c.self.view_is (change c.args.key (λ _. empty c.args.beats)) (shown c.judge_next.new.slots)
-    (c.judge_next.ensures.shown ∙ ap shown c.change.ensures.slots ∙ shown_touched c.args.key c.args.beats c.self.inside.slots)
+    board_step (record { openings = c.self.inside.openings; pieces = shown c.self.inside.slots }) c.args.self.now c.self.view_is (change c.args.key (λ _. empty)) (shown c.judge_next.new.slots)
+    (c.judge_next.ensures.shown ∙ ap shown c.change.ensures.slots ∙ shown_touched c.args.key c.self.inside.slots)

@@ -14,13 +14,13 @@ loop-next-smaller g c =
     let old = c.args.self.now in
     let now = c.loop-next.self in
     subst (λ n. left_after c.next_of-next.result c.touch.new.self.pieces < left_after n now.pieces) (sym c.in-Some.is)
-    (fewer c.args.owner old now c.in-Some.key (subst (IsDoneTo c.args.owner old now) c.in-Some.is c.loop-next.invariant) c.beats-beats.result c.touch.new.self c.next_of-next.result c.beats-beats.ensures c.touch.ensures c.next_of-next.ensures.key)
+    (fewer c.args.owner old now c.in-Some.key (subst (IsDoneTo c.args.owner old now) c.in-Some.is c.loop-next.invariant) c.touch.new.self c.next_of-next.result c.touch.ensures c.next_of-next.ensures.key)
 
 pub loop-next-preserved : goal.loop-next-preserved
 loop-next-preserved g c =
     let old = c.args.self.now in
     let now = c.loop-next.self in
-    done_next c.args.owner old now c.in-Some.key (subst (IsDoneTo c.args.owner old now) c.in-Some.is c.loop-next.invariant) c.beats-beats.result c.touch.new.self c.next_of-next.result c.beats-beats.ensures c.touch.ensures c.next_of-next.ensures.key
+    done_next c.args.owner old now c.in-Some.key (subst (IsDoneTo c.args.owner old now) c.in-Some.is c.loop-next.invariant) c.touch.new.self c.next_of-next.result c.touch.ensures c.next_of-next.ensures.key
 
 pub returns : goal.returns
 returns g c =

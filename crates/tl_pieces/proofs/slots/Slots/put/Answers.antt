@@ -16,9 +16,9 @@ pub invariant_of-self-2 : goal.invariant_of-self-2
 invariant_of-self-2 g c =
     let k = c.args.key in
     let es = c.self.inside.map.entries in
-    let is : c.insert.new.self.entries ≡ insert_entry key_cmp es k (blank c.args.beats) = search rules in
+    let is : c.insert.new.self.entries ≡ insert_entry key_cmp es k blank = search rules in
     let none : value_at k es ≡ None = ap (value_at k) c.self.view_is ∙ c.requires.absent in
     record {
-      wanted = insert_tally (passes mark.Wanted) k (blank c.args.beats) es c.insert.new.self.entries c.self.inside.wanted c.turned-self-inside.result refl none c.self.invariant.wanted c.turned-self-inside.ensures.count c.turned-self-inside.ensures.cursor is;
-      free = insert_tally (passes mark.Free) k (blank c.args.beats) es c.insert.new.self.entries c.self.inside.free c.turned-self-inside-2.result refl none c.self.invariant.free c.turned-self-inside-2.ensures.count c.turned-self-inside-2.ensures.cursor is;
+      wanted = insert_tally (passes mark.Wanted) k blank es c.insert.new.self.entries c.self.inside.wanted c.turned-self-inside.result refl none c.self.invariant.wanted c.turned-self-inside.ensures.count c.turned-self-inside.ensures.cursor is;
+      free = insert_tally (passes mark.Free) k blank es c.insert.new.self.entries c.self.inside.free c.turned-self-inside-2.result refl none c.self.invariant.free c.turned-self-inside-2.ensures.count c.turned-self-inside-2.ensures.cursor is;
     }

@@ -187,6 +187,14 @@ impl SpanResult {
         &self.rows
     }
 
+    /// The state after its beats and the rows, and nothing of the rest.
+    pub fn into_parts(self) -> (SpanState, Vec<Row>)
+        ensures exact { (result.0 ≡ self.exit) × (result.1.items ≡ self.rows) }
+        ensures kept { IsResult self }
+    {
+        (self.exit, self.rows)
+    }
+
     /// The rows, and nothing of the rest.
     pub fn into_rows(self) -> Vec<Row>
         ensures exact { result.items ≡ self.rows }

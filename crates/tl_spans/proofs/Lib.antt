@@ -1,1 +1,3 @@
 pub mod CoverLemmas
+pub mod EntryLemmas
+pub mod OpenLemmas

@@ -2,5 +2,7 @@
 #![tactic(auto)]
 
 mod rows;
+mod spans;
 
 pub use rows::Rows;
+pub use spans::Spans;

@@ -1,0 +1,86 @@
+//! The windows of all managers behind a log of edits.
+
+ghost use Rattle.std.specs.Prelude.{◌≡◌, ◌<◌, [], length, IfOk, IfSome, OnErr, Some, is_some, true};
+ghost use Rattle.std.specs.Bool.{Decides};
+ghost use Rattle.tl_pieces.specs.Keys.{change};
+ghost use Rattle.tl_pieces.specs.Marks.{pass_of};
+ghost use Rattle.tl_pieces.specs.Pieces.{piece_at, entry_for, with_pieces, with_result, IsSettled, IsFirstWanted, HasTrueEntry};
+ghost use Rattle.tl_plain.specs.Captured.{areas_at};
+ghost use Rattle.tl_plain.specs.Found.{AreFound};
+ghost use Rattle.tl_definitions.specs.Captures.{captures_of};
+ghost use Rattle.tl_span.specs.States.{SameSpan};
+ghost use Rattle.tl_spans.specs.Spans.{standing, HasManagers, IsSound};
+
+use crate::rows::Rows;
+use std::alloc::{AllocError, Global};
+use std::marker::Model;
+use std::sync::Arc;
+use tl_inputs::Log;
+use tl_pieces::PieceMap;
+use tl_span::SpanState;
+use tl_topology::Topo;
+
+/// A log of edits, and the windows of all managers: of each window in which a manager has a beat its result, from when it was
+/// checked until an edit touches it.
+#[derive(Drop)]
+pub struct Spans {
+    pub(crate) log: Log,
+    pub(crate) pieces: PieceMap<SpanState, Rows>,
+}
+
+impl Model for Spans {
+    ghost use Rattle.std.specs.Coded.{codes};
+    ghost use Rattle.tl_span.specs.contracts.state.SpanState as state;
+    ghost use Rattle.tl_spans.specs.Spans.{SpansData, IsSound};
+
+    ghost Value = { SpansData };
+
+    ghost coded = { Prim.hlevel (codes, state.the_row.coded) };
+
+    ghost view = { λ s. record { log = s.log; board = s.pieces } };
+
+    ghost invariant = { λ s. IsSound (record { log = s.log; board = s.pieces }) };
+}
+
+/// The managers of a topology, each with the state of no beats.
+fn opened(alloc: Global, topo: &Topo) -> Result<PieceMap<SpanState, Rows>, AllocError>
+    ensures pieces { IfOk result (λ map. map.pieces ≡ []) }
+    ensures managers { IfOk result (HasManagers topo.now (length topo.now.managers)) }
+{
+    let mut map = PieceMap::new(alloc);
+    for manager in 0..topo.manager_count() {
+        let state = SpanState::opening(alloc, topo, manager as u16)?;
+        map.add_owner(manager as u32, Arc::new(alloc, state)?)?;
+    }
+    Ok(map)
+}
+
+impl Spans {
+    /// A log without edits, and so no windows. AllocError where memory is refused.
+    pub fn new(alloc: Global, topo: Topo) -> Result<Spans, AllocError>
+        ensures log { IfOk result (λ spans. spans.log ≡ record { topo = topo; edits = [] }) }
+        ensures pieces { IfOk result (λ spans. spans.board.pieces ≡ []) }
+    {
+        let pieces = opened(alloc, &topo)?;
+        Ok(Spans {
+            log: Log::new(alloc, topo)?,
+            pieces,
+        })
+    }
+
+    /// The log.
+    pub fn log(&self) -> &Log
+        ensures exact { result.now ≡ self.now.log }
+        ensures kept { IsSound self.now }
+    {
+        let _ = &self.pieces;
+        &self.log
+    }
+
+    /// Whether every window has a result, and each begins with what the one before it ended with. It walks nothing.
+    pub fn settled(&self) -> bool
+        ensures { Decides result (IsSettled SameSpan self.now.board) }
+    {
+        self.pieces.settled()
+    }
+}

@@ -60,7 +60,7 @@ pub some_of : {A : Type 0} (found : Option A) → is_some found ≡ true → (x 
 some_of None h = cc
 some_of (Some x) h = (x, refl)
 
-piece_of_result : {S R : Type 0} (found : Option (Piece S R)) (r : pieces.Pass S R) → result_of found ≡ Some r → (p : Piece S R) × (found ≡ Some p) × (p.result ≡ Some r)
+pub piece_of_result : {S R : Type 0} (found : Option (Piece S R)) (r : pieces.Pass S R) → result_of found ≡ Some r → (p : Piece S R) × (found ≡ Some p) × (p.result ≡ Some r)
 piece_of_result None r h = cc
 piece_of_result (Some p) r h = (p, refl, h)
 
@@ -86,6 +86,13 @@ owned_rises o (e ∷ es) s =
       | true ↦ (owned_above o e.0 es s.0, owned_rises o es s.1)
       | false ↦ owned_rises o es s.1
     ]
+
+-- What a look-up finds is a member, and the other way round.
+pub found_at : {S R : Type 0} (board : Board S R) → IsBoard board → (e : PieceKey × Piece S R) → Contains board.pieces e → piece_at e.0 board ≡ Some e.1
+found_at board is e h = lookup-from_Contains key_equivalence e.0 e.1 board.pieces (distinct_keys board.pieces is.keys) h
+
+pub at_found : {S R : Type 0} (board : Board S R) (key : PieceKey) (piece : Piece S R) → piece_at key board ≡ Some piece → Contains board.pieces (key, piece)
+at_found board key piece h = Contains-from_lookup key_exact key piece board.pieces h
 
 module _ {S X : Type 0} (Shows : ℕ → S → X → Type 0) (judge : ℕ → Judge X) (beats : ℕ → List Placed) (same : S → S → Type 0)
     (exact : (owner : ℕ) (one two : S) (x y : X) → Shows owner one x → Shows owner two y → same one two → x ≡ y) (o : ℕ) where
@@ -152,20 +159,13 @@ module _ {S X : Type 0} (Shows : ℕ → S → X → Type 0) (judge : ℕ → Ju
     abbrev own : List Entry
     own = owned_by o board.pieces
 
-    -- what a look-up finds is a member, and the other way round
-    found_at : (e : Entry) → Contains board.pieces e → piece_at e.0 board ≡ Some e.1
-    found_at e h = lookup-from_Contains key_equivalence e.0 e.1 board.pieces (distinct_keys board.pieces is.keys) h
-
-    at_found : (key : PieceKey) (piece : Piece S (List Row)) → piece_at key board ≡ Some piece → Contains board.pieces (key, piece)
-    at_found key piece h = Contains-from_lookup key_exact key piece board.pieces h
-
     own_rises : Rises own
     own_rises = owned_rises o board.pieces is.keys
 
     results_of : (e : Entry) → Contains own e → (r : Result) → e.1.result ≡ Some r → IsOfWindow Shows judge beats o e.0.window r
     results_of e h r some =
         let from = owned_from o board.pieces e h in
-        subst (λ n. IsOfWindow Shows judge beats n e.0.window r) from.1 (covers.results e.0 r (ap result_of (found_at e from.0) ∙ some))
+        subst (λ n. IsOfWindow Shows judge beats n e.0.window r) from.1 (covers.results e.0 r (ap result_of (found_at board is e from.0) ∙ some))
 
     are_windows : (is_some (opening_of o board.openings) ≡ true) → AreWindows (beats o) (windows own)
     are_windows owner = record {
@@ -173,11 +173,11 @@ module _ {S X : Type 0} (Shows : ℕ → S → X → Type 0) (judge : ℕ → Ju
       members = λ window. (
         (λ h. let found = mapped_from (λ (e : Entry). e.0.window) own window h in
             let from = owned_from o board.pieces found.0 found.1 in
-            let has : HasBeat (beats found.0.0.owner) found.0.0.window = (covers.windows found.0.0 (ap (λ n. is_some (opening_of n board.openings)) from.1 ∙ owner)).0 (ap is_some (found_at found.0 from.0)) in
+            let has : HasBeat (beats found.0.0.owner) found.0.0.window = (covers.windows found.0.0 (ap (λ n. is_some (opening_of n board.openings)) from.1 ∙ owner)).0 (ap is_some (found_at board is found.0 from.0)) in
             subst (λ w. HasBeat (beats o) w) found.2 (subst (λ n. HasBeat (beats n) found.0.0.window) from.1 has)),
         (λ h. let key : PieceKey = record { owner = o; window = window } in
             let some = some_of (piece_at key board) ((covers.windows key owner).1 h) in
-            contains_mapped (λ (e : Entry). e.0.window) own (key, some.0) (owned_has o board.pieces (key, some.0) (at_found key some.0 some.1) refl)),
+            contains_mapped (λ (e : Entry). e.0.window) own (key, some.0) (owned_has o board.pieces (key, some.0) (at_found board key some.0 some.1) refl)),
       );
     }
 
@@ -193,11 +193,11 @@ module _ {S X : Type 0} (Shows : ℕ → S → X → Type 0) (judge : ℕ → Ju
           (λ has.
               let at : result_of (piece_at has.0 board) ≡ Some has.1 = has.3 in
               let piece = piece_of_result (piece_at has.0 board) has.1 at in
-              let member = owned_has o board.pieces (has.0, piece.0) (at_found has.0 piece.0 piece.1) has.2 in
+              let member = owned_has o board.pieces (has.0, piece.0) (at_found board has.0 piece.0 piece.1) has.2 in
               subst (λ ps. Contains (rows_judged (judge o) (opening o) ps) row) beats_are
               (chain_has (judge o) (opening o) parts.passes parts.chain row ((parts.rows row).1 ((has.0, piece.0), has.1, member, piece.2, has.4)))),
           (λ has.
               let some_row = (parts.rows row).0 (chain_from (judge o) (opening o) parts.passes parts.chain row (subst (λ ps. Contains (rows_judged (judge o) (opening o) ps) row) (sym beats_are) has)) in
               let from = owned_from o board.pieces some_row.0 some_row.2 in
-              (some_row.0.0, some_row.1, from.1, ap result_of (found_at some_row.0 from.0) ∙ some_row.3, some_row.4)),
+              (some_row.0.0, some_row.1, from.1, ap result_of (found_at board is some_row.0 from.0) ∙ some_row.3, some_row.4)),
         )

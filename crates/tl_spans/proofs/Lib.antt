@@ -1,3 +1,4 @@
 pub mod CoverLemmas
 pub mod EntryLemmas
 pub mod OpenLemmas
+pub mod FoundLemmas

@@ -9,12 +9,14 @@ ghost use Rattle.tl_plain.specs.Captured.{areas_at};
 ghost use Rattle.tl_plain.specs.Found.{AreFound};
 ghost use Rattle.tl_definitions.specs.Captures.{captures_of};
 ghost use Rattle.tl_span.specs.States.{SameSpan};
+ghost use Rattle.tl_spans.specs.Rows.{all_rows};
 ghost use Rattle.tl_spans.specs.Spans.{standing, HasManagers, IsSound};
 
 use crate::rows::Rows;
 use std::alloc::{AllocError, Global};
 use std::marker::Model;
 use std::sync::Arc;
+use tl_beats::Row;
 use tl_inputs::Log;
 use tl_pieces::PieceMap;
 use tl_span::SpanState;
@@ -83,4 +85,29 @@ impl Spans {
     {
         self.pieces.settled()
     }
+
+    /// The rows of all windows: those that the rules of managers find in what stands. AllocError where memory is refused.
+    pub fn rows(&self, alloc: Global) -> Result<Vec<Row>, AllocError>
+        requires { IsSettled SameSpan self.now.board }
+        ensures { IfOk result (λ rows. AreFound (captures_of self.now.log.topo (areas_at (standing self.now).regions) (standing self.now).fragments) rows.items) }
+    {
+        let _ = self.log.inputs().present().is_empty();
+        let _ = self.pieces.settled();
+        let _ = self.pieces.len();
+        let rows = gathered(alloc, &self.pieces)?;
+        Ok(rows)
+    }
+}
+
+/// The rows of all pieces, one piece after the other.
+fn gathered(alloc: Global, pieces: &PieceMap<SpanState, Rows>) -> Result<Vec<Row>, AllocError>
+    ensures { IfOk result (λ rows. rows.items ≡ all_rows pieces.now.pieces) }
+{
+    let mut rows = Vec::new(alloc);
+    for piece in pieces.iter() {
+        if let Some(stored) = piece.result {
+            rows.extend_from_slice(stored.rows.as_slice())?;
+        }
+    }
+    Ok(rows)
 }

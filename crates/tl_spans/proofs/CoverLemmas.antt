@@ -1,5 +1,5 @@
 -- Results that stand in a chain have the rows of all their owner's beats.
-use Rattle.std.proofs.Common.{◌≡◌, ℕ, ◌==◌, ◌⊎◌, inl, inr, true, false, cond, List, [], ◌∷◌, ◌++◌, Option, Some, None, refl, sym, ap, subst, ◌∙◌, arith, eqb-true, Less, Equal}
+use Rattle.std.proofs.Common.{◌≡◌, ℕ, ◌==◌, inl, inr, true, false, cond, List, [], ◌∷◌, ◌++◌, Option, Some, None, refl, sym, ap, subst, ◌∙◌, arith, eqb-true, Less, Equal}
 use Rattle.std.specs.Prelude.{◌↔◌, map, is_some}
 use Rattle.std.specs.Ordering.{nat_cmp, ordering_then}
 use Rattle.tl_definitions.proofs.OrderLaws.{tied}
@@ -13,14 +13,14 @@ use Rattle.std.proofs.lemmas.Map.Keys.{IsDistinct-from_sorted}
 use Rattle.std.specs.Cmp.{IsEquivalence}
 use Rattle.std.specs.List.{IsDistinct}
 use Rattle.std.proofs.lemmas.Map.Views.{Contains-from_lookup, lookup-from_Contains}
-use Rattle.tl_pieces.proofs.OrderLemmas.{key_exact, key_self, key_total}
+use Rattle.tl_pieces.proofs.OrderLemmas.{key_exact, key_total}
 use Rattle.tl_beats.specs.declared.Placed.{Placed}
 use Rattle.tl_beats.specs.declared.Row.{Row}
 use Rattle.tl_definitions.specs.Passes.{Judge, Pass, IsChain, SomeHas, rows_judged, pass_beats}
 use Rattle.tl_definitions.proofs.ChainLaws.{chain_has, chain_from}
-use Rattle.tl_definitions.proofs.Lists.{contains_none, contains_here, contains_there, contains_cases, contains_mapped, mapped_from, all_by, all_of}
+use Rattle.tl_definitions.proofs.Lists.{contains_none, contains_here, contains_there, contains_cases, contains_mapped, mapped_from, all_by}
 use Rattle.tl_pieces.specs.declared.key.PieceKey.{PieceKey}
-use Rattle.tl_pieces.specs.Keys.{key_cmp, value_at, owned_by, Rises}
+use Rattle.tl_pieces.specs.Keys.{key_cmp, owned_by, Rises}
 use Rattle.tl_pieces.specs.Pieces.{Piece, Board, Links, IsBoard, EachOwnerIsChained, opening_of, piece_at, result_of}
 use Rattle.tl_pieces.specs.Pieces as pieces
 use Rattle.tl_windows.specs.Windows.{beats_in, joined, AreWindows, HasBeat}
@@ -188,7 +188,7 @@ module _ {S X : Type 0} (Shows : ℕ → S → X → Type 0) (judge : ℕ → Ju
     whole chained state some all row =
         let owner : is_some (opening_of o board.openings) ≡ true = ap is_some some in
         let parts = join own state (opening o) (covers.openings o state some) (chained o state some)
-            (all_by (λ (e : Entry). (r : Result) → e.1.result ≡ Some r → IsOfWindow Shows judge beats o e.0.window r) own results_of) in
+        (all_by (λ (e : Entry). (r : Result) → e.1.result ≡ Some r → IsOfWindow Shows judge beats o e.0.window r) own results_of) in
         let beats_are : pass_beats parts.passes ≡ beats o = parts.all ∙ all (windows own) (are_windows owner) in (
           (λ has.
               let at : result_of (piece_at has.0 board) ≡ Some has.1 = has.3 in

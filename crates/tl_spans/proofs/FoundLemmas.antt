@@ -1,5 +1,5 @@
 -- The rows of all windows are those that the definitions find.
-use Rattle.std.proofs.Common.{◌≡◌, ℕ, ◌+◌, ◌<◌, ◌≤◌, ◌⊎◌, inl, inr, true, false, List, [], ◌∷◌, ◌++◌, Option, Some, None, length, nat_lt, refl, sym, ap, subst, ◌∙◌, arith}
+use Rattle.std.proofs.Common.{◌≡◌, ℕ, ◌+◌, ◌<◌, ◌≤◌, inl, inr, true, false, List, [], ◌∷◌, Option, Some, None, length, nat_lt, refl, sym, ap, subst, ◌∙◌, arith}
 use Rattle.std.specs.Prelude.{◌↔◌, is_some}
 use Rattle.std.specs.List.{Contains}
 use Rattle.std.proofs.lemmas.Bool.Decides.{nat_tests}
@@ -22,7 +22,6 @@ use Rattle.tl_pieces.specs.declared.key.PieceKey.{PieceKey}
 use Rattle.tl_pieces.specs.Pieces.{Piece, Board, IsBoard, EachOwnerIsChained, opening_of, piece_at, result_of}
 use Rattle.tl_pieces.specs.Pieces as pieces
 use Rattle.tl_plain.specs.Captured.{areas_at}
-use Rattle.tl_plain.specs.Found.{AreFound}
 use Rattle.tl_plain.proofs.CaptureLaws.{capture_with}
 use Rattle.tl_span.specs.States.{SameSpan}
 use Rattle.tl_span.specs.declared.state.SpanState.{SpanState}
@@ -31,7 +30,7 @@ use Rattle.tl_windows.specs.Present.{IsPresent}
 use Rattle.tl_windows.proofs.LawLemmas.{windows_are_whole}
 use Rattle.tl_spans.specs.Covers.{HasRow}
 use Rattle.tl_spans.specs.Rows.{rows_of, all_rows}
-use Rattle.tl_spans.specs.Spans.{SpansData, standing, manager_in, ShowsOf, opening_in, HasManagers, AreSpans}
+use Rattle.tl_spans.specs.Spans.{manager_in, ShowsOf, opening_in, HasManagers, AreSpans}
 use Rattle.tl_spans.proofs.CoverLemmas.{whole, found_at, at_found, some_of, piece_of_result}
 
 -- ---- the rows of a list of pieces
@@ -74,9 +73,11 @@ finds_at topo regions fs from (m ∷ managers) row number low high h = elim (nat
   | true ↦ λ t. (let above : from < number = grind (arith, nat_tests) in
       let f = finds_at topo regions fs (from + 1) managers row number (omega arith) (omega arith) h in
       (f.0, contains_there (capture_with topo regions fs from) (captures_from topo regions fs (from + 1) managers) f.0 f.1, f.2))
-  | false ↦ λ t. (let here : number ≡ from = grind (arith, nat_tests) in
-      (capture_with topo regions fs from, contains_here (capture_with topo regions fs from) (captures_from topo regions fs (from + 1) managers),
-        subst (λ n. Breaks (manager_at topo n (regions n)) (manager_beats topo fs n) row) here h))
+  | false ↦ λ t. (let here : number ≡ from = grind (arith, nat_tests) in (
+    capture_with topo regions fs from,
+    contains_here (capture_with topo regions fs from) (captures_from topo regions fs (from + 1) managers),
+    subst (λ n. Breaks (manager_at topo n (regions n)) (manager_beats topo fs n) row) here h,
+  ))
 ] refl
 
 -- ---- both
@@ -91,7 +92,7 @@ module _ (now : InputData) (topo : Topology) (same_topo : now.topo ≡ topo) (bo
       let state = some_of (opening_of o board.openings) owner in
       let links : List ℕ = clients_of o (declared_links now.topo) in
       let has = whole (ShowsOf now) (λ m. judging (manager_in now m)) (λ m. manager_beats now.topo now.fragments m) SameSpan exact o (opening_in now) board is covers chained state.0 state.1
-          (λ windows are. windows_are_whole links now.fragments windows present are) row in
+      (λ windows are. windows_are_whole links now.fragments windows present are) row in
       let rows : rows_judged (judging (manager_in now o)) (opening_in now o) (manager_beats now.topo now.fragments o) ≡ rows_in (manager_in now o) (manager_beats now.topo now.fragments o) =
       all_exact (manager_in now o) [] (manager_beats now.topo now.fragments o) in
       let breaks = rows_are_breaks (manager_in now o) (manager_beats now.topo now.fragments o) row in (

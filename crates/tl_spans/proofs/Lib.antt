@@ -2,3 +2,4 @@ pub mod CoverLemmas
 pub mod EntryLemmas
 pub mod OpenLemmas
 pub mod FoundLemmas
+pub mod CheckLemmas

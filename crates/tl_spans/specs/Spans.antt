@@ -1,5 +1,5 @@
 -- The windows of all managers behind a log of edits, as plain data.
-use Rattle.std.specs.Prelude.{ℕ, ◌≡◌, List, [], length, nat_lt, is_some, Some}
+use Rattle.std.specs.Prelude.{ℕ, ◌≡◌, List, [], length, nat_lt, is_some, Option, None, Some}
 use Rattle.tl_topology.specs.Regions.{Area}
 use Rattle.tl_topology.specs.Topology.{Topology}
 use Rattle.tl_beats.specs.declared.Row.{Row}
@@ -9,9 +9,11 @@ use Rattle.tl_definitions.specs.Managers.{manager_at}
 use Rattle.tl_definitions.specs.Rules.{Manager}
 use Rattle.tl_inputs.specs.Inputs.{InputData}
 use Rattle.tl_inputs.specs.Log.{LogData, inputs_after}
-use Rattle.tl_pieces.specs.Pieces.{Board, Pass, opening_of}
+use Rattle.tl_pieces.specs.declared.key.PieceKey.{PieceKey}
+use Rattle.tl_pieces.specs.Keys.{change}
+use Rattle.tl_pieces.specs.Pieces.{Board, Pass, opening_of, entry_for, with_pieces, with_result}
 use Rattle.tl_plain.specs.Captured.{areas_at}
-use Rattle.tl_span.specs.States.{shown, IsOf, StandsFor, SameSpan}
+use Rattle.tl_span.specs.States.{shown, IsOf, StandsFor}
 use Rattle.tl_span.specs.declared.state.SpanState.{SpanState}
 use Rattle.tl_spans.specs.Covers.{Covers, IsOfWindow}
 
@@ -52,3 +54,14 @@ pub record HasManagers (topo : Topology) (count : ℕ) (board : Board SpanState 
 pub record IsSound (spans : SpansData) : Type 0 where
   pub managers : HasManagers spans.log.topo (length spans.log.topo.managers) spans.board
   pub covered : AreSpans (standing spans) spans.board
+
+-- A window gets its result: the pass of its present beats from what it is to start from. All else stays.
+pub record ChecksWindow (old : SpansData) (key : PieceKey) (new : SpansData) : Type 0 where
+  pub result : Pass SpanState (List Row)
+  pub of_window : IsSpanOf (standing old) key.owner key.window result
+  pub entry : entry_for key old.board ≡ Some result.entry
+  pub rest : new ≡ record old { board = with_pieces old.board (change key (with_result result) old.board.pieces) }
+
+abbrev pub ChecksFirst : SpansData → Option PieceKey → SpansData → Type 0
+ChecksFirst old None new = new ≡ old
+ChecksFirst old (Some key) new = ChecksWindow old key new

@@ -1,6 +1,7 @@
 //! The windows of all managers, each with its result, behind a log of edits.
 #![tactic(auto)]
 
+mod checking;
 mod rows;
 mod spans;
 

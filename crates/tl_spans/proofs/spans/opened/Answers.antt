@@ -13,6 +13,6 @@ loop-manager-preserved c =
     let old : Board SpanState (List Row) = c.loop-manager.map in
     let shared : arc_value c.in_ok-new.field-0 ≡ c.in_ok-state.state = c.in_ok-new.ensures.ok in (
       one_more c.args.topo.now c.loop-manager.manager old c.add_owner.new.self c.in_ok-state.state c.loop-manager.invariant.0 c.in_ok-state.ensures
-      (c.in_ok-add_owner.ensures.ok ∙ ap (λ (s : SpanState). with_openings old (insert_entry nat_cmp old.openings c.loop-manager.manager s)) shared),
+          (c.in_ok-add_owner.ensures.ok ∙ ap (λ (s : SpanState). with_openings old (insert_entry nat_cmp old.openings c.loop-manager.manager s)) shared),
       ap (λ (b : Board SpanState (List Row)). b.pieces) c.in_ok-add_owner.ensures.ok ∙ c.loop-manager.invariant.1,
     )

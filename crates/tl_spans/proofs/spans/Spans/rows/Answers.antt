@@ -1,9 +1,6 @@
-use Rattle.std.proofs.Common.{◌≡◌, sym, ap, subst, ◌∙◌, List, refl}
-use Rattle.tl_beats.specs.declared.Row.{Row}
+use Rattle.std.proofs.Common.{◌≡◌, sym, ap, subst, ◌∙◌}
 use Rattle.tl_definitions.specs.Captures.{captures_of}
-use Rattle.tl_definitions.specs.Positions.{Recorded}
 use Rattle.tl_inputs.specs.Inputs.{InputData}
-use Rattle.tl_inputs.specs.Log.{inputs_after}
 use Rattle.tl_plain.specs.Captured.{areas_at}
 use Rattle.tl_plain.specs.Found.{AreFound}
 use Rattle.tl_windows.specs.Present.{IsPresent}
@@ -20,6 +17,6 @@ returns c =
     let same_topo : now.topo ≡ inside.log.topo = ap (λ (i : InputData). i.topo) (sym c.inputs.ensures.exact) ∙ c.inputs.ensures.topo in
     let fragments : c.present.result.now ≡ now.fragments = c.present.ensures ∙ ap (λ (i : InputData). i.fragments) c.inputs.ensures.exact in
     let found = all_found now inside.log.topo same_topo inside.board c.self.invariant.managers c.self.invariant.covered c.len.ensures.kept
-        (subst IsPresent fragments c.is_empty.ensures.kept) (c.settled.ensures.chains (c.settled.ensures.settled.1 (subst (λ (s : SpansData). IsSettled SameSpan s.board) (sym c.self.view_is) c.requires))) in
+    (subst IsPresent fragments c.is_empty.ensures.kept) (c.settled.ensures.chains (c.settled.ensures.settled.1 (subst (λ (s : SpansData). IsSettled SameSpan s.board) (sym c.self.view_is) c.requires))) in
     subst (λ (s : SpansData). AreFound (captures_of s.log.topo (areas_at (standing s).regions) (standing s).fragments) c.in_ok-rows.rows.items) c.self.view_is
     (subst (AreFound (captures_of inside.log.topo (areas_at now.regions) now.fragments)) (sym c.in_ok-rows.ensures) found)

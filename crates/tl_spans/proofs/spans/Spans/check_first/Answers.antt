@@ -1,0 +1,31 @@
+use Rattle.std.proofs.Common.{◌≡◌, None, true, List, sym, subst}
+use Rattle.std.specs.Prelude.{is_some}
+use Rattle.tl_beats.specs.declared.Row.{Row}
+use Rattle.tl_pieces.specs.Marks.{pass_of}
+use Rattle.tl_pieces.specs.Pieces.{Board, IsFirstWanted, IsWanted, piece_at}
+use Rattle.tl_span.specs.States.{SameSpan}
+use Rattle.tl_span.specs.declared.state.SpanState.{SpanState}
+use Rattle.tl_spans.specs.Spans.{IsSound}
+use Rattle.tl_spans.proofs.CheckLemmas.{first_there, still_sound, checks}
+use Rattle.tl_spans.proofs.spans.Spans.check_first.Goals as goal
+
+pub checked-requires : goal.checked-requires
+checked-requires c =
+    subst (λ (b : Board SpanState (List Row)). is_some (piece_at c.in-Some.key b) ≡ true) (sym c.first_wanted.ensures.same)
+    (first_there (IsWanted SameSpan c.self.inside.pieces.openings) None c.self.inside.pieces.pieces c.in-Some.key (subst (IsFirstWanted SameSpan c.self.inside.pieces) c.in-Some.is c.first_wanted.ensures.first))
+
+pub store-requires : goal.store-requires
+store-requires c =
+    subst (λ (b : Board SpanState (List Row)). is_some (piece_at c.in-Some.key b) ≡ true) (sym c.first_wanted.ensures.same)
+    (first_there (IsWanted SameSpan c.self.inside.pieces.openings) None c.self.inside.pieces.pieces c.in-Some.key (subst (IsFirstWanted SameSpan c.self.inside.pieces) c.in-Some.is c.first_wanted.ensures.first))
+
+pub invariant_of-self-3 : goal.invariant_of-self-3
+invariant_of-self-3 c =
+    still_sound (record { log = c.self.inside.log; board = c.first_wanted.new.self })
+    (subst (λ (b : Board SpanState (List Row)). IsSound (record { log = c.self.inside.log; board = b })) (sym c.first_wanted.ensures.same) c.self.invariant)
+    c.in-Some.key (pass_of c.in_ok-stored.stored) c.in_ok-stored.ensures.span c.store.new.self c.store.ensures
+
+pub returns-clause-checked : goal.returns-clause-checked
+returns-clause-checked c =
+    checks (record { log = c.self.inside.log; board = c.self.inside.pieces }) c.args.self.now c.first_wanted.new.self c.store.new.self c.in-Some.key (pass_of c.in_ok-stored.stored)
+    c.first_wanted.ensures.same c.self.view_is c.in_ok-stored.ensures.span c.in_ok-stored.ensures.entry c.store.ensures

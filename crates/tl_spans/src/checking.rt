@@ -1,0 +1,62 @@
+//! The check of a window.
+
+ghost use Rattle.std.specs.Prelude.{◌≡◌, IfOk, OnErr, Some, is_some, true};
+ghost use Rattle.std.specs.Arc.{arc_value};
+ghost use Rattle.tl_pieces.specs.Marks.{pass_of};
+ghost use Rattle.tl_pieces.specs.Pieces.{piece_at, entry_for, IsFirstWanted};
+ghost use Rattle.tl_span.specs.States.{SameSpan};
+ghost use Rattle.tl_spans.specs.Spans.{standing, IsSpanOf, ChecksFirst};
+
+use crate::rows::Rows;
+use crate::spans::Spans;
+use std::alloc::{AllocError, Global};
+use std::sync::Arc;
+use tl_manager_rules::clients_of;
+use tl_pieces::{PieceKey, Stored};
+use tl_span::{SpanJob, SpanState, span_check};
+
+impl Spans {
+    /// Checks the first window that is wanted, from what the windows of its manager before it leave, and answers which it was;
+    /// None where none is wanted, and then nothing has changed. AllocError where memory is refused: then nothing has changed.
+    pub fn check_first(&mut self, alloc: Global) -> Result<Option<PieceKey>, AllocError>
+        ensures first { IfOk result (IsFirstWanted SameSpan self.old.board) }
+        ensures checked { IfOk result (λ found. ChecksFirst self.old found self.new) }
+        ensures err { OnErr result (self.new ≡ self.old) }
+    {
+        let _ = &self.log;
+        let Some(key) = self.pieces.first_wanted() else {
+            return Ok(None);
+        };
+        let stored = self.checked(alloc, key)?;
+        self.pieces.store(key, stored);
+        Ok(Some(key))
+    }
+
+    /// The result of a window from what it is to start from: the nearest exit before it, or what no beats leave.
+    fn checked(&self, alloc: Global, key: PieceKey) -> Result<Stored<SpanState, Rows>, AllocError>
+        requires { is_some (piece_at key self.now.board) ≡ true }
+        ensures span { IfOk result (λ stored. IsSpanOf (standing self.now) key.owner key.window (pass_of stored)) }
+        ensures entry { IfOk result (λ stored. entry_for key self.now.board ≡ Some (arc_value stored.entry)) }
+    {
+        let _ = self.pieces.len();
+        let inputs = self.log.inputs();
+        let topo = inputs.topo();
+        let _ = topo.manager_count();
+        let manager = key.owner as u16;
+        let entry = Arc::try_clone(self.pieces.entry_for(key).unwrap())?;
+        let links = clients_of(alloc, topo, manager)?;
+        let beats = inputs.present().beats_in(alloc, key.window, &links)?;
+        let regions = &inputs.regions()[usize::from(manager)];
+        let copy = entry.copy(alloc)?;
+        let job = SpanJob::new(alloc, topo, manager, regions, beats, copy)?;
+        let Ok(checked) = span_check(alloc, job) else {
+            return Err(AllocError);
+        };
+        let (exit, rows) = checked.into_parts();
+        Ok(Stored {
+            entry,
+            exit: Arc::new(alloc, exit)?,
+            rows: Rows::new(rows),
+        })
+    }
+}

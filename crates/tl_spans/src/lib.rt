@@ -4,6 +4,7 @@
 mod checking;
 mod rows;
 mod spans;
+mod windows;
 
 pub use rows::Rows;
 pub use spans::Spans;

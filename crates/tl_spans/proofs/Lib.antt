@@ -3,3 +3,4 @@ pub mod EntryLemmas
 pub mod OpenLemmas
 pub mod FoundLemmas
 pub mod CheckLemmas
+pub mod TouchLemmas

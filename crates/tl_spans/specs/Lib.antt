@@ -1,3 +1,4 @@
 pub mod Covers
 pub mod Spans
 pub mod Rows
+pub mod Touch

@@ -104,7 +104,7 @@ keeps : (o : Option ℕ) (f : ℕ → InputData) (now : InputData) → ((n : ℕ
 keeps None f now h = refl
 keeps (Some n) f now h = h n
 
-topo_stays : (now : InputData) (e : AnEdit) → (changed now e).topo ≡ now.topo
+pub topo_stays : (now : InputData) (e : AnEdit) → (changed now e).topo ≡ now.topo
 topo_stays now (add f) = keeps (number_of_name now.topo.links f.link) _ now (λ n. refl)
 topo_stays now (replace f) = keeps (number_of_name now.topo.links f.link) _ now (λ n. refl)
 topo_stays now (withdraw name number) = keeps (number_of_name now.topo.links name) _ now (λ n. refl)

@@ -66,6 +66,13 @@ impl Log {
         &self.inputs
     }
 
+    /// Why an edit would be refused now: the first cause of `EditFault`. None where `push` accepts it, unless memory is refused.
+    pub fn refusal(&self, edit: &Edit) -> Option<EditFault>
+        ensures { result ≡ refusal (length self.now.edits) (inputs_after self.now.topo self.now.edits) (plain edit.now) }
+    {
+        self.inputs.refusal(self.edits.len(), edit)
+    }
+
     /// Appends an edit and answers its number, or refuses it: the first cause of `EditFault`, which stands then, or Memory where
     /// no cause stands and memory is refused. A refused edit is dropped, and the log is as before.
     pub fn push(&mut self, edit: Edit) -> Result<u64, EditFault>

@@ -4,3 +4,4 @@ pub mod OpenLemmas
 pub mod FoundLemmas
 pub mod CheckLemmas
 pub mod WindowLemmas
+pub mod TouchLemmas

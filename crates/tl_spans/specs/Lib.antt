@@ -1,4 +1,5 @@
 pub mod Covers
 pub mod Spans
 pub mod Rows
+pub mod Touch
 pub mod Windows

@@ -12,14 +12,13 @@ use Rattle.std.specs.List.Sorted.{IsStrictlySortedBy}
 use Rattle.std.proofs.lemmas.Bool.Decides.{nat_tests}
 use Rattle.std.proofs.lemmas.List.Elements.{All-contains, Contains-get_or, Contains-append_left, Contains-append_right, Contains-append_cases}
 use Rattle.std.proofs.lemmas.List.Kept.{IsStrictlySortedBy-filter}
-use Rattle.tl_topology.specs.declared.LinkDecl.{LinkDecl}
 use Rattle.tl_beats.specs.Beats.{IsWellFormed}
 use Rattle.tl_beats.specs.Fragments.{AreBeats}
 use Rattle.tl_beats.specs.declared.Beat.{Beat}
 use Rattle.tl_beats.specs.declared.Placed.{Placed}
 use Rattle.tl_definitions.specs.Positions.{Recorded, placed_from, placed_beats, all_placed, by_range, insert_by_range, position_order, beats_of, beats_of_all}
 use Rattle.tl_definitions.proofs.Lists.{contains_none, contains_here, contains_there, contains_cases, contains_kept, kept_from, none_kept, all_of, all_by, onto, onto_reverse}
-use Rattle.tl_definitions.proofs.OrderLaws.{then_less, tie_then_less, tied, below}
+use Rattle.tl_definitions.proofs.OrderLaws.{then_less, tie_then_less, tied}
 use Rattle.tl_definitions.proofs.PositionLaws.{beats_are_in_order, beats_are_of_fragments, position_total, positions_are_ordered}
 use Rattle.tl_definitions.proofs.RisingLaws.{strict_both}
 use Rattle.tl_definitions.proofs.ReportLaws.{strict_one}

@@ -9,3 +9,5 @@ pub mod NumberLemmas
 pub mod WalkLemmas
 pub mod EditLemmas
 pub mod LawLemmas
+pub mod SomeLemmas
+pub mod TouchLemmas

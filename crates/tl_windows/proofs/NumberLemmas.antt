@@ -82,7 +82,7 @@ numbers_put f (g ∷ fs) are absent = elim (is_lt (range_order f g)) as (λ t. A
   )
 ]
 
-one_number : (fs : List Recorded) → AreNumbered fs → (f g : Recorded) → Contains fs f → Contains fs g → is_of f.link f.number g ≡ true → f ≡ g
+pub one_number : (fs : List Recorded) → AreNumbered fs → (f g : Recorded) → Contains fs f → Contains fs g → is_of f.link f.number g ≡ true → f ≡ g
 one_number [] are f g h k same = absurd (contains_none f h)
 one_number (x ∷ fs) are f g h k same = elim (contains_cases x fs f h) [
   | inl here ↦ elim (contains_cases x fs g k) [

@@ -3,3 +3,4 @@ pub mod Windows
 pub mod Spans
 pub mod Ranges
 pub mod Shares
+pub mod Touch

@@ -1,5 +1,5 @@
 -- The fragments as a map by link and end of range.
-use Rattle.std.specs.Prelude.{ℕ, ◌≡◌, ◌==◌, ◌&&◌, not, nat_lt, Bool, List, [], ◌∷◌, ◌++◌, if◌then◌else◌, map, filter, false}
+use Rattle.std.specs.Prelude.{ℕ, ◌≡◌, ◌==◌, ◌&&◌, not, nat_lt, Bool, List, [], ◌∷◌, ◌++◌, if◌then◌else◌, map, filter, true, false}
 use Rattle.std.specs.Option.{option_map}
 use Rattle.std.specs.List.{All, AllByRecursion}
 use Rattle.std.specs.List.Sorted.{IsStrictlySortedBy}
@@ -27,6 +27,11 @@ key_cmp x y = ordering_then (nat_cmp x.0 y.0) (nat_cmp x.1 y.1)
 pub record AreRanges (fs : List Recorded) : Type 0 where
   pub each : All IsCapture fs
   pub apart : IsStrictlySortedBy range_order fs
+
+-- A list has any at all.
+abbrev pub has_some : {X : Type 0} → List X → Bool
+has_some [] = false
+has_some (x ∷ xs) = true
 
 -- the fragment of a link whose range ends with this cycle
 abbrev pub ends_at : ℕ → ℕ → Recorded → Bool

@@ -1,10 +1,11 @@
 //! The beats of links, whole and of one window.
 
 ghost use Rattle.std.specs.Prelude.{◌≡◌, ◌≤◌, IfOk};
+ghost use Rattle.std.specs.Bool.{Decides};
 ghost use Rattle.std.specs.List.Sorted.{IsStrictlySortedBy};
 ghost use Rattle.std.specs.Ordering.{nat_cmp};
 ghost use Rattle.tl_definitions.specs.Positions.{beats_of, beats_of_all};
-ghost use Rattle.tl_windows.specs.Windows.{beats_in, beats_within, AreBeatsOf, AreWindows};
+ghost use Rattle.tl_windows.specs.Windows.{beats_in, beats_within, AreBeatsOf, AreWindows, HasBeat};
 
 use crate::order::{in_order, sort_once};
 use crate::present::Present;
@@ -67,6 +68,22 @@ impl Present {
             Some((from, to)) => self.gather(alloc, from, to, links),
             None => Ok(Vec::new(alloc)),
         }
+    }
+
+    /// Whether one of these links has a beat in a window.
+    pub fn has_beat(&self, window: u64, links: &[u16]) -> bool
+        ensures { Decides result (HasBeat (beats_of_all links.now self.now) window) }
+    {
+        let _ = &self.ranges;
+        let Some((from, to)) = span_of(window) else {
+            return false;
+        };
+        for link in links {
+            if self.ranges.has_beat(from, to, *link) {
+                return true;
+            }
+        }
+        false
     }
 
     /// The windows in which one of these links has a beat, each once, rising. AllocError where memory is refused.

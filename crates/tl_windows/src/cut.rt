@@ -1,7 +1,7 @@
 //! The beats of one fragment in a span of cycles.
 
 ghost use Rattle.std.specs.Prelude.{◌≡◌, ◌≤◌, ◌++◌, OnOk, length, true, false};
-ghost use Rattle.std.specs.List.{AllWithin};
+ghost use Rattle.std.specs.List.{AllWithin, list_any};
 ghost use Rattle.tl_definitions.specs.Positions.{placed_beats};
 ghost use Rattle.tl_windows.specs.Present.{recorded};
 ghost use Rattle.tl_windows.specs.Spans.{holds};
@@ -23,6 +23,15 @@ pub(crate) fn bounds(fragment: &Fragment, from: u64, to: u64) -> (usize, usize)
     let start = beats.partition_point(|beat| beat.cycle < from);
     let end = beats.partition_point(|beat| beat.cycle <= to);
     (start, end)
+}
+
+/// Whether a fragment has a beat in a span.
+pub(crate) fn has_some(fragment: &Fragment, from: u64, to: u64) -> bool
+    requires { from ≤ to }
+    ensures { result ≡ list_any (holds from to) fragment.now.beats }
+{
+    let (start, end) = bounds(fragment, from, to);
+    start < end
 }
 
 /// Puts the beats of a span of a fragment on this link behind others. AllocError where memory is refused.

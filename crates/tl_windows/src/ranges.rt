@@ -6,12 +6,12 @@ ghost use Rattle.std.specs.List.{AllByRecursion, find};
 ghost use Rattle.std.specs.Option.{option_map};
 ghost use Rattle.tl_definitions.specs.Positions.{all_placed};
 ghost use Rattle.tl_windows.specs.Present.{recorded, of_link, overlapped, put_in, shares};
-ghost use Rattle.tl_windows.specs.Ranges.{ends_at, without_end};
+ghost use Rattle.tl_windows.specs.Ranges.{has_some, ends_at, without_end};
 ghost use Rattle.tl_windows.specs.Shares.{windows_of_all};
 ghost use Rattle.tl_windows.specs.Windows.{beats_within};
 
 use crate::walks::{
-    all_of_link, first_number, lowest_other, push_all_windows, push_span, span_count,
+    all_of_link, any_in_span, first_number, lowest_other, push_all_windows, push_span, span_count,
 };
 use std::alloc::{AllocError, Global};
 use std::collections::BTreeMap;
@@ -121,6 +121,14 @@ impl Ranges {
         requires { from ≤ to }
     {
         span_count(&self.ends, from, to, link)
+    }
+
+    /// Whether a link has a beat in a span.
+    pub(crate) fn has_beat(&self, from: u64, to: u64, link: u16) -> bool
+        requires { from ≤ to }
+        ensures { result ≡ has_some (beats_within from to (all_placed (of_link link self.now))) }
+    {
+        any_in_span(&self.ends, from, to, link)
     }
 
     /// Puts the beats of a span of a link behind others. AllocError where memory is refused.

@@ -4,9 +4,9 @@ ghost use Rattle.std.specs.Prelude.{◌≡◌, ◌≤◌, ◌++◌, Some, IfOk, 
 ghost use Rattle.std.specs.Arc.{arc_value};
 ghost use Rattle.std.specs.Option.{option_map, option_map_or};
 ghost use Rattle.tl_windows.specs.Present.{recorded, least};
-ghost use Rattle.tl_windows.specs.Ranges.{from_key, walked, span_beats, own_windows, itself, other_number, nowhere, begins_after};
+ghost use Rattle.tl_windows.specs.Ranges.{has_some, from_key, walked, span_beats, own_windows, itself, other_number, nowhere, begins_after};
 
-use crate::cut::{bounds, push_beats};
+use crate::cut::{bounds, has_some, push_beats};
 use crate::shares::push_windows;
 use std::alloc::{AllocError, Global};
 use std::collections::BTreeMap;
@@ -90,6 +90,25 @@ pub(crate) fn span_count(ends: &Ends, from: u64, to: u64, link: u16) -> usize
         count = count.saturating_add(end - start);
     }
     count
+}
+
+/// Whether a link has a beat in a span.
+pub(crate) fn any_in_span(ends: &Ends, from: u64, to: u64, link: u16) -> bool
+    requires { from ≤ to }
+    ensures { result ≡ has_some (walked arc_value (span_beats from to) (begins_after to) link (from_key arc_value link from ends.now.entries)) }
+{
+    for ((of, _), fragment) in ends.range((link, from)..) {
+        if *of != link {
+            return false;
+        }
+        if to < fragment.first() {
+            return false;
+        }
+        if has_some(fragment, from, to) {
+            return true;
+        }
+    }
+    false
 }
 
 /// Puts the windows in which a fragment of a link has a beat behind others.

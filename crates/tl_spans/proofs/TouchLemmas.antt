@@ -1,0 +1,172 @@
+-- What an edit leaves as it was.
+use Rattle.std.proofs.Common.{◌≡◌, ◌≢◌, inl, inr, ℕ, zero, suc, ◌+◌, ◌<◌, ◌≤◌, true, false, cond, List, [], ◌∷◌, length, Some, None, refl, sym, ap, subst, ◌∙◌, arith, length-set}
+use Rattle.std.specs.Prelude.{nat_lt, slice_get, slice_set, ◌==◌, ◌↔◌}
+use Rattle.std.specs.Option.{option_map_or}
+use Rattle.std.specs.List.{Contains}
+use Rattle.std.proofs.Math.ListN.{set}
+use Rattle.std.proofs.lemmas.Bool.Decides.{nat_tests}
+use Rattle.std.proofs.lemmas.List.{get_or-set_other}
+use Rattle.std.proofs.lemmas.Option.{slice_get-get_or, slice_get_past}
+use Rattle.tl_topology.specs.Topology.{number_of_name}
+use Rattle.tl_topology.specs.Regions.{Area, areas_of, put_area, without_area}
+use Rattle.tl_topology.specs.declared.LinkDecl.{LinkDecl}
+use Rattle.tl_beats.specs.declared.Placed.{Placed}
+use Rattle.tl_definitions.specs.Captures.{manager_beats}
+use Rattle.tl_definitions.specs.Managers.{declared_links}
+use Rattle.tl_definitions.specs.Positions.{Recorded, beats_of_all, clients_from, clients_of}
+use Rattle.tl_definitions.proofs.Lists.{contains_none, contains_here, contains_there, contains_cases, contains_kept, kept_from}
+use Rattle.tl_windows.specs.Present.{IsPresent, recorded, numbered, is_of, put_in, without, cleared}
+use Rattle.tl_windows.specs.Windows.{window_of, lies_in, beats_in, HasBeat}
+use Rattle.tl_windows.proofs.NumberLemmas.{present_kept, found_from}
+use Rattle.tl_windows.proofs.TouchLemmas.{puts_are_local, takes_are_local, clears_are_local}
+use Rattle.tl_inputs.specs.Edits.{AnEdit, add, replace, withdraw, clear_link, set_region, remove_region, attach, retune, detach}
+use Rattle.tl_inputs.specs.Inputs.{InputData, regions_at, with_fragments, with_regions, changed}
+use Rattle.tl_inputs.proofs.LogLaws.{topo_stays}
+use Rattle.tl_plain.specs.Captured.{areas_at}
+use Rattle.tl_spans.specs.Touch.{Touches, TouchesRegions}
+
+-- ---- beats
+
+-- A fragment that is found on a link is the link's.
+of_its_link : (link number : ℕ) (fs : List Recorded) (f : Recorded) → numbered link number fs ≡ Some f → f.link ≡ link
+of_its_link link number fs f at = let test : is_of link number f ≡ true = (found_from (is_of link number) fs f at).1 in grind (arith, nat_tests)
+
+-- The window's beats are what they were.
+abbrev pub IsKept : ℕ → ℕ → InputData → InputData → Type 0
+IsKept manager window now after = beats_in window (manager_beats after.topo after.fragments manager) ≡ beats_in window (manager_beats now.topo now.fragments manager)
+
+module _ (now : InputData) (manager window : ℕ) where
+  abbrev links : List ℕ
+  links = clients_of manager (declared_links now.topo)
+
+  abbrev held : List Recorded → List Placed
+  held fs = beats_in window (beats_of_all links fs)
+
+  on_link : (name : List ℕ) (edit : ℕ → List Recorded → List Recorded) → IsPresent (with_fragments now name edit).fragments
+      → ((link : ℕ) → number_of_name now.topo.links name ≡ Some link → IsPresent (edit link now.fragments) → held (edit link now.fragments) ≡ held now.fragments)
+      → IsKept manager window now (with_fragments now name edit)
+  on_link name edit are local = elim (number_of_name now.topo.links name) as (λ o. number_of_name now.topo.links name ≡ o
+      → IsPresent (option_map_or (λ link. record now { fragments = edit link now.fragments }) o now).fragments → IsKept manager window now (option_map_or (λ link. record now { fragments = edit link now.fragments }) o now)) [
+        | None ↦ λ e is. refl
+        | Some link ↦ λ e is. local link e is
+      ] refl are
+
+  on_manager : (name : List ℕ) (edit : List (ℕ × Area) → List (ℕ × Area)) → IsKept manager window now (with_regions now name edit)
+  on_manager name edit = elim (number_of_name now.topo.managers name) as (λ o. IsKept manager window now (option_map_or (λ n. record now { regions = slice_set now.regions n (edit (regions_at n now.regions)) }) o now)) [
+    | None ↦ refl
+    | Some n ↦ refl
+  ]
+
+  pub untouched_beats : (e : AnEdit) → IsPresent now.fragments → IsPresent (changed now e).fragments → (Touches now e manager window → ⊥) → IsKept manager window now (changed now e)
+  untouched_beats (add f) is are none = on_link f.link (λ link fs. put_in (recorded link f) fs) are
+      (λ link e there. puts_are_local links (recorded link f) now.fragments window is there (λ meets. none (link, e, meets.0, meets.1)))
+  untouched_beats (replace f) is are none = on_link f.link (λ link fs. put_in (recorded link f) (without link f.number fs)) are
+      (λ link e there. puts_are_local links (recorded link f) (without link f.number now.fragments) window (present_kept _ now.fragments is) there (λ meets. none (link, e, meets.0, inl meets.1))
+      ∙ takes_are_local links link f.number now.fragments window is (λ g at meets. none (link, e, subst (Contains links) (of_its_link link f.number now.fragments g at) meets.0, inr (g, at, meets.1))))
+  untouched_beats (withdraw name number) is are none = on_link name (λ link fs. without link number fs) are
+      (λ link e there. takes_are_local links link number now.fragments window is (λ g at meets. none (link, e, subst (Contains links) (of_its_link link number now.fragments g at) meets.0, (g, at, meets.1))))
+  untouched_beats (clear_link name) is are none = on_link name cleared are
+      (λ link e there. clears_are_local links link now.fragments window is (λ has beat. none (link, e, has, beat)))
+  untouched_beats (set_region name number area) is are none = on_manager name (put_area number area)
+  untouched_beats (remove_region name number) is are none = on_manager name (without_area number)
+  untouched_beats (attach monitor w) is are none = refl
+  untouched_beats (retune monitor limit) is are none = refl
+  untouched_beats (detach monitor) is are none = refl
+
+-- Where the beats of a window are the same, it has one as before.
+has_beat_by : (window : ℕ) (ps qs : List Placed) → beats_in window ps ≡ beats_in window qs → HasBeat ps window → HasBeat qs window
+has_beat_by window ps qs same h =
+    let test : (window_of h.0.beat.cycle == window) ≡ true = (let at : window_of h.0.beat.cycle ≡ window = h.2 in grind (arith, nat_tests)) in
+    (h.0, (kept_from (lies_in window) qs h.0 (subst (λ xs. Contains xs h.0) same (contains_kept (lies_in window) ps h.0 h.1 test))).0, h.2)
+
+pub untouched_window : (now : InputData) (manager window : ℕ) (e : AnEdit) → IsPresent now.fragments → IsPresent (changed now e).fragments → (Touches now e manager window → ⊥)
+    → HasBeat (manager_beats (changed now e).topo (changed now e).fragments manager) window ↔ HasBeat (manager_beats now.topo now.fragments manager) window
+untouched_window now manager window e is are none =
+    let before : List Placed = manager_beats now.topo now.fragments manager in
+    let after : List Placed = manager_beats (changed now e).topo (changed now e).fragments manager in
+    let same = untouched_beats now manager window e is are none in
+    (has_beat_by window after before same, has_beat_by window before after (sym same))
+
+-- ---- regions
+
+get_other : {X : Type 0} (xs : List X) (i j : ℕ) (v : X) → j ≢ i → slice_get (set xs i v) j ≡ slice_get xs j
+get_other xs i j v ne =
+    elim (nat_lt j (length xs)) as (λ b. nat_lt j (length xs) ≡ b → slice_get (set xs i v) j ≡ slice_get xs j) [
+      | true ↦ λ h. let within : j < length xs = grind (arith, nat_tests) in
+          slice_get-get_or (set xs i v) j v (simp length-set (omega arith)) ∙ ap Some (get_or-set_other xs i j v v ne) ∙ sym (slice_get-get_or xs j v within)
+      | false ↦ λ h. let past : length xs ≤ j = grind (arith, nat_tests) in
+          slice_get_past (set xs i v) j (simp length-set (omega arith)) ∙ sym (slice_get_past xs j past)
+    ] refl
+
+other_regions : (now : InputData) (name : List ℕ) (edit : List (ℕ × Area) → List (ℕ × Area)) (manager : ℕ) → (number_of_name now.topo.managers name ≡ Some manager → ⊥)
+    → areas_at (with_regions now name edit).regions manager ≡ areas_at now.regions manager
+other_regions now name edit manager none = elim (number_of_name now.topo.managers name) as (λ o. number_of_name now.topo.managers name ≡ o
+    → areas_at (option_map_or (λ n. record now { regions = slice_set now.regions n (edit (regions_at n now.regions)) }) o now).regions manager ≡ areas_at now.regions manager) [
+      | None ↦ λ e. refl
+      | Some n ↦ λ e. ap (λ o. option_map_or areas_of o []) (get_other now.regions n manager (edit (regions_at n now.regions)) (λ same. none (e ∙ ap Some (sym same))))
+    ] refl
+
+kept_regions : (now : InputData) (name : List ℕ) (edit : ℕ → List Recorded → List Recorded) → (with_fragments now name edit).regions ≡ now.regions
+kept_regions now name edit = elim (number_of_name now.topo.links name) as (λ o. (option_map_or (λ link. record now { fragments = edit link now.fragments }) o now).regions ≡ now.regions) [ None ↦ refl | Some n ↦ refl ]
+
+pub untouched_regions : (now : InputData) (e : AnEdit) (manager : ℕ) → (TouchesRegions now e manager → ⊥) → areas_at (changed now e).regions manager ≡ areas_at now.regions manager
+untouched_regions now (add f) manager none = ap (λ rs. areas_at rs manager) (kept_regions now f.link (λ link fs. put_in (recorded link f) fs))
+untouched_regions now (replace f) manager none = ap (λ rs. areas_at rs manager) (kept_regions now f.link (λ link fs. put_in (recorded link f) (without link f.number fs)))
+untouched_regions now (withdraw name number) manager none = ap (λ rs. areas_at rs manager) (kept_regions now name (λ link fs. without link number fs))
+untouched_regions now (clear_link name) manager none = ap (λ rs. areas_at rs manager) (kept_regions now name cleared)
+untouched_regions now (set_region name number area) manager none = other_regions now name (put_area number area) manager none
+untouched_regions now (remove_region name number) manager none = other_regions now name (without_area number) manager none
+untouched_regions now (attach monitor w) manager none = refl
+untouched_regions now (retune monitor limit) manager none = refl
+untouched_regions now (detach monitor) manager none = refl
+
+pub same_topology : (now : InputData) (e : AnEdit) → (changed now e).topo ≡ now.topo
+same_topology = topo_stays
+
+-- ---- the links of a manager
+
+client_from : (manager number : ℕ) (decls : List LinkDecl) (k : ℕ) (decl : LinkDecl) → slice_get decls k ≡ Some decl → decl.manager ≡ manager → Contains (clients_from manager number decls) (number + k)
+client_from manager number [] k decl at of = absurd (cc)
+client_from manager number (link ∷ decls) zero decl at of =
+    let here : link ≡ decl = (let same : Some link ≡ Some decl = at in cc) in
+    let test : (link.manager == manager) ≡ true = (let same : link.manager ≡ manager = ap (λ (d : LinkDecl). d.manager) here ∙ of in grind (arith, nat_tests)) in
+    let sum : number ≡ number + 0 = omega arith in
+    subst (λ t. Contains (cond t (number ∷ clients_from manager (number + 1) decls) (clients_from manager (number + 1) decls)) (number + 0)) (sym test)
+    (subst (Contains (number ∷ clients_from manager (number + 1) decls)) sum (contains_here number (clients_from manager (number + 1) decls)))
+client_from manager number (link ∷ decls) (suc k) decl at of =
+    let rest : Contains (clients_from manager (number + 1) decls) ((number + 1) + k) = client_from manager (number + 1) decls k decl at of in
+    let sum : (number + 1) + k ≡ number + suc k = omega arith in
+    let moved : Contains (clients_from manager (number + 1) decls) (number + suc k) = subst (Contains (clients_from manager (number + 1) decls)) sum rest in
+    elim (link.manager == manager) as (λ t. Contains (cond t (number ∷ clients_from manager (number + 1) decls) (clients_from manager (number + 1) decls)) (number + suc k)) [
+      | true ↦ contains_there number (clients_from manager (number + 1) decls) (number + suc k) moved
+      | false ↦ moved
+    ]
+
+-- A link that is declared for a manager is one of the manager's.
+pub declared_is_client : (manager link : ℕ) (decls : List LinkDecl) (decl : LinkDecl) → slice_get decls link ≡ Some decl → decl.manager ≡ manager → Contains (clients_of manager decls) link
+declared_is_client manager link decls decl at of = let sum : 0 + link ≡ link = omega arith in subst (Contains (clients_of manager decls)) sum (client_from manager 0 decls link decl at of)
+
+declared_from : (manager number : ℕ) (decls : List LinkDecl) (link : ℕ) → Contains (clients_from manager number decls) link
+    → (k : ℕ) × (decl : LinkDecl) × (link ≡ number + k) × (slice_get decls k ≡ Some decl) × (decl.manager ≡ manager)
+declared_from manager number [] link h = absurd (contains_none link h)
+declared_from manager number (d ∷ decls) link h =
+    let later : Contains (clients_from manager (number + 1) decls) link → (k : ℕ) × (decl : LinkDecl) × (link ≡ number + k) × (slice_get (d ∷ decls) k ≡ Some decl) × (decl.manager ≡ manager) =
+    λ g. (let found = declared_from manager (number + 1) decls link g in
+    let at : link ≡ (number + 1) + found.0 = found.2 in
+    let sum : link ≡ number + suc found.0 = omega arith in (suc found.0, found.1, sum, found.3, found.4)) in
+    elim (d.manager == manager) as (λ t. (d.manager == manager) ≡ t → Contains (cond t (number ∷ clients_from manager (number + 1) decls) (clients_from manager (number + 1) decls)) link
+    → (k : ℕ) × (decl : LinkDecl) × (link ≡ number + k) × (slice_get (d ∷ decls) k ≡ Some decl) × (decl.manager ≡ manager)) [
+      | true ↦ λ e g. elim (contains_cases number (clients_from manager (number + 1) decls) link g) [
+        | inl is ↦ (let sum : link ≡ number + 0 = omega arith in let of : d.manager ≡ manager = grind (arith, nat_tests) in (0, d, sum, refl, of))
+        | inr there ↦ later there
+      ]
+      | false ↦ λ e g. later g
+    ] refl h
+
+-- A manager's link is declared for it.
+pub client_is_declared : (manager link : ℕ) (decls : List LinkDecl) → Contains (clients_of manager decls) link → (decl : LinkDecl) × (slice_get decls link ≡ Some decl) × (decl.manager ≡ manager)
+client_is_declared manager link decls h =
+    let found = declared_from manager 0 decls link h in
+    let at : link ≡ 0 + found.0 = found.2 in
+    let same : found.0 ≡ link = omega arith in
+    (found.1, subst (λ k. slice_get decls k ≡ Some found.1) same found.3, found.4)

@@ -120,6 +120,18 @@ untouched_regions now (attach monitor w) manager none = refl
 untouched_regions now (retune monitor limit) manager none = refl
 untouched_regions now (detach monitor) manager none = refl
 
+-- So an untouched window keeps the regions of its manager.
+pub regions_are_touched : (now : InputData) (e : AnEdit) (manager window : ℕ) → TouchesRegions now e manager → Touches now e manager window
+regions_are_touched now (set_region name number area) manager window h = h
+regions_are_touched now (remove_region name number) manager window h = h
+regions_are_touched now (add f) manager window h = absurd h
+regions_are_touched now (replace f) manager window h = absurd h
+regions_are_touched now (withdraw name number) manager window h = absurd h
+regions_are_touched now (clear_link name) manager window h = absurd h
+regions_are_touched now (attach monitor w) manager window h = absurd h
+regions_are_touched now (retune monitor limit) manager window h = absurd h
+regions_are_touched now (detach monitor) manager window h = absurd h
+
 pub same_topology : (now : InputData) (e : AnEdit) → (changed now e).topo ≡ now.topo
 same_topology = topo_stays
 

@@ -120,7 +120,8 @@ impl Bounds {
         ensures same { SameBounds self.old self.new }
         ensures settled { OnOk result (IsSettled self.new) }
     {
-        while let Some((block, perm)) = self.recent.first() {
+        // The last first: to take it out moves no other.
+        while let Some((block, perm)) = self.recent.last() {
             let (block, perm) = (*block, *perm);
             self.settle_one(block, perm)?;
         }

@@ -1,6 +1,5 @@
 use Rattle.std.proofs.Common.{◌≡◌, ℕ, ◌<◌, length}
 use Rattle.std.specs.Prelude.{slice_index_or}
-use Rattle.tl_same.specs.SameItems.{SameItems}
 use Rattle.tl_perm_rules.specs.Bounds.{IsSettled}
 use Rattle.tl_perm_rules.specs.Client.{SameClient}
 use Rattle.tl_perm_rules.specs.declared.client.ClientState.{ClientState}

@@ -1,4 +1,3 @@
-use Rattle.std.proofs.Common.{◌≡◌}
 use Rattle.tl_share.specs.Walk.{entries_left}
 use Rattle.tl_perm_rules.specs.Bounds.{AgreeOn}
 use Rattle.tl_perm_rules.proofs.bounds.Bounds.agrees_on_base.Given as goal

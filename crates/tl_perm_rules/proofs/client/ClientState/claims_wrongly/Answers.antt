@@ -1,4 +1,4 @@
-use Rattle.std.proofs.Common.{false, sym, ap, ◌∙◌}
+use Rattle.std.proofs.Common.{false, ap, ◌∙◌}
 use Rattle.std.specs.Option.{option_map_or}
 use Rattle.tl_definitions.specs.Messages.{round_down}
 use Rattle.tl_definitions.specs.Rules.{is_wrong}

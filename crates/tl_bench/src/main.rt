@@ -75,14 +75,13 @@ fn hold(
     Ok(())
 }
 
-/// A Probe toB and its ProbeAck TtoB: the client then holds the block to read.
+/// A ProbeAck TtoB: the client then holds the block to read. Its Probe sets no bound, and is left out.
 fn share(
     alloc: Global,
     link: &LinkDecl,
     client: &mut ClientState,
     block: u64,
 ) -> Result<(), AllocError> {
-    client.step(alloc, link, &beat(Chan::B, 6, 1, block), None)?;
     client.step(alloc, link, &beat(Chan::C, 4, 0, block), None)?;
     Ok(())
 }

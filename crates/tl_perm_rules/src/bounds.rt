@@ -120,8 +120,7 @@ impl Bounds {
         ensures same { SameBounds self.old self.new }
         ensures settled { OnOk result (IsSettled self.new) }
     {
-        // The last first: to take it out moves no other.
-        while let Some((block, perm)) = self.recent.last() {
+        while let Some((block, perm)) = self.recent.first() {
             let (block, perm) = (*block, *perm);
             self.settle_one(block, perm)?;
         }

@@ -73,12 +73,12 @@ impl<K: Ord + Drop, V: Drop> Entries<K, V> {
         self.entries.iter()
     }
 
-    /// The last entry, in the order of keys.
-    pub fn last(&self) -> Option<(&K, &V)>
+    /// The first entry, in the order of keys.
+    pub fn first(&self) -> Option<(&K, &V)>
         ensures none { IfNone result ((key : K) → entry_of K.cmp self.now key ≡ None) }
         ensures some { IfSome result (λ e. entry_of K.cmp self.now e.0.now ≡ Some e.1.now) }
     {
-        self.entries.last_key_value()
+        self.entries.first_key_value()
     }
 
     /// A map with the same entries.

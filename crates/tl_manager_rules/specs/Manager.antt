@@ -1,5 +1,5 @@
 -- What the state of a manager shows, and what it stands for.
-use Rattle.std.specs.Prelude.{ℕ, Bool, ◌≡◌, ◌==◌, ◌++◌, ◌<◌, List, [], length, Option, Some, filter, if◌then◌else◌}
+use Rattle.std.specs.Prelude.{ℕ, Bool, ◌≡◌, ◌==◌, ◌++◌, ◌<◌, List, [], length, Option, Some, filter, slice_index_or, if◌then◌else◌}
 use Rattle.std.specs.List.{slice_get}
 use Rattle.std.specs.Option.{option_map_or}
 use Rattle.tl_tables.specs.declared.Op.{Op}
@@ -10,6 +10,8 @@ use Rattle.tl_beats.specs.declared.Request.{Request}
 use Rattle.tl_definitions.specs.Past.{ClientPast, LinkPast, past_of, pasts_of}
 use Rattle.tl_definitions.specs.Rules.{Manager, breaks_permission, permission_order, breaks_manager, manager_order}
 use Rattle.tl_definitions.specs.Judging.{message_in, past_with}
+use Rattle.tl_perm_rules.specs.declared.client.ClientState.{ClientState}
+use Rattle.tl_perm_rules.specs.Bounds.{IsSettled}
 use Rattle.tl_perm_rules.specs.Client as client_state
 use Rattle.tl_perm_rules.specs.Client.{ClientView, client_view, head_with}
 use Rattle.tl_manager_rules.specs.Clients.{place_of}
@@ -76,3 +78,7 @@ manager_rules state link head request found =
 -- Both states show the same.
 abbrev pub SameManager : ManagerState → ManagerState → Type 0
 SameManager one two = shown one ≡ shown two
+
+-- What each client can hold is settled.
+abbrev pub AreSettled : ManagerState → Type 0
+AreSettled state = (n : ℕ) (d : ClientState) → n < length state.states.items → IsSettled (slice_index_or state.states.items n d).bounds

@@ -1,6 +1,6 @@
 //! What all clients of a manager can hold, and the rules of a head over all of them.
 
-ghost use Rattle.std.specs.Prelude.{◌≡◌, ◌<◌, ◌≤◌, ◌+◌, ◌++◌, ◌∷◌, ℕ, List, [], true, false, filter, length, nat_lt, is_some, IfOk, OnOk, OnErr};
+ghost use Rattle.std.specs.Prelude.{◌≡◌, ◌<◌, ◌≤◌, ◌+◌, ◌++◌, ◌∷◌, ℕ, List, [], true, false, filter, length, nat_lt, is_some, slice_index_or, IfOk, OnOk, OnErr};
 ghost use Rattle.std.specs.Bool.{Decides};
 ghost use Rattle.std.specs.Option.{option_copied};
 ghost use Rattle.std.specs.List.{AllByRecursion, list_any};
@@ -18,7 +18,9 @@ ghost use Rattle.tl_flow_rules.specs.Flow.{flow_rules, answered};
 ghost use Rattle.tl_same.specs.SameItems.{SameItems};
 ghost use Rattle.tl_perm_rules.specs.Client as client_state;
 ghost use Rattle.tl_perm_rules.specs.Client.{head_with, answered_in, SameClient};
-ghost use Rattle.tl_manager_rules.specs.Manager.{SameManager};
+ghost use Rattle.tl_perm_rules.specs.Bounds.{IsSettled};
+ghost use Rattle.tl_perm_rules.specs.declared.client.ClientState.{ClientState};
+ghost use Rattle.tl_manager_rules.specs.Manager.{SameManager, AreSettled};
 
 use crate::clients::Clients;
 use std::alloc::{AllocError, Global};
@@ -83,6 +85,17 @@ fn append(rules: &mut RuleList, more: &[Rule])
     for rule in more {
         rules.push(*rule);
     }
+}
+
+/// Settles what each of the clients can hold. What they show stays the same, at want of memory too.
+fn settle_all(states: &mut Vec<ClientState>) -> Result<(), AllocError>
+    ensures same { SameItems SameClient states.old.items states.new.items }
+    ensures settled { OnOk result ((n : ℕ) (d : ClientState) → n < length states.new.items → IsSettled (slice_index_or states.new.items n d).bounds) }
+{
+    for place in 0..states.len() {
+        states[place].settle()?;
+    }
+    Ok(())
 }
 
 impl ManagerState {
@@ -249,6 +262,16 @@ impl ManagerState {
             clients: self.clients.copy(alloc)?,
             states: copied(alloc, &self.states)?,
         })
+    }
+
+    /// Settles what the clients can hold, so that copies of the state share it, and cost what is open and what is set from then
+    /// on. What the state shows stays the same, at want of memory too.
+    #[tactic(auto, using(crate::proofs::ManagerLaws::same_parts))]
+    pub fn settle(&mut self) -> Result<(), AllocError>
+        ensures same { SameManager self.old self.new }
+        ensures settled { OnOk result (AreSettled self.new) }
+    {
+        settle_all(&mut self.states)
     }
 
     /// The permission and manager rules that the next head of a link breaks, by what is open and what the manager's clients can

@@ -1,5 +1,6 @@
 pub mod CountLaws
 pub mod HoldLaws
+pub mod BoundLaws
 pub mod Blocks
 pub mod Carried
 pub mod ClientLaws

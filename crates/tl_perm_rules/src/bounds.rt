@@ -1,15 +1,16 @@
 //! The most that a client can hold of each block.
 
-ghost use Rattle.std.specs.Prelude.{◌≡◌, ℕ, ◌==◌, true, false, Some, None, IfOk, OnOk, OnErr, if◌then◌else◌};
+ghost use Rattle.std.specs.Prelude.{◌≡◌, ◌<◌, ℕ, ◌==◌, true, Some, None, IsSome, IfOk, OnOk, OnErr, if◌then◌else◌};
 ghost use Rattle.std.specs.Bool.{Decides};
+ghost use Rattle.std.specs.BTreeMap.{btree_map_len};
 ghost use Rattle.std.proofs.Common.{rules};
 ghost use Rattle.tl_tables.specs.declared.Perm.TheVariants.{Nothing};
-ghost use Rattle.tl_tables.specs.Params.{is_above};
 ghost use Rattle.tl_perm_rules.specs.Holds.{perm_of};
 
 use crate::entries::Entries;
 use std::alloc::{AllocError, Global};
-use tl_same::{Exact, Faithful};
+use tl_same::{Exact, Faithful, Same};
+use tl_share::ShareMap;
 use tl_tables::Perm;
 
 /// What a client can hold of a block at most, where that is something.
@@ -50,19 +51,22 @@ fn hold_of(perm: Perm) -> Option<Hold>
 /// The bound of each block.
 #[derive(Drop)]
 pub struct Bounds {
-    /// A block without an entry has the bound Nothing.
-    holds: Entries<u64, Hold>,
+    /// The bounds that were last settled, which copies share. A block without an entry has the bound Nothing.
+    base: ShareMap<u64, Hold>,
+    /// The bounds that were set since then. They come first, Nothing too.
+    recent: Entries<u64, Perm>,
 }
 
 impl Bounds {
-    ghost use Rattle.tl_perm_rules.specs.Bounds.{bound_at, SameBounds};
+    ghost use Rattle.tl_perm_rules.specs.Bounds.{bound_at, settled_at, recent_at, SameBounds, IsSettled, AgreeOn};
 
     /// No block can be held.
     pub fn new(alloc: Global) -> Bounds
         ensures { (block : ℕ) → bound_at result block ≡ Nothing }
     {
         Bounds {
-            holds: Entries::new(alloc),
+            base: ShareMap::new(alloc),
+            recent: Entries::new(alloc),
         }
     }
 
@@ -70,28 +74,71 @@ impl Bounds {
     pub fn get(&self, block: u64) -> Perm
         ensures { result ≡ bound_at self.now block }
     {
-        perm_of(self.holds.get(&block).copied())
+        match self.recent.get(&block) {
+            Some(perm) => *perm,
+            None => perm_of(self.base.get(&block)),
+        }
     }
 
-    /// Sets the bound of the block, and answers the bound that it had. Only where it rises from Nothing can there be no memory,
-    /// and then nothing has changed.
+    /// Whether to forget what was set of the block leaves it this bound.
+    pub fn is_settled(&self, block: u64, perm: Perm) -> bool
+        ensures { result ≡ true → perm ≡ settled_at self.now block }
+    {
+        perm == Perm::Nothing && self.base.get(&block).is_none()
+    }
+
+    /// Forgets what was set of the block since the bounds were settled.
+    pub fn forget(&mut self, block: u64)
+        ensures { (other : ℕ) → bound_at self.new other ≡ (if block == other then settled_at self.old block else bound_at self.old other) }
+    {
+        let _ = self.recent.remove(&block);
+    }
+
+    /// Sets the bound of the block, and answers the bound that it had. At want of memory nothing has changed.
     pub fn set(&mut self, block: u64, perm: Perm) -> Result<Perm, AllocError>
         ensures old { IfOk result (λ old. old ≡ bound_at self.old block) }
         ensures ok { OnOk result ((other : ℕ) → bound_at self.new other ≡ (if block == other then perm else bound_at self.old other)) }
-        ensures err { OnErr result ((other : ℕ) → bound_at self.new other ≡ bound_at self.old other) }
-        ensures absent { OnErr result (bound_at self.old block ≡ Nothing) }
-        ensures wanted { OnErr result (is_above perm Nothing ≡ true) }
+        ensures kept { OnOk result (IsSome (recent_at self.new block)) }
+        ensures err { OnErr result (SameBounds self.old self.new) }
     {
-        let before = self.holds.set(block, hold_of(perm))?;
-        Ok(perm_of(before))
+        match self.recent.set(block, Some(perm))? {
+            Some(before) => Ok(before),
+            None => Ok(perm_of(self.base.get(&block))),
+        }
     }
 
-    /// Sets the bound of the block, where there is room for it.
+    /// Sets the bound of a block that was set since the bounds were settled.
     pub fn put(&mut self, block: u64, perm: Perm)
-        requires room { bound_at self.old block ≡ Nothing → perm ≡ Nothing }
+        requires room { IsSome (recent_at self.old block) }
         ensures { (other : ℕ) → bound_at self.new other ≡ (if block == other then perm else bound_at self.old other) }
     {
-        let _ = self.set(block, perm);
+        let _ = self.recent.set(block, Some(perm));
+    }
+
+    /// Settles the bounds, so that copies share them. At want of memory they are the same too.
+    pub fn settle(&mut self) -> Result<(), AllocError>
+        ensures same { SameBounds self.old self.new }
+        ensures settled { OnOk result (IsSettled self.new) }
+    {
+        while let Some((block, perm)) = self.recent.first() {
+            let (block, perm) = (*block, *perm);
+            self.settle_one(block, perm)?;
+        }
+        Ok(())
+    }
+
+    /// Settles the bound of a block that was set. At want of memory the bounds are the same too.
+    fn settle_one(&mut self, block: u64, perm: Perm) -> Result<(), AllocError>
+        requires set { recent_at self.old block ≡ Some perm }
+        ensures same { SameBounds self.old self.new }
+        ensures fewer { OnOk result (btree_map_len self.new.recent.entries < btree_map_len self.old.recent.entries) }
+    {
+        match hold_of(perm) {
+            Some(hold) => self.base.set(block, hold)?,
+            None => self.base.remove(&block)?,
+        };
+        let _ = self.recent.remove(&block);
+        Ok(())
     }
 
     /// The same bounds.
@@ -99,7 +146,8 @@ impl Bounds {
         ensures { IfOk result (λ copy. SameBounds self.now copy) }
     {
         Ok(Bounds {
-            holds: self.holds.copy()?,
+            base: self.base.copy()?,
+            recent: self.recent.copy()?,
         })
     }
 
@@ -108,6 +156,38 @@ impl Bounds {
     pub fn same_bounds(&self, other: &Self) -> bool
         ensures { Decides result (SameBounds self.now other.now) }
     {
-        self.holds.same_entries(&other.holds)
+        if self.recent.is_empty() && other.recent.is_empty() {
+            return self.base.is_same(&other.base);
+        }
+        self.agrees(other) && other.agrees(self)
+    }
+
+    /// Whether both have the same bound of each block that has an entry here.
+    fn agrees(&self, other: &Self) -> bool
+        ensures { Decides result (AgreeOn self.now other.now self.now.recent.entries.entries × AgreeOn self.now other.now self.now.base) }
+    {
+        self.agrees_on_recent(other) && self.agrees_on_base(other)
+    }
+
+    fn agrees_on_recent(&self, other: &Self) -> bool
+        ensures { Decides result (AgreeOn self.now other.now self.now.recent.entries.entries) }
+    {
+        for (block, _) in self.recent.iter() {
+            if self.get(*block) != other.get(*block) {
+                return false;
+            }
+        }
+        true
+    }
+
+    fn agrees_on_base(&self, other: &Self) -> bool
+        ensures { Decides result (AgreeOn self.now other.now self.now.base) }
+    {
+        for (block, _) in self.base.iter() {
+            if self.get(*block) != other.get(*block) {
+                return false;
+            }
+        }
+        true
     }
 }

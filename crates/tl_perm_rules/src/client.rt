@@ -6,7 +6,7 @@ ghost use Rattle.std.specs.Option.{option_copied, option_map_or};
 ghost use Rattle.tl_definitions.specs.Heads.{message_of};
 ghost use Rattle.tl_definitions.specs.Messages.{Message, with_message, bound_of};
 ghost use Rattle.tl_definitions.specs.Past.{LinkPast, client_past};
-ghost use Rattle.tl_definitions.specs.Rules.{breaks_permission, permission_order, claims_wrongly, keeps_above};
+ghost use Rattle.tl_definitions.specs.Rules.{breaks_permission, permission_order, is_wrong, claims_wrongly, keeps_above};
 ghost use Rattle.tl_definitions.specs.Judging.{past_with};
 ghost use Rattle.tl_perm_rules.specs.Client.{SameClient};
 
@@ -40,10 +40,17 @@ pub struct ClientState {
     grants: OpenBlocks,
 }
 
+/// Whether a claim to have held this is above the bound, or on a strict link below it.
+fn is_wrong(strict: bool, bound: Perm, from: Perm) -> bool
+    ensures { result ≡ is_wrong strict bound from }
+{
+    is_above(from, bound) || (strict && is_above(bound, from))
+}
+
 impl ClientState {
     ghost use Rattle.tl_flow_rules.specs.Flow.{answered};
     ghost use Rattle.tl_perm_rules.specs.Client.{ClientView, StandsFor, Shows, shown, probe_at, permission_rules, rules_in, answered_in, view_after, view_with, view_rules, head_with, can_carry, IsOpened, IsView};
-    ghost use Rattle.tl_perm_rules.specs.Bounds.{bound_at};
+    ghost use Rattle.tl_perm_rules.specs.Bounds.{IsSettled};
     ghost use Rattle.tl_perm_rules.specs.OpenBlocks.{block_at, open_on};
 
     /// The state of a client of a manager whose blocks have 2 to the exponent bytes, before all messages.
@@ -93,7 +100,7 @@ impl ClientState {
     {
         let bound = self.bounds.get(block_of(self.exponent, head.address));
         match from_of(op, head.param) {
-            Some(from) => is_above(from, bound) || (strict && is_above(bound, from)),
+            Some(from) => is_wrong(strict, bound, from),
             None => false,
         }
     }
@@ -162,6 +169,15 @@ impl ClientState {
         })
     }
 
+    /// Settles what the client can hold, so that copies of the state share it, and cost what is open and what is set from then
+    /// on. What the state shows stays the same, at want of memory too.
+    pub fn settle(&mut self) -> Result<(), AllocError>
+        ensures shown { shown self.new ≡ shown self.old }
+        ensures settled { OnOk result (IsSettled self.new.bounds) }
+    {
+        self.bounds.settle()
+    }
+
     /// The permission rules that the next head of the link breaks, by what is open and what the client can hold before it; then
     /// what it opens, closes and sets. The request is the one that the head answers, as the flow rules find it. A head whose
     /// opcode is no message breaks none and changes nothing; one whose param is not lawful claims nothing, and opens and
@@ -226,9 +242,9 @@ impl ClientState {
         let Some((block, set)) = claim(self.exponent, op, head, request) else {
             return self.open_and_close(op, head, request);
         };
-        if set == Perm::Nothing {
+        if self.bounds.is_settled(block, set) {
             self.open_and_close(op, head, request)?;
-            self.bounds.put(block, set);
+            self.bounds.forget(block);
             return Ok(());
         }
         let before = self.bounds.set(block, set)?;
@@ -249,7 +265,7 @@ impl ClientState {
     ) -> Result<(), AllocError>
         requires { can_carry head.now.chan op ≡ true }
         ensures exponent { self.new.exponent ≡ self.old.exponent }
-        ensures bound { (block : ℕ) → bound_at self.new.bounds block ≡ bound_at self.old.bounds block }
+        ensures bounds { self.new.bounds ≡ self.old.bounds }
         ensures ok { OnOk result (IsOpened self.new (view_after (shown self.old) (head_with head.now request op))) }
         ensures err { OnErr result (IsOpened self.new (shown self.old)) }
     {

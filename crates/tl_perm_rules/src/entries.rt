@@ -1,12 +1,13 @@
 //! Entries by key.
 
-ghost use Rattle.std.specs.Prelude.{◌≡◌, None, IsSome, IfOk, OnOk, OnErr, if◌then◌else◌};
+ghost use Rattle.std.specs.Prelude.{◌≡◌, ◌+◌, ◌==◌, None, Some, is_some, IsSome, IfSome, IfNone, IfOk, OnOk, OnErr, if◌then◌else◌};
 ghost use Rattle.std.specs.Bool.{Decides};
 ghost use Rattle.std.specs.Option.{option_copied};
-ghost use Rattle.std.specs.BTreeMap.{is_at};
+ghost use Rattle.std.specs.BTreeMap.{is_at, btree_map_len};
 
 use std::alloc::{AllocError, Global};
 use std::collections::BTreeMap;
+use std::collections::btree_map::Iter;
 use tl_same::{Exact, Faithful};
 
 /// A map from keys to values, of which a change can be undone.
@@ -47,6 +48,37 @@ impl<K: Ord + Drop, V: Drop> Entries<K, V> {
             Some(value) => Ok(self.entries.insert(key, value)?),
             None => Ok(self.entries.remove(&key)),
         }
+    }
+
+    /// Takes the entry of a key out, and answers its value.
+    pub fn remove(&mut self, key: &K) -> Option<V>
+        ensures value { result ≡ entry_of K.cmp self.old key.now }
+        ensures after { (other : K) → entry_of K.cmp self.new other ≡ (if is_at (K.cmp key.now) other then None else entry_of K.cmp self.old other) }
+        ensures len { btree_map_len self.new.entries + (if is_some result then 1 else 0) ≡ btree_map_len self.old.entries }
+    {
+        self.entries.remove(key)
+    }
+
+    /// Whether there are no entries.
+    pub fn is_empty(&self) -> bool
+        ensures { result ≡ (btree_map_len self.now.entries == 0) }
+    {
+        self.entries.is_empty()
+    }
+
+    /// The entries, in the order of their keys.
+    pub fn iter(&self) -> Iter<'_, K, V>
+        ensures { result ≡ self.now.entries.entries }
+    {
+        self.entries.iter()
+    }
+
+    /// The first entry, in the order of keys.
+    pub fn first(&self) -> Option<(&K, &V)>
+        ensures none { IfNone result ((key : K) → entry_of K.cmp self.now key ≡ None) }
+        ensures some { IfSome result (λ e. entry_of K.cmp self.now e.0.now ≡ Some e.1.now) }
+    {
+        self.entries.first_key_value()
     }
 
     /// A map with the same entries.

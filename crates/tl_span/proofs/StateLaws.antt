@@ -25,6 +25,7 @@ use Rattle.tl_messages.specs.Bursts.{slot_at}
 use Rattle.tl_flow_rules.specs.Flow as flow
 use Rattle.tl_perm_rules.specs.Client as client_state
 use Rattle.tl_perm_rules.specs.Client.{ClientView, client_view}
+use Rattle.tl_manager_rules.specs.declared.manager.ManagerState.{ManagerState}
 use Rattle.tl_manager_rules.specs.Manager as managers
 use Rattle.tl_manager_rules.specs.Clients.{place_of}
 use Rattle.tl_manager_rules.specs.Manager.{ManagerView, client_at, client_in, client_there, opening_view, pasts_with}
@@ -318,6 +319,13 @@ same_is_of m one two of same = record {
   links = sym same.links.count ∙ of.links;
   states = ap (λ (v : ManagerView). v.count) (sym same.clients) ∙ of.states;
   formed = λ n chan burst h. of.formed n chan burst (ap (λ (s : Snapshot). s.burst n chan) (same_shown one two same) ∙ h);
+}
+
+-- A state with other clients, which show the same.
+pub same_clients : (state : SpanState) (clients : ManagerState) → managers.SameManager state.clients clients → SameSpan state (record { links = state.links; clients = clients })
+same_clients state clients same = record {
+  links = record { count = refl; each = λ n d within. record { bursts = λ chan. refl; flow = refl } };
+  clients = same;
 }
 
 -- ---- states of one manager that show the same

@@ -9,6 +9,7 @@ ghost use Rattle.tl_definitions.specs.Breaks.{row_of};
 ghost use Rattle.tl_definitions.specs.Judging.{judged_rules, judged_next};
 ghost use Rattle.tl_definitions.specs.Managers.{manager_at};
 ghost use Rattle.tl_definitions.specs.Rules.{Manager};
+ghost use Rattle.tl_manager_rules.specs.Manager.{AreSettled};
 ghost use Rattle.tl_same.specs.SameItems.{SameItems};
 ghost use Rattle.tl_span.specs.Links.{SameLink, AreOpening};
 ghost use Rattle.tl_span.specs.States.{shown, HasLink, IsOf, StandsFor, SameSpan, AreFormed, Serves};
@@ -115,6 +116,17 @@ impl SpanState {
             links: copied_links(alloc, &self.links)?,
             clients: self.clients.copy(alloc)?,
         })
+    }
+
+    /// Settles what the clients can hold, so that copies of the state share it, and cost what is unfinished and in flight and
+    /// what is set from then on. What the state shows stays the same, at want of memory too.
+    #[tactic(auto, using(crate::proofs::StateLaws::same_clients))]
+    pub fn settle(&mut self) -> Result<(), AllocError>
+        ensures same { SameSpan self.old self.new }
+        ensures kept { (m : Manager) → IsOf m self.old → IsOf m self.new }
+        ensures settled { OnOk result (AreSettled self.new.clients) }
+    {
+        self.clients.settle()
     }
 }
 

@@ -193,7 +193,7 @@ pub fn parse_whole_fragment(alloc: Global, bytes: &[u8]) -> Result<Fragment, Fra
 }
 
 /// Reads the input to its end, in at most 8,388,610 reads, as the text of one fragment. TooLong where it has more than
-/// 8,388,608 bytes, before anything is parsed; ReadFault only where a read failed. What was read is lost.
+/// 8,388,608 bytes, before anything is parsed; ReadFault exactly where a read failed. What was read is lost.
 pub fn read_fragment<I: ByteIn>(alloc: Global, input: &mut I) -> Result<Fragment, FragmentFault>
     requires reads { I.read_count input.old < 2 ^ 63 }
     requires failures { I.failure_count input.old < 2 ^ 63 }
@@ -204,7 +204,7 @@ pub fn read_fragment<I: ByteIn>(alloc: Global, input: &mut I) -> Result<Fragment
     ensures too_long { IsErrOf result FragmentFault.TooLong → IfSome (I.remaining input.old) (λ bytes. 8388608 < length bytes) }
     // A longer input is not parsed: its fault is none of a text.
     ensures unparsed { IfSome (I.remaining input.old) (λ bytes. 8388608 < length bytes → IsErrAnd result (λ e. is_outside e ≡ true)) }
-    ensures failed { IsErrOf result FragmentFault.ReadFault → I.failure_count input.old < I.failure_count input.new }
+    ensures failed { IsErrOf result FragmentFault.ReadFault ↔ (I.failure_count input.old < I.failure_count input.new) }
     ensures quiet { OnOk result (I.failure_count input.new ≡ I.failure_count input.old) }
     ensures reads { I.read_count input.new ≤ I.read_count input.old + 8388610 }
 {

@@ -1,6 +1,6 @@
 //! Bytes that come in.
 
-ghost use Rattle.std.specs.Prelude.{◌≡◌, ◌+◌, ◌-◌, ◌<◌, ◌≤◌, ◌^◌, ℕ, List, Option, Some, IfOk, OnOk, OnErr, length, IfSome};
+ghost use Rattle.std.specs.Prelude.{◌≡◌, ◌↔◌, ◌+◌, ◌-◌, ◌<◌, ◌≤◌, ◌^◌, ℕ, List, Option, Some, IfOk, OnOk, OnErr, length, IfSome};
 ghost use Rattle.std.specs.Result.{IsErrOf};
 ghost use Rattle.std.specs.Io.KnownBytes.{ReadConsumes};
 ghost use Rattle.tl_text.specs.declared.input.TextFault.TheVariants.{Memory};
@@ -65,15 +65,15 @@ impl From<AllocError> for TextFault {
 
 const CHUNK: usize = 16384;
 
-/// Reads to the end of the input, of at most `limit` bytes, in at most `limit + 2` reads. ReadFault only where a read
-/// failed; TooLong only where more than `limit` bytes came; whichever is met first.
+/// Reads to the end of the input, of at most `limit` bytes, in at most `limit + 2` reads. ReadFault exactly where a read
+/// failed; TooLong only where more than `limit` bytes came; Memory else, where a growth was refused.
 pub fn read_text<I: ByteIn>(alloc: Global, input: &mut I, limit: u64) -> Result<Vec<u8>, TextFault>
     requires limit { limit ≤ 2 ^ 32 }
     requires reads { I.read_count input.old < 2 ^ 63 }
     requires failures { I.failure_count input.old < 2 ^ 63 }
     ensures ok { IfOk result (λ all. (length all.items ≤ limit) × IfSome (I.remaining input.old) (λ bytes. all.items ≡ bytes)) }
     ensures too_long { IsErrOf result TextFault.TooLong → IfSome (I.remaining input.old) (λ bytes. limit < length bytes) }
-    ensures failed { IsErrOf result TextFault.ReadFault → I.failure_count input.old < I.failure_count input.new }
+    ensures failed { IsErrOf result TextFault.ReadFault ↔ (I.failure_count input.old < I.failure_count input.new) }
     ensures quiet { OnOk result (I.failure_count input.new ≡ I.failure_count input.old) }
     ensures reads { I.read_count input.new ≤ I.read_count input.old + limit + 2 }
 {

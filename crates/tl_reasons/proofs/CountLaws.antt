@@ -19,14 +19,13 @@ use Rattle.tl_reasons.proofs.AnswerLaws.{next_left}
 -- A map has so many keys as it has entries, and these are the keys on which something is open.
 pub counted : (table : Table Message) (before : List Origin) (m : BTreeMap ℕ Origin) (count : ℕ) → count ≡ btree_map_len m → IsOrdered nat_cmp m
     → ((key : ℕ) → get nat_cmp m key ≡ open_at (placed table) key before) → IsCount table before count
-counted table before m count len ordered shows =
-    (
-      keys m,
-      length-map m.entries _ ∙ sym len,
-      ordered,
-      λ key. (let found = btree_map_contains_key_iff nat_cmp_total (λ x y h. ranked x y Equal (sym h)) m key in
-          (λ has. subst IsSome (shows key) (found.1 has), λ is. found.0 (subst IsSome (sym (shows key)) is))),
-    )
+counted table before m count len ordered shows = (
+  keys m,
+  length-map m.entries _ ∙ sym len,
+  ordered,
+  λ key. (let found = btree_map_contains_key_iff nat_cmp_total (λ x y h. ranked x y Equal (sym h)) m key in
+      (λ has. subst IsSome (shows key) (found.1 has), λ is. found.0 (subst IsSome (sym (shows key)) is))),
+)
 
 pub five : (a b c d e v w x y z : ℕ) → a ≡ v → b ≡ w → c ≡ x → d ≡ y → e ≡ z → a + b + c + d + e ≡ v + w + x + y + z
 five a b c d e v w x y z p q r s t = omega (arith, p, q, r, s, t)

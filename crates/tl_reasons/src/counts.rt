@@ -72,12 +72,7 @@ impl ManagerOrigins {
     }
 
     /// How many are open at some clients. AllocError where they are more than memory could have.
-    fn total(
-        &self,
-        topo: &Topo,
-        clients: &[u16],
-        opened: Opened,
-    ) -> Result<usize, AllocError>
+    fn total(&self, topo: &Topo, clients: &[u16], opened: Opened) -> Result<usize, AllocError>
         requires links { All (λ client. client < length self.now.links.items) clients.now }
         requires declared { All (λ client. client < length topo.now.links) clients.now }
         ensures { IfOk result (λ total. (exponent : ℕ) (before : List AnyPlaced) → StandsFor (manager_with topo.now exponent clients.now) self.now before
@@ -92,11 +87,7 @@ impl ManagerOrigins {
     }
 
     /// How many of each are open at the clients.
-    pub(crate) fn open_counts(
-        &self,
-        topo: &Topo,
-        clients: &[u16],
-    ) -> Result<OpenCounts, AllocError>
+    pub(crate) fn open_counts(&self, topo: &Topo, clients: &[u16]) -> Result<OpenCounts, AllocError>
         requires links { All (λ client. client < length self.now.links.items) clients.now }
         requires declared { All (λ client. client < length topo.now.links) clients.now }
         ensures { IfOk result (λ counts. (exponent : ℕ) (before : List AnyPlaced) → StandsFor (manager_with topo.now exponent clients.now) self.now before

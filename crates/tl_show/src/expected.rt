@@ -150,11 +150,7 @@ fn block_of(topo: &Topo, decl: &LinkDecl) -> u8
 
 /// What the rule of a row expected of its beat, where that is a size, a mask, a block or a source, or the field in which a beat
 /// differs from its head.
-pub(crate) fn expected_line(
-    alloc: Global,
-    topo: &Topo,
-    told: &Told,
-) -> Result<String, AllocError>
+pub(crate) fn expected_line(alloc: Global, topo: &Topo, told: &Told) -> Result<String, AllocError>
     requires { IsSoundTold topo.now told.now }
     ensures { IfOk result (λ text. string_bytes text ≡ expected_line_of topo.now (link_at topo.now told.now.place.link) told.now.row.rule told.now.place told.now.reason) }
 {

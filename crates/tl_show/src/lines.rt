@@ -64,12 +64,7 @@ fn place_text(alloc: Global, topo: &Topo, place: &Placed) -> Result<String, Allo
 
 /// The line of an earlier beat behind what it is.
 #[tactic(auto, unfolding(crate::specs::Lines::named_line_of))]
-fn named_line(
-    alloc: Global,
-    label: &str,
-    topo: &Topo,
-    place: &Placed,
-) -> Result<String, AllocError>
+fn named_line(alloc: Global, label: &str, topo: &Topo, place: &Placed) -> Result<String, AllocError>
     requires link { place.now.link < length topo.now.links }
     requires beat { IsWellFormed place.now.beat }
     ensures { IfOk result (λ text. string_bytes text ≡ named_line_of label.now topo.now place.now) }

@@ -149,12 +149,7 @@ fn push_shown(
 }
 
 /// Adds rows without lines.
-fn push_rows(
-    alloc: Global,
-    topo: &Topo,
-    rows: &[Row],
-    text: &mut String,
-) -> Result<(), AllocError>
+fn push_rows(alloc: Global, topo: &Topo, rows: &[Row], text: &mut String) -> Result<(), AllocError>
     requires { All (λ row. row.link < length topo.now.links) rows.now }
     ensures { OnOk result (string_bytes text.new ≡ string_bytes text.old ++ flat_map (row_text topo.now) rows.now) }
 {
@@ -175,12 +170,7 @@ fn shown_count(rows: &[Row]) -> usize
 
 /// The first rows with their lines, the others without.
 #[tactic(auto, unfolding(crate::specs::Shown::shown_rows))]
-fn shown_rows(
-    alloc: Global,
-    topo: &Topo,
-    told: &[Told],
-    rows: &[Row],
-) -> Result<String, AllocError>
+fn shown_rows(alloc: Global, topo: &Topo, told: &[Told], rows: &[Row]) -> Result<String, AllocError>
     requires links { All (λ row. row.link < length topo.now.links) rows.now }
     requires told { All (IsSoundTold topo.now) told.now }
     ensures { IfOk result (λ text. string_bytes text ≡ shown_rows topo.now told.now rows.now) }

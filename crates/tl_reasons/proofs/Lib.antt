@@ -9,3 +9,4 @@ pub mod NamingLaws
 pub mod HeadMeanings
 pub mod RowLaws
 pub mod TellingLaws
+pub mod CountLaws

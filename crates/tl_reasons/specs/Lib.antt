@@ -5,3 +5,4 @@ pub mod Links
 pub mod States
 pub mod Meanings
 pub mod Telling
+pub mod Counts

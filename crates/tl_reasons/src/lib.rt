@@ -3,6 +3,7 @@
 #![tactic(auto)]
 
 mod answers;
+mod counts;
 pub mod laws;
 mod link;
 mod manager;
@@ -12,6 +13,7 @@ mod reason;
 mod telling;
 
 pub use answers::reasons;
+pub use counts::{OpenCounts, Opened};
 pub use origin::Origin;
 pub use reason::{Question, Reason};
-pub use telling::{Told, tell};
+pub use telling::{Telling, Told, tell};

@@ -6,11 +6,13 @@ ghost use Rattle.tl_beats.specs.Beats.{IsWellFormed};
 ghost use Rattle.tl_beats.specs.declared.Placed.{Placed as AnyPlaced};
 ghost use Rattle.tl_definitions.specs.Heads.{before_on, is_head};
 ghost use Rattle.tl_definitions.specs.Messages.{Links};
+ghost use Rattle.tl_reasons.specs.Counts.{is_unfinished, unfinished_count, IsOpenOn};
 ghost use Rattle.tl_reasons.specs.Links.{IsAt, head_at};
 
+use crate::counts::{Opened, one_if};
 use crate::openers::Openers;
 use std::alloc::{AllocError, Global};
-use tl_beats::Placed;
+use tl_beats::{Beat, Placed};
 use tl_messages::{BurstState, Place};
 use tl_tables::{Chan, chan_index, op_of};
 use tl_topology::LinkDecl;
@@ -55,6 +57,65 @@ impl LinkOrigins {
         ensures { result ≡ head_at self.now chan }
     {
         self.heads[chan_index(chan)]
+    }
+
+    /// Whether a channel has a burst that misses beats: its next beat would be a later beat.
+    fn is_unfinished(&self, decl: &LinkDecl, link: u16, chan: Chan) -> bool
+        requires decl { IsSound decl.now }
+        ensures { (exponent : ℕ) (links : Links) (before : List AnyPlaced) → links link ≡ decl.now → IsAt exponent links link self.now before
+            → result ≡ is_unfinished links link before chan }
+    {
+        let beat = Beat {
+            cycle: 0,
+            chan,
+            opcode: 0,
+            param: 0,
+            size: 0,
+            source: 0,
+            sink: 0,
+            address: 0,
+            mask: 0,
+            denied: false,
+            corrupt: false,
+        };
+        !self.is_head(
+            decl,
+            &Placed {
+                link,
+                fragment: 0,
+                line: 0,
+                beat,
+            },
+        )
+    }
+
+    /// How many channels have such a burst.
+    fn unfinished_count(&self, decl: &LinkDecl, link: u16) -> usize
+        requires decl { IsSound decl.now }
+        ensures { (exponent : ℕ) (links : Links) (before : List AnyPlaced) → links link ≡ decl.now → IsAt exponent links link self.now before
+            → result ≡ unfinished_count links link before }
+    {
+        let requests = self.is_unfinished(decl, link, Chan::A);
+        let probes = self.is_unfinished(decl, link, Chan::B);
+        let releases = self.is_unfinished(decl, link, Chan::C);
+        let replies = self.is_unfinished(decl, link, Chan::D);
+        let acks = self.is_unfinished(decl, link, Chan::E);
+        one_if(requests) + one_if(probes) + one_if(releases) + one_if(replies) + one_if(acks)
+    }
+
+    /// How many are open on the link.
+    pub(crate) fn open_count(&self, decl: &LinkDecl, link: u16, opened: Opened) -> usize
+        requires decl { IsSound decl.now }
+        ensures { (exponent : ℕ) (links : Links) (before : List AnyPlaced) → links link ≡ decl.now → IsAt exponent links link self.now before
+            → IsOpenOn links exponent before opened link result }
+    {
+        match opened {
+            Opened::Request => self.openers.request_count(),
+            Opened::Release => self.openers.release_count(),
+            Opened::Probe => self.openers.probe_count(),
+            Opened::Grant => self.openers.grant_count(),
+            Opened::Burst => self.unfinished_count(decl, link),
+        }
     }
 
     /// What the next beat of the link leaves. AllocError where memory is refused: then it may have part of the beat.

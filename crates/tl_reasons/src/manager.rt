@@ -5,6 +5,7 @@ ghost use Rattle.std.specs.List.{All, AllByRecursion};
 ghost use Rattle.tl_tables.specs.Kinds.{conflicts};
 ghost use Rattle.tl_beats.specs.Beats.{IsWellFormed};
 ghost use Rattle.tl_beats.specs.declared.Placed.{Placed as AnyPlaced};
+ghost use Rattle.tl_definitions.specs.Messages.{at_head};
 ghost use Rattle.tl_reasons.specs.Reasons.{reason_at, head_reason, bound_by, first_some};
 ghost use Rattle.tl_reasons.specs.States.{StandsFor, IsOpening, trail_at, sought_at, manager_with};
 
@@ -23,7 +24,7 @@ pub(crate) struct ManagerOrigins {
     /// A block has 2 to this power bytes.
     exponent: u8,
     /// One for each link of the topology, by number.
-    links: Vec<LinkOrigins>,
+    pub(crate) links: Vec<LinkOrigins>,
 }
 
 /// What is looked for at one client after the other.
@@ -200,6 +201,18 @@ impl ManagerOrigins {
             Some(op) => self.head_reason(clients, op, place, rule),
             None => Reason::ByItself,
         }
+    }
+
+    /// Whether the next beat of the manager is a head.
+    pub(crate) fn is_head(&self, topo: &Topo, place: &Placed) -> bool
+        requires beat { IsWellFormed place.now.beat }
+        requires link { place.now.link < length self.now.links.items }
+        requires declared { place.now.link < length topo.now.links }
+        ensures { (exponent : ℕ) (clients : List ℕ) (before : List AnyPlaced) → StandsFor (manager_with topo.now exponent clients) self.now before
+            → result ≡ at_head (manager_with topo.now exponent clients).links before place.now }
+    {
+        let decl = topo.link(place.link).unwrap();
+        self.links[place.link as usize].is_head(decl, place)
     }
 
     /// What the next beat of the manager leaves. AllocError where memory is refused: then it may have part of the beat.

@@ -5,6 +5,7 @@ ghost use Rattle.std.specs.BTreeMap.{IsOrdered};
 ghost use Rattle.std.specs.Ordering.{nat_cmp};
 ghost use Rattle.tl_definitions.specs.Messages.{sources, releases, sinks, probes};
 ghost use Rattle.tl_perm_rules.specs.Client.{can_carry};
+ghost use Rattle.tl_reasons.specs.Counts.{IsCount};
 ghost use Rattle.tl_reasons.specs.Origins.{message, origin_at};
 ghost use Rattle.tl_reasons.specs.Openers.{first_in, shown};
 ghost use Rattle.tl_reasons.specs.Reasons.{acquires, gives_back, grants, link_reason};
@@ -134,6 +135,34 @@ impl Openers {
             }
         }
         None
+    }
+
+    /// How many requests are open.
+    pub(crate) fn request_count(&self) -> usize
+        ensures { (exponent : ℕ) (before : List AnyOrigin) → StandsFor exponent self.now before → IsCount sources before result }
+    {
+        self.sources.len()
+    }
+
+    /// How many Releases are open.
+    pub(crate) fn release_count(&self) -> usize
+        ensures { (exponent : ℕ) (before : List AnyOrigin) → StandsFor exponent self.now before → IsCount releases before result }
+    {
+        self.releases.len()
+    }
+
+    /// How many Probes are open.
+    pub(crate) fn probe_count(&self) -> usize
+        ensures { (exponent : ℕ) (before : List AnyOrigin) → StandsFor exponent self.now before → IsCount (probes exponent) before result }
+    {
+        self.probes.len()
+    }
+
+    /// How many Grants are open.
+    pub(crate) fn grant_count(&self) -> usize
+        ensures { (exponent : ℕ) (before : List AnyOrigin) → StandsFor exponent self.now before → IsCount sinks before result }
+    {
+        self.sinks.len()
     }
 
     /// The request that a head with this message answers.

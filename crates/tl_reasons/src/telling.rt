@@ -1,14 +1,16 @@
 //! The rows of a manager's beats, each with what makes it so, in one pass over the beats.
 
-ghost use Rattle.std.specs.Prelude.{◌≡◌, ◌<◌, ◌==◌, ◌++◌, ℕ, List, [], filter, length, map, IfOk, OnOk};
+ghost use Rattle.std.specs.Prelude.{◌≡◌, ◌<◌, ◌==◌, ◌++◌, ℕ, List, [], filter, length, map, reverse, IfOk, OnOk};
 ghost use Rattle.std.specs.BTreeSet.{contains};
 ghost use Rattle.std.specs.List.{All, list_any};
 ghost use Rattle.std.specs.Ordering.{nat_cmp};
 ghost use Rattle.tl_beats.specs.Beats.{IsWellFormed};
 ghost use Rattle.tl_beats.specs.declared.Placed.{Placed as AnyPlaced};
+ghost use Rattle.tl_reasons.specs.Counts.{heads_after, AreOpen};
 ghost use Rattle.tl_reasons.specs.States.{StandsFor, manager_with};
 ghost use Rattle.tl_reasons.specs.Telling.{is_of, told_of, told_after};
 
+use crate::counts::{OpenCounts, one_if};
 use crate::manager::ManagerOrigins;
 use crate::reason::Reason;
 use std::alloc::{AllocError, Global};
@@ -25,6 +27,17 @@ pub struct Told {
     pub place: Placed,
     /// What makes its beat break its rule.
     pub reason: Reason,
+}
+
+/// What a pass over the beats of a manager tells.
+#[derive(Drop)]
+pub struct Telling {
+    /// The rows of its beats, beat by beat.
+    pub told: Vec<Told>,
+    /// How many of its beats are heads.
+    pub heads: usize,
+    /// How much is open behind them.
+    pub open: OpenCounts,
 }
 
 /// Whether the row is of the beat.
@@ -75,7 +88,8 @@ fn tell_beat(
 
 /// The rows of a manager's beats, beat by beat, each with what makes it so. The manager's blocks have 2 to the exponent bytes,
 /// its clients are the links with these numbers, and these are all its beats in the order of positions. Rows of no beat of them
-/// are passed over. AllocError where memory is refused.
+/// are passed over. Beside them how many of the beats are heads, and how much is open behind the last. AllocError where memory
+/// is refused.
 pub fn tell(
     alloc: Global,
     topo: &Topo,
@@ -83,19 +97,25 @@ pub fn tell(
     clients: &[u16],
     beats: &[Placed],
     rows: &[Row],
-) -> Result<Vec<Told>, AllocError>
+) -> Result<Telling, AllocError>
     requires formed { All (λ p. IsWellFormed p.beat) beats.now }
     requires within { All (λ p. p.link < length topo.now.links) beats.now }
-    ensures { IfOk result (λ told. told.items ≡ told_after (manager_with topo.now exponent clients.now) rows.now [] beats.now) }
+    requires clients { All (λ client. client < length topo.now.links) clients.now }
+    ensures told { IfOk result (λ telling. telling.told.items ≡ told_after (manager_with topo.now exponent clients.now) rows.now [] beats.now) }
+    ensures heads { IfOk result (λ telling. telling.heads ≡ heads_after (manager_with topo.now exponent clients.now).links [] beats.now) }
+    ensures open { IfOk result (λ telling. AreOpen (manager_with topo.now exponent clients.now) (reverse beats.now) telling.open) }
 {
     let cycles = cycles_of(alloc, rows)?;
     let mut state = ManagerOrigins::new(alloc, topo, exponent)?;
     let mut told = Vec::new(alloc);
+    let mut heads = 0;
     for place in beats {
         if cycles.contains(&place.beat.cycle) {
             tell_beat(&state, topo, clients, rows, place, &mut told)?;
         }
+        heads += one_if(state.is_head(topo, place));
         state.step(topo, place)?;
     }
-    Ok(told)
+    let open = state.open_counts(topo, clients)?;
+    Ok(Telling { told, heads, open })
 }

@@ -4,5 +4,5 @@
 mod once;
 mod report;
 
-pub use once::{OnceFault, run_once};
-pub use report::{Report, audit_text, report_text};
+pub use once::{OnceFault, all_added, run_once};
+pub use report::{Report, audit_head, audit_text, head_text, report_text, row_text};

@@ -68,8 +68,9 @@ impl From<WriteFault> for OnceFault {
     }
 }
 
-/// The log of these fragments, each of which is one edit.
-fn all_added(alloc: Global, topo: &Topo, fragments: &[Arc<Fragment>]) -> Result<Log, OnceFault>
+/// The log of these fragments, each of which is one edit. Refused where one can't be added, the first such, and Memory where
+/// memory is refused.
+pub fn all_added(alloc: Global, topo: &Topo, fragments: &[Arc<Fragment>]) -> Result<Log, OnceFault>
     ensures ok { IfOk result (λ log. log ≡ record { topo = topo.now; edits = adds (map arc_value fragments.now) }) }
     ensures accepted { OnOk result (first_refusal topo.now (map arc_value fragments.now) ≡ None) }
     ensures refused { (code : ℕ) (number : Option ℕ) → IsErrOf result (OnceFault.Refused code number)

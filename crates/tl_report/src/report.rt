@@ -60,9 +60,9 @@ impl Report {
     }
 }
 
-/// The line of a row: link, fragment, line and rule, and the monitor of an X1.
+/// The line of a row: link, fragment, line and rule, and the monitor of an X1. AllocError where memory is refused.
 #[tactic(auto, unfolding(crate::specs::Output::row_text))]
-fn row_text(alloc: Global, topo: &Topo, row: &Row) -> Result<String, AllocError>
+pub fn row_text(alloc: Global, topo: &Topo, row: &Row) -> Result<String, AllocError>
     requires { row.now.link < length topo.now.links }
     ensures { IfOk result (λ text. string_bytes text ≡ row_text topo.now row.now) }
 {
@@ -76,9 +76,9 @@ fn row_text(alloc: Global, topo: &Topo, row: &Row) -> Result<String, AllocError>
     }
 }
 
-/// The first line of a report, which counts its rows.
+/// The first line of a report, which counts its rows. AllocError where memory is refused.
 #[tactic(auto, unfolding(crate::specs::Output::head_text))]
-fn head_text(alloc: Global, report: &Report) -> Result<String, AllocError>
+pub fn head_text(alloc: Global, report: &Report) -> Result<String, AllocError>
     ensures { IfOk result (λ text. string_bytes text ≡ head_text report.now) }
 {
     let version = report.version;
@@ -111,9 +111,9 @@ pub fn report_text(alloc: Global, topo: &Topo, report: &Report) -> Result<String
     listed(alloc, topo, head, report.rows())
 }
 
-/// The first line of what an audit finds.
+/// The first line of what an audit finds, after so many edits and with so many rows. AllocError where memory is refused.
 #[tactic(auto, unfolding(crate::specs::Output::audit_head))]
-fn audit_head(alloc: Global, edit: u64, count: usize) -> Result<String, AllocError>
+pub fn audit_head(alloc: Global, edit: u64, count: usize) -> Result<String, AllocError>
     ensures { IfOk result (λ text. string_bytes text ≡ audit_head edit count) }
 {
     format!(in alloc; "audit {edit} rows {count}\n")

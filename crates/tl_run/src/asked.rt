@@ -15,7 +15,7 @@ use tl_script::{Command, Text};
 
 /// What a command asks for.
 #[derive(Drop)]
-pub(crate) enum Asked {
+pub enum Asked {
     /// An edit.
     Edit(Edit),
     /// An edit with a fragment, whose text is none.
@@ -41,7 +41,7 @@ fn fragment_of(
 
 /// What a command asks for. AllocError where memory is refused.
 #[tactic(auto, unfolding(crate::specs::Commands::asked, tl_script::specs::Text::IsCommand))]
-pub(crate) fn asked_by(alloc: Global, command: &Command<'_>) -> Result<Asked, AllocError>
+pub fn asked_by(alloc: Global, command: &Command<'_>) -> Result<Asked, AllocError>
     requires { IsCommand command.now }
     ensures { IfOk result (λ found. asking found ≡ asked command.now) }
 {

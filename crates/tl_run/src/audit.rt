@@ -95,8 +95,9 @@ impl From<PastFault> for AuditFault {
     }
 }
 
-/// The accepted edits of a script. Its publishes ask for nothing.
-fn log_of(alloc: Global, topo: &Topo, script: &[u8]) -> Result<Log, AuditFault>
+/// The accepted edits of a script. Its publishes ask for nothing. Stop where the script stops, at any command, and Memory where
+/// memory is refused.
+pub fn log_of(alloc: Global, topo: &Topo, script: &[u8]) -> Result<Log, AuditFault>
     ensures exact { IfOk result (λ log. log ≡ record { topo = topo.now; edits = edits_of topo.now script.now }) }
     ensures whole { OnOk result ((commands_of script.now).fault ≡ None) }
     ensures stopped { IfErr result (λ fault. IsStopped script.now fault) }

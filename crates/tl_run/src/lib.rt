@@ -9,6 +9,8 @@ mod run;
 mod session;
 mod stop;
 
-pub use audit::{AuditFault, audit_script};
+pub use asked::{Asked, asked_by};
+pub use audit::{AuditFault, audit_script, log_of};
 pub use run::{read_script, run_script};
+pub use session::Session;
 pub use stop::{Outcome, Stop, StopCause};

@@ -1,6 +1,7 @@
 //! What a run has come to, and the lines of one command more.
 
 ghost use Rattle.std.specs.Prelude.{◌≡◌, ◌<◌, ℕ, true, IfOk, length, string_bytes};
+ghost use Rattle.std.specs.List.{All};
 ghost use Rattle.tl_inputs.specs.Edits.{plain};
 ghost use Rattle.tl_inputs.specs.Log.{inputs_after};
 ghost use Rattle.tl_run.specs.Commands.{asking, an_edit, a_report};
@@ -9,7 +10,7 @@ ghost use Rattle.tl_run.specs.Output.{start, IsPublish, IsStep, refused_text};
 use crate::asked::Asked;
 use std::alloc::{AllocError, Global};
 use std::marker::Model;
-use tl_inputs::{Edit, EditFault, Log};
+use tl_inputs::{Edit, EditFault, Inputs, Log};
 use tl_plain::scratch;
 use tl_report::{Report, report_text};
 use tl_topology::Topo;
@@ -31,7 +32,7 @@ fn refused(alloc: Global, code: u8, number: Option<u32>) -> Result<String, Alloc
 /// The edits that were accepted, and the last report, of version 0 and without rows before the first. It is fresh as long as it
 /// speaks of all the edits.
 #[derive(Drop)]
-pub(crate) struct Session {
+pub struct Session {
     log: Log,
     last: Report,
     is_fresh: bool,
@@ -55,7 +56,7 @@ impl Model for Session {
 
 impl Session {
     /// One without edits and reports. AllocError where memory is refused.
-    pub(crate) fn new(alloc: Global, topo: &Topo) -> Result<Session, AllocError>
+    pub fn new(alloc: Global, topo: &Topo) -> Result<Session, AllocError>
         ensures { IfOk result (λ session. session ≡ record { topo = topo.now; now = start }) }
     {
         Ok(Session {
@@ -65,8 +66,25 @@ impl Session {
         })
     }
 
+    /// What its edits leave.
+    pub fn inputs(&self) -> &Inputs
+        ensures exact { result.now ≡ inputs_after self.now.topo self.now.now.edits }
+        ensures topo { result.now.topo ≡ self.now.topo }
+    {
+        self.log.inputs()
+    }
+
+    /// The last report; before the first one of version 0 without rows.
+    pub fn last(&self) -> &Report
+        ensures version { result.now.version ≡ self.now.now.reports }
+        ensures rows { result.now.rows ≡ self.now.now.rows }
+        ensures links { All (λ row. row.link < length self.now.topo.links) result.now.rows }
+    {
+        &self.last
+    }
+
     /// How many rows the last report has.
-    pub(crate) fn last_rows(&self) -> u64
+    pub fn last_rows(&self) -> u64
         ensures { result ≡ length self.now.now.rows }
     {
         self.last.rows().len() as u64
@@ -120,7 +138,7 @@ impl Session {
 
     /// The lines of one command more. AllocError where memory is refused; the run is then at its end.
     #[tactic(auto, unfolding(crate::specs::Output::IsStep))]
-    pub(crate) fn lines_of(&mut self, alloc: Global, asked: Asked) -> Result<String, AllocError>
+    pub fn lines_of(&mut self, alloc: Global, asked: Asked) -> Result<String, AllocError>
         ensures topo { self.new.topo ≡ self.old.topo }
         ensures step { IfOk result (λ lines. IsStep self.old.topo self.old.now (asking asked) (string_bytes lines) self.new.now) }
     {

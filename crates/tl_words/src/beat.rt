@@ -66,9 +66,9 @@ fn message_text(alloc: Global, found: Option<Op>, beat: &Beat) -> Result<String,
     }
 }
 
-/// How many bytes.
+/// How many bytes a message of this size has, the exponent of that number. AllocError where memory is refused.
 #[tactic(auto, unfolding(crate::specs::Words::bytes_text_of))]
-fn bytes_text(alloc: Global, size: u8) -> Result<String, AllocError>
+pub fn bytes_text(alloc: Global, size: u8) -> Result<String, AllocError>
     requires { size ≤ 15 }
     ensures { IfOk result (λ text. string_bytes text ≡ bytes_text_of size) }
 {

@@ -10,7 +10,7 @@ mod rules;
 #[cfg(test)]
 mod tests;
 
-pub use beat::beat_text;
+pub use beat::{beat_text, bytes_text};
 pub use rules::rule_line;
 use tl_tables::{Chan, Op};
 

@@ -1,12 +1,15 @@
-use Rattle.std.proofs.Common.{◌+◌, ◌++◌, Vec, false, [], drop, take, get_or, sym, ap, subst, ◌∙◌}
+use Rattle.std.proofs.Common.{◌≡◌, ◌+◌, ◌++◌, Vec, false, [], drop, take, get_or, sym, ap, subst, ◌∙◌, arith}
 use Rattle.std.specs.Prelude.{reverse}
 use Rattle.tl_tables.specs.declared.Chan.TheVariants as chan
 use Rattle.tl_beats.specs.declared.Placed.{Placed}
 use Rattle.tl_reasons.specs.declared.telling.Told.{Told}
+use Rattle.tl_definitions.specs.OpenTables.{one_if}
+use Rattle.tl_reasons.specs.Counts.{heads_after}
+use Rattle.tl_reasons.proofs.CountLaws.{heads_next}
 use Rattle.tl_reasons.specs.States.{StandsFor, manager_with}
 use Rattle.tl_reasons.specs.Telling.{told_after}
 use Rattle.tl_reasons.proofs.AnswerLaws.{passed_more, next_left}
-use Rattle.tl_reasons.proofs.TellingLaws.{told_next, untold}
+use Rattle.tl_reasons.proofs.TellingLaws.{told_next, untold, take_all}
 use Rattle.tl_reasons.proofs.telling.tell.Goals as goal
 use Rattle.tl_reasons.proofs.telling.tell.Goals.{then-contains+in_ok-tell_beat, else-contains}
 
@@ -15,6 +18,8 @@ loop-place-init c = record {
   count = c.in_ok-state.ensures.count;
   stands = c.in_ok-state.ensures.stands c.args.clients.now;
   found = ap (λ told. told ++ told_after (manager_with c.args.topo.now c.args.exponent c.args.clients.now) c.args.rows.now [] c.args.beats.now) c.new-told.ensures.items;
+  few = omega arith;
+  heads = (let e : 0 + heads_after (manager_with c.args.topo.now c.args.exponent c.args.clients.now).links [] c.args.beats.now ≡ heads_after (manager_with c.args.topo.now c.args.exponent c.args.clients.now).links [] c.args.beats.now = omega arith in e);
 }
 
 pub loop-place-preserved : goal.loop-place-preserved
@@ -39,4 +44,13 @@ loop-place-preserved c =
                 ∙ untold m rows before p c.loop-place.told.items (sym (c.in_ok-cycles.ensures p.beat.cycle) ∙ sym c.contains.ensures ∙ w.if-contains.false)
           ])
           known.found;
+      few = (let one = c.one_if-heads.ensures.few in let so_far = known.few in omega arith);
+      heads = heads_next m.links before (reverse (take (i + 1) beats)) p (drop i beats) (drop (i + 1) beats) c.loop-place.heads c.one_if-heads.result (heads_after m.links [] beats)
+          (next_left beats i none c.loop-place-test.true) passed (c.one_if-heads.ensures.exact ∙ ap one_if (c.is_head.ensures c.args.exponent c.args.clients.now before known.stands)) known.heads;
     }
+
+pub returns-clause-open : goal.returns-clause-open
+returns-clause-open c =
+    let m = manager_with c.args.topo.now c.args.exponent c.args.clients.now in
+    c.in_ok-open.ensures c.args.exponent (reverse c.args.beats.now)
+    (subst (λ beats. StandsFor m c.loop-place.state (reverse beats)) (take_all c.args.beats.now c.loop-place.place-index c.loop-place-test.false) c.loop-place.invariant.stands)

@@ -1,5 +1,6 @@
-use Rattle.std.proofs.Common.{◌≡◌, ◌++◌, [], length, drop, take}
+use Rattle.std.proofs.Common.{◌≡◌, ◌+◌, ◌≤◌, ◌++◌, [], length, drop, take}
 use Rattle.std.specs.Prelude.{reverse}
+use Rattle.tl_reasons.specs.Counts.{heads_after}
 use Rattle.tl_reasons.specs.States.{StandsFor, manager_with}
 use Rattle.tl_reasons.specs.Telling.{told_after}
 use Rattle.tl_reasons.proofs.telling.tell.Given as goal
@@ -11,4 +12,7 @@ invariant-loop-place l = record {
   stands : StandsFor (manager_with l.topo l.exponent l.clients) l.state (reverse (take l.place-index l.beats));
   found : l.told.items ++ told_after (manager_with l.topo l.exponent l.clients) l.rows (reverse (take l.place-index l.beats)) (drop l.place-index l.beats)
       ≡ told_after (manager_with l.topo l.exponent l.clients) l.rows [] l.beats;
+  few : l.heads ≤ l.place-index;
+  heads : l.heads + heads_after (manager_with l.topo l.exponent l.clients).links (reverse (take l.place-index l.beats)) (drop l.place-index l.beats)
+      ≡ heads_after (manager_with l.topo l.exponent l.clients).links [] l.beats;
 }

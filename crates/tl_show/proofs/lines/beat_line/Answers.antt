@@ -1,0 +1,15 @@
+use Rattle.std.proofs.Common.{◌≡◌, refl, sym, ap, ◌∙◌}
+use Rattle.std.specs.Option.{option_copied}
+use Rattle.tl_topology.specs.declared.LinkDecl.{LinkDecl}
+use Rattle.tl_reasons.proofs.ManagerLaws.{declared}
+use Rattle.tl_show.specs.Lines.{link_at, beat_line_of}
+use Rattle.tl_show.proofs.Texts.{in_words}
+use Rattle.tl_show.proofs.lines.beat_line.Goals as goal
+
+pub returns : goal.returns
+unfolding beat_line_of
+returns c =
+    let p = c.args.place.now in
+    let link : (link_at c.args.topo.now p.link).name ≡ c.unwrap.result.now.name =
+    ap (λ (d : LinkDecl). d.name) (declared c.args.topo.now p.link c.unwrap.result.now (sym (ap option_copied c.unwrap.ensures) ∙ c.link.ensures.exact)) in
+    in_words c.format.result _ (beat_line_of c.args.topo.now c.args.place.now) c.format.ensures.ok (rw (link, c.in_ok-text.ensures) refl)

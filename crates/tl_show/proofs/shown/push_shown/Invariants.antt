@@ -1,0 +1,8 @@
+use Rattle.std.proofs.Common.{◌≡◌, ◌++◌, take}
+use Rattle.std.specs.Prelude.{string_bytes}
+use Rattle.std.specs.List.{flat_map}
+use Rattle.tl_show.specs.Shown.{shown_row}
+use Rattle.tl_show.proofs.shown.push_shown.Given as goal
+
+abbrev pub invariant-loop-row : goal.invariant-loop-row
+invariant-loop-row l = string_bytes l.text ≡ string_bytes l.fn.text ++ flat_map (shown_row l.topo l.told) (take l.row-index l.rows)

@@ -64,10 +64,10 @@ pub piece_of_result : {S R : Type 0} (found : Option (Piece S R)) (r : pieces.Pa
 piece_of_result None r h = cc
 piece_of_result (Some p) r h = (p, refl, h)
 
-key_equivalence : IsEquivalence (λ k. is_at (key_cmp k))
+pub key_equivalence : IsEquivalence (λ k. is_at (key_cmp k))
 key_equivalence = eq_by_cmp_equiv key_total
 
-distinct_keys : {V : Type 0} (es : List (PieceKey × V)) → Rises es → IsDistinct (λ k. is_at (key_cmp k)) (keys_of es)
+pub distinct_keys : {V : Type 0} (es : List (PieceKey × V)) → Rises es → IsDistinct (λ k. is_at (key_cmp k)) (keys_of es)
 distinct_keys es s = IsDistinct-from_sorted key_cmp (keys_of es) s
 
 owned_above : {V : Type 0} (o : ℕ) (k : PieceKey) (es : List (PieceKey × V)) → AllByRecursion (λ q. key_cmp k q ≡ Less) (keys_of es) → AllByRecursion (λ q. key_cmp k q ≡ Less) (keys_of (owned_by o es))

@@ -5,3 +5,5 @@ pub mod FoundLemmas
 pub mod CheckLemmas
 pub mod WindowLemmas
 pub mod TouchLemmas
+pub mod TouchedLemmas
+pub mod EditLemmas

@@ -1,6 +1,6 @@
 -- One window after the other.
-use Rattle.std.proofs.Common.{◌≡◌, ℕ, ◌⊎◌, inl, inr, true, false, cond, Bool, List, [], ◌∷◌, Option, Some, None, refl, sym, ap, subst, ◌∙◌, Ordering, Equal, Less, Greater, ◌<◌, ◌+◌, length, get_or, nat_lt, arith}
-use Rattle.std.specs.Prelude.{is_some, not}
+use Rattle.std.proofs.Common.{◌≡◌, ℕ, ◌⊎◌, inl, inr, true, false, cond, Bool, List, [], ◌∷◌, Option, Some, None, refl, sym, ap, subst, ◌∙◌, Equal, ◌<◌, ◌+◌, length, get_or, nat_lt, arith}
+use Rattle.std.specs.Prelude.{is_some}
 use Rattle.std.specs.Option.{option_map}
 use Rattle.std.specs.Ordering.{is_eq}
 use Rattle.std.specs.BTreeMap.{insert_entry, is_at}
@@ -10,9 +10,12 @@ use Rattle.std.proofs.lemmas.Option.{slice_get-get_or}
 use Rattle.tl_definitions.proofs.Lists.{contains_none, contains_here, contains_there, contains_cases}
 use Rattle.tl_pieces.specs.declared.key.PieceKey.{PieceKey}
 use Rattle.tl_pieces.specs.Keys.{key_cmp, change}
-use Rattle.tl_pieces.specs.Pieces.{Board, Piece, empty, piece_at, with_pieces}
+use Rattle.std.specs.Map.{remove_entry}
+use Rattle.std.proofs.lemmas.Map.{lookup-remove_entry}
+use Rattle.tl_pieces.specs.Pieces.{Board, Piece, IsBoard, empty, piece_at, with_pieces}
+use Rattle.tl_spans.proofs.CoverLemmas.{key_equivalence, distinct_keys}
 use Rattle.tl_pieces.proofs.OrderLemmas.{key_exact, key_self, key_total}
-use Rattle.tl_spans.specs.Windows.{key_of, IsAmong, IsGrown, HasAll, AreBlank, blank}
+use Rattle.tl_spans.specs.Windows.{key_of, IsAmong, IsGrown, HasAll, IsTaken, IsPruned, AreBlank, blank}
 use Rattle.tl_spans.proofs.EntryLemmas.{lookup_put}
 use Rattle.tl_spans.proofs.CheckLemmas.{lookup_change}
 
@@ -149,3 +152,77 @@ module _ {S R : Type 0} where
   pub all_there : (owner : ℕ) (windows : List ℕ) (board : Board S R) → ((i : ℕ) → i < length windows → is_some (piece_at (key_of owner (get_or windows i 0)) board) ≡ true) → HasAll owner windows board
   all_there owner windows board all window has =
       subst (λ w. is_some (piece_at (key_of owner w) board) ≡ true) (any_default windows has.0 0 window has.1 ∙ has.2) (all has.0 has.1)
+
+  -- ---- pieces that go
+
+  module _ (old : Board S R) (is : IsBoard old) (key : PieceKey) where
+    pub taken : (new : Board S R) → new ≡ with_pieces old (remove_entry (is_at (key_cmp key)) old.pieces) → IsTaken key old new
+    taken new removed = record {
+      openings = ap (λ (b : Board S R). b.openings) removed;
+      pieces = λ other. ap (λ (b : Board S R). piece_at other b) removed ∙ lookup-remove_entry key_equivalence (is_at (key_cmp key)) one other old.pieces (distinct_keys old.pieces is.keys)
+          ∙ ap (λ b. cond b None (piece_at other old)) (symmetric key other);
+    }
+      where
+        one : (x y : PieceKey) → is_at (key_cmp key) x ≡ true → is_at (key_cmp key) y ≡ is_at (key_cmp x) y
+        one x y h = ap (λ (k : PieceKey). is_at (key_cmp k) y) (key_exact key x h)
+
+        symmetric : (x y : PieceKey) → is_at (key_cmp x) y ≡ is_at (key_cmp y) x
+        symmetric x y = key_equivalence.symm x y
+
+    pub not_there : is_some (piece_at key old) ≡ false → IsTaken key old old
+    not_there none = record { openings = refl; pieces = λ other. go other (is_at (key_cmp other) key) refl }
+      where
+        go : (other : PieceKey) (b : Bool) → is_at (key_cmp other) key ≡ b → piece_at other old ≡ cond b None (piece_at other old)
+        go other true at = ap (λ k. piece_at k old) (key_exact other key at) ∙ none_of (piece_at key old) none
+        go other false at = refl
+
+  module _ (P : ℕ → Type 0) (owner : ℕ) where
+    pub pruned_none : (board : Board S R) → IsPruned P owner [] board board
+    pruned_none board = record { openings = refl; each = λ key. inl refl; stays = λ key held. refl; left = λ key among there. absurd (contains_none key.window among.1) }
+
+    module _ (window : ℕ) (rest : List ℕ) (old mid new : Board S R) (is : IsPruned P owner rest mid new) where
+      -- the first window stays
+      pub pruned_kept : P window → mid ≡ old → IsPruned P owner (window ∷ rest) old new
+      pruned_kept holds same = subst (λ (b : Board S R). IsPruned P owner (window ∷ rest) b new) same (record {
+        openings = is.openings;
+        each = is.each;
+        stays = λ key held. is.stays key (λ among. held (among.0, contains_there window rest key.window among.1));
+        left = λ key among there. elim (contains_cases window rest key.window among.1) [
+          | inl here ↦ subst P here holds
+          | inr later ↦ is.left key (among.0, later) there
+        ];
+      })
+
+      -- the first window goes
+      pub pruned_gone : (P window → ⊥) → IsTaken (key_of owner window) old mid → IsPruned P owner (window ∷ rest) old new
+      pruned_gone lacks gone = record {
+        openings = is.openings ∙ gone.openings;
+        each = λ key. both key (middle key (is_at (key_cmp key) (key_of owner window)) (gone.pieces key)) (is.each key);
+        stays = λ key held. is.stays key (λ among. held (among.0, contains_there window rest key.window among.1)) ∙ unchanged key held (is_at (key_cmp key) (key_of owner window)) refl (gone.pieces key);
+        left = λ key among there. elim (contains_cases window rest key.window among.1) [
+          | inl here ↦ (let absent : piece_at key mid ≡ None = gone.pieces key ∙ ap (λ b. cond b None (piece_at key old)) (at_key key (at_first owner window key among.0 here)) in
+              let none_left : piece_at key new ≡ None = elim (is.each key) [ inl same ↦ same ∙ absent | inr none_left ↦ none_left ] in
+              let never : false ≡ true = sym (ap is_some none_left) ∙ there in cc)
+          | inr later ↦ is.left key (among.0, later) there
+        ];
+      }
+        where
+          at_key : (key : PieceKey) → key ≡ key_of owner window → is_at (key_cmp key) (key_of owner window) ≡ true
+          at_key key same = subst (λ (k : PieceKey). is_at (key_cmp key) k ≡ true) same (ap is_eq (key_self key))
+
+          middle : (key : PieceKey) (b : Bool) → piece_at key mid ≡ cond b None (piece_at key old) → (piece_at key mid ≡ piece_at key old) ⊎ (piece_at key mid ≡ None)
+          middle key true h = inr h
+          middle key false h = inl h
+
+          both : (key : PieceKey) → (piece_at key mid ≡ piece_at key old) ⊎ (piece_at key mid ≡ None) → (piece_at key new ≡ piece_at key mid) ⊎ (piece_at key new ≡ None) → (piece_at key new ≡ piece_at key old) ⊎ (piece_at key new ≡ None)
+          both key (inl a) (inl b) = inl (b ∙ a)
+          both key (inr a) (inl b) = inr (b ∙ a)
+          both key a (inr b) = inr b
+
+          unchanged : (key : PieceKey) → (IsAmong owner (window ∷ rest) key → P key.window) → (b : Bool) → is_at (key_cmp key) (key_of owner window) ≡ b → piece_at key mid ≡ cond b None (piece_at key old)
+              → piece_at key mid ≡ piece_at key old
+          unchanged key held true at h =
+              let same : key ≡ key_of owner window = key_exact key (key_of owner window) at in
+              let among : IsAmong owner (window ∷ rest) key = (ap (λ (k : PieceKey). k.owner) same, subst (Contains (window ∷ rest)) (ap (λ (k : PieceKey). k.window) (sym same)) (contains_here window rest)) in
+              absurd (lacks (subst P (ap (λ (k : PieceKey). k.window) same) (held among)))
+          unchanged key held false at h = h

@@ -2,8 +2,10 @@
 #![tactic(auto)]
 
 mod checking;
+mod edits;
 mod rows;
 mod spans;
+mod touched;
 mod windows;
 
 pub use rows::Rows;

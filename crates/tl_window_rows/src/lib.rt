@@ -9,3 +9,5 @@ mod edits;
 mod logs;
 #[cfg(test)]
 mod reports;
+#[cfg(test)]
+mod spans;

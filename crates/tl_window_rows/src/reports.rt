@@ -34,7 +34,7 @@ pub(crate) const GET: Class = Class {
 };
 
 /// Rows as a report tells them: link, fragment, line and rule of each, and the monitor, or 0.
-fn told(alloc: Global, topo: &Topo, rows: &[Row]) -> Result<String, Fail> {
+pub(crate) fn told(alloc: Global, topo: &Topo, rows: &[Row]) -> Result<String, Fail> {
     let mut text = String::new(alloc);
     for row in rows {
         let name = topo.link(row.link).ok_or("a link")?.name;

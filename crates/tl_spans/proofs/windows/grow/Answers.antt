@@ -19,17 +19,17 @@ loop-window-preserved c =
     let mid : Board SpanState (List Row) = c.loop-window.pieces in
     elim c.if-not-contains.branch [
       | then-not-contains+in_ok-insert w ↦
-        subst (λ (p : Board SpanState (List Row)). IsGrown owner windows old p × ((i : ℕ) → i < index + 1 → is_some (piece_at (key_of owner (get_or windows i 0)) p) ≡ true)) (sym w.pieces-is) (
-          grown_one owner windows old mid w.insert.new.self window c.loop-window.invariant.0 (Contains-get_or windows index 0 c.loop-window-test.true) (none_of (piece_at (key_of owner window) mid) (sym w.if-not-contains.ensures)) w.in_ok-insert.ensures.ok,
-          all_next (λ i. is_some (piece_at (key_of owner (get_or windows i 0)) w.insert.new.self) ≡ true) index
-          (λ i lt. still_all mid w.insert.new.self (key_of owner window) (key_of owner (get_or windows i 0)) w.in_ok-insert.ensures.ok (c.loop-window.invariant.1 i lt))
-          (put_there mid w.insert.new.self (key_of owner window) w.in_ok-insert.ensures.ok),
-        )
+          subst (λ (p : Board SpanState (List Row)). IsGrown owner windows old p × ((i : ℕ) → i < index + 1 → is_some (piece_at (key_of owner (get_or windows i 0)) p) ≡ true)) (sym w.pieces-is) (
+            grown_one owner windows old mid w.insert.new.self window c.loop-window.invariant.0 (Contains-get_or windows index 0 c.loop-window-test.true) (none_of (piece_at (key_of owner window) mid) (sym w.if-not-contains.ensures)) w.in_ok-insert.ensures.ok,
+            all_next (λ i. is_some (piece_at (key_of owner (get_or windows i 0)) w.insert.new.self) ≡ true) index
+                (λ i lt. still_all mid w.insert.new.self (key_of owner window) (key_of owner (get_or windows i 0)) w.in_ok-insert.ensures.ok (c.loop-window.invariant.1 i lt))
+                (put_there mid w.insert.new.self (key_of owner window) w.in_ok-insert.ensures.ok),
+          )
       | else-not-contains w ↦
-        subst (λ (p : Board SpanState (List Row)). IsGrown owner windows old p × ((i : ℕ) → i < index + 1 → is_some (piece_at (key_of owner (get_or windows i 0)) p) ≡ true)) (sym w.pieces-is) (
-          c.loop-window.invariant.0,
-          all_next (λ i. is_some (piece_at (key_of owner (get_or windows i 0)) mid) ≡ true) index c.loop-window.invariant.1 (sym w.if-not-contains.ensures),
-        )
+          subst (λ (p : Board SpanState (List Row)). IsGrown owner windows old p × ((i : ℕ) → i < index + 1 → is_some (piece_at (key_of owner (get_or windows i 0)) p) ≡ true)) (sym w.pieces-is) (
+            c.loop-window.invariant.0,
+            all_next (λ i. is_some (piece_at (key_of owner (get_or windows i 0)) mid) ≡ true) index c.loop-window.invariant.1 (sym w.if-not-contains.ensures),
+          )
     ]
 
 pub returns-clause-all : goal.returns-clause-all

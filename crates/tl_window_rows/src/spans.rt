@@ -1,0 +1,97 @@
+//! Windows of managers behind a log of edits: which of them an edit makes be checked again. Each call with ample memory.
+
+use crate::reports::{TOPOLOGY, region, told};
+use std::alloc::Global;
+use std::sync::Arc;
+use std::test::Fail;
+use tl_beats::parse_whole_fragment;
+use tl_inputs::{Change, Edit};
+use tl_spans::Spans;
+use tl_topology::{Name, read_topo};
+
+/// Two Gets with their replies, one in each of the first two windows.
+const TWO_WINDOWS: &str = "fragment dma0 1 0 99999\n\
+10 A 4 0 3 0 1000 ff 0\n\
+10 D 1 0 3 0 0 0 0\n\
+5000 A 4 0 3 0 2000 ff 0\n\
+5010 D 1 0 3 0 0 0 0\n\
+end\n";
+
+/// A Get with its reply in the second window.
+const SECOND_WINDOW: &str = "fragment cpu0 7 5000 5999\n\
+5100 A 4 0 3 0 3000 ff 0\n\
+5110 D 1 0 3 0 0 0 0\n\
+end\n";
+
+/// The edit that adds a fragment.
+fn adding(alloc: Global, text: &str) -> Result<Edit, Fail> {
+    let fragment = parse_whole_fragment(alloc, text.as_bytes())?;
+    Ok(Edit::Change(Change::Add(Arc::new(alloc, fragment)?)))
+}
+
+/// Checks what is wanted, ten windows at most, and tells how many that were.
+fn check(alloc: Global, spans: &mut Spans) -> Result<u32, Fail> {
+    let mut count = 0;
+    for _ in 0..10 {
+        if spans.check_first(alloc)?.is_some() {
+            count += 1;
+        }
+    }
+    Ok(count)
+}
+
+/// The rows, where all is settled.
+fn rows(alloc: Global, spans: &Spans) -> Result<String, Fail> {
+    if !spans.settled() {
+        return Err(Fail::new("a window is wanted"));
+    }
+    let rows = spans.rows(alloc)?;
+    told(alloc, spans.log().inputs().topo(), &rows)
+}
+
+/// Two windows, checked.
+fn two_windows(alloc: Global) -> Result<Spans, Fail> {
+    let (topo, _) = read_topo(alloc, TOPOLOGY.as_bytes())?;
+    let mut spans = Spans::new(alloc, topo)?;
+    if !spans.settled() {
+        return Err(Fail::new("there are no windows"));
+    }
+    spans.edit(alloc, adding(alloc, TWO_WINDOWS)?)?;
+    if check(alloc, &mut spans)? != 2 {
+        return Err(Fail::new("two windows have beats"));
+    }
+    Ok(spans)
+}
+
+#[test]
+fn a_region_makes_all_windows_be_checked_again(rt: HostRuntime) -> Result<(), Fail> {
+    let alloc = rt.alloc();
+    let mut spans = two_windows(alloc)?;
+    assert!(rt; rows(alloc, &spans)?.is_empty());
+    let manager = Name::new(b"m0").ok_or("a name")?;
+    let own = region(0x8000, 0x8fff, false)?;
+    let number = spans.edit(alloc, Edit::Change(Change::SetRegion(manager, 1, own)))?;
+    assert!(rt; number == 2);
+    assert!(rt; !spans.settled());
+    assert!(rt; check(alloc, &mut spans)? == 2);
+    assert!(rt; rows(alloc, &spans)?.as_str() == "dma0 1 2 F10 0\ndma0 1 4 F10 0\n");
+    Ok(())
+}
+
+#[test]
+fn a_fragment_makes_its_windows_be_checked_again(rt: HostRuntime) -> Result<(), Fail> {
+    let alloc = rt.alloc();
+    let mut spans = two_windows(alloc)?;
+    spans.edit(alloc, adding(alloc, SECOND_WINDOW)?)?;
+    assert!(rt; check(alloc, &mut spans)? == 1);
+    let again = adding(alloc, SECOND_WINDOW)?;
+    assert!(rt; spans.edit(alloc, again).is_err());
+    assert!(rt; spans.settled());
+    // Without the fragment that is alone in it the first window is gone, and the second begins with no beats.
+    let link = Name::new(b"dma0").ok_or("a name")?;
+    spans.edit(alloc, Edit::Change(Change::Withdraw(link, 1)))?;
+    assert!(rt; check(alloc, &mut spans)? == 1);
+    assert!(rt; rows(alloc, &spans)?.is_empty());
+    assert!(rt; spans.log().len() == 3);
+    Ok(())
+}

@@ -9,6 +9,7 @@ mod format_entries;
 mod permission_entries;
 mod refusal_entries;
 mod run;
+mod showing;
 mod words;
 
 pub use fault::Fault;

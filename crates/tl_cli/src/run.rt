@@ -5,6 +5,7 @@ ghost use Rattle.tl_cli.specs.Status.{status_of};
 
 use crate::fault::Fault;
 use crate::files::{fragments_of, script_of, topology_of};
+use crate::showing::{show_audit, show_once, show_script};
 use crate::words::{Command, not_utf8, read_words};
 use std::alloc::Global;
 use std::io;
@@ -48,13 +49,18 @@ fn once_of_files<R: Files + AllocGlobal, O: ByteOut>(
     rt: &R,
     topology: &str,
     fragments: &[&str],
+    show: bool,
     out: &mut O,
 ) -> Result<Outcome, Fault>
     requires { O.failure_count out.old < 2 ^ 63 }
 {
     let topo = topology_of(rt, topology)?;
     let fragments = fragments_of(rt, fragments)?;
-    let rows = run_once(rt.alloc(), &topo, &fragments, out)?;
+    let rows = if show {
+        show_once(rt.alloc(), &topo, &fragments, out)?
+    } else {
+        run_once(rt.alloc(), &topo, &fragments, out)?
+    };
     Ok(report_of(rows))
 }
 
@@ -63,13 +69,18 @@ fn run_of_files<R: Files + AllocGlobal, O: ByteOut>(
     rt: &R,
     topology: &str,
     script: &str,
+    show: bool,
     out: &mut O,
 ) -> Result<Outcome, Fault>
     requires { O.failure_count out.old < 2 ^ 63 }
 {
     let topo = topology_of(rt, topology)?;
     let script = script_of(rt, script)?;
-    let outcome = run_script(rt.alloc(), &topo, &script, out)?;
+    let outcome = if show {
+        show_script(rt.alloc(), &topo, &script, out)?
+    } else {
+        run_script(rt.alloc(), &topo, &script, out)?
+    };
     Ok(outcome)
 }
 
@@ -79,13 +90,18 @@ fn audit_of_files<R: Files + AllocGlobal, O: ByteOut>(
     topology: &str,
     script: &str,
     edit: u64,
+    show: bool,
     out: &mut O,
 ) -> Result<Outcome, Fault>
     requires { O.failure_count out.old < 2 ^ 63 }
 {
     let topo = topology_of(rt, topology)?;
     let script = script_of(rt, script)?;
-    let rows = audit_script(rt.alloc(), &topo, &script, edit, out)?;
+    let rows = if show {
+        show_audit(rt.alloc(), &topo, &script, edit, out)?
+    } else {
+        audit_script(rt.alloc(), &topo, &script, edit, out)?
+    };
     Ok(report_of(rows))
 }
 
@@ -200,13 +216,19 @@ pub fn run_words<R: Files + AllocGlobal, I: ByteIn, O: ByteOut, E: ByteOut>(
         Command::Once {
             topology,
             fragments,
-        } => once_of_files(rt, topology, &fragments, out),
-        Command::Run { topology, script } => run_of_files(rt, topology, script, out),
+            show,
+        } => once_of_files(rt, topology, &fragments, show, out),
+        Command::Run {
+            topology,
+            script,
+            show,
+        } => run_of_files(rt, topology, script, show, out),
         Command::Audit {
             topology,
             script,
             edit,
-        } => audit_of_files(rt, topology, script, edit, out),
+            show,
+        } => audit_of_files(rt, topology, script, edit, show, out),
         Command::Explain { entry } => return tell_text(rt.alloc(), out, err, entry),
     };
     match outcome {

@@ -1,16 +1,20 @@
 //! The files that the words name.
 
 use crate::fault::Fault;
+use crate::sentences::{fragment_sentence, topology_sentence};
 use std::fs;
 use std::rt::Files;
 use std::sync::Arc;
-use tl_beats::{Fragment, read_fragment};
+use tl_beats::{Fragment, parse_whole_fragment, read_fragment};
 use tl_run::read_script;
 use tl_text::{CountedReader, read_text};
 use tl_topology::{Topo, TopoFault, read_topo};
 
 /// The most bytes of a topology's file.
 const MOST_TOPOLOGY: u64 = 1_048_576;
+
+/// The most bytes of a fragment's file.
+const MOST_FRAGMENT: u64 = 8_388_608;
 
 /// The topology that a file's whole text is; bytes behind its last line are BadLine of the next.
 pub(crate) fn topology_of<R: Files + AllocGlobal>(rt: &R, path: &str) -> Result<Topo, Fault> {
@@ -61,4 +65,56 @@ pub(crate) fn script_of<R: Files + AllocGlobal>(rt: &R, path: &str) -> Result<Ve
     };
     let script = read_script(rt.alloc(), &mut CountedReader::new(file))?;
     Ok(script)
+}
+
+/// The whole text of a file of at most so many bytes.
+fn text_of<R: Files + AllocGlobal>(rt: &R, path: &str, most: u64) -> Result<Vec<u8>, Fault> {
+    let Ok(file) = fs::open(rt, path) else {
+        return Err(Fault::FILE);
+    };
+    let text = read_text(rt.alloc(), &mut CountedReader::new(file), most)?;
+    Ok(text)
+}
+
+/// What is at fault in a topology's file, in a sentence, if its text is none.
+fn topology_fault<R: Files + AllocGlobal>(rt: &R, path: &str) -> Result<Option<String>, Fault> {
+    let text = text_of(rt, path, MOST_TOPOLOGY)?;
+    let fault = match read_topo(rt.alloc(), &text) {
+        Ok((_, used)) if used < text.len() => TopoFault::BadLine(line_after(&text[..used])),
+        Ok(_) => return Ok(None),
+        Err(fault) => fault,
+    };
+    match topology_sentence(rt.alloc(), path, &text, fault) {
+        Ok(sentence) => Ok(Some(sentence)),
+        Err(_) => Err(Fault::MEMORY),
+    }
+}
+
+/// What is at fault in a fragment's file, in a sentence, if its text is none.
+fn fragment_fault<R: Files + AllocGlobal>(rt: &R, path: &str) -> Result<Option<String>, Fault> {
+    let text = text_of(rt, path, MOST_FRAGMENT)?;
+    let Err(fault) = parse_whole_fragment(rt.alloc(), &text) else {
+        return Ok(None);
+    };
+    match fragment_sentence(rt.alloc(), path, &text, fault) {
+        Ok(sentence) => Ok(Some(sentence)),
+        Err(_) => Err(Fault::MEMORY),
+    }
+}
+
+/// What is at fault in the first of these files whose text is none, in a sentence; None where each can be read.
+pub(crate) fn fault_of<R: Files + AllocGlobal>(
+    rt: &R,
+    topology: &str,
+    fragments: &[&str],
+) -> Result<Option<String>, Fault> {
+    if let Some(sentence) = topology_fault(rt, topology)? {
+        return Ok(Some(sentence));
+    }
+    for path in fragments {
+        if let Some(sentence) = fragment_fault(rt, path)? {
+            return Ok(Some(sentence));
+        }
+    }
+    Ok(None)
 }

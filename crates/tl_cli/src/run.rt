@@ -4,7 +4,7 @@ ghost use Rattle.std.specs.Prelude.{◌≡◌, ◌<◌, ◌≤◌, ◌^◌};
 ghost use Rattle.tl_cli.specs.Status.{status_of};
 
 use crate::fault::Fault;
-use crate::files::{fragments_of, script_of, topology_of};
+use crate::files::{fault_of, fragments_of, script_of, topology_of};
 use crate::showing::{show_audit, show_once, show_script};
 use crate::words::{Command, not_utf8, read_words};
 use std::alloc::Global;
@@ -132,6 +132,47 @@ fn tell<E: ByteOut>(alloc: Global, err: &mut E, fault: Fault) -> u8
     FAULT
 }
 
+/// What is at fault in the files of a command whose rows are shown.
+fn sentence_of<R: Files + AllocGlobal>(
+    rt: &R,
+    command: &Command<'_>,
+) -> Result<Option<String>, Fault> {
+    match command {
+        Command::Once {
+            topology,
+            fragments,
+            show,
+        } if *show => fault_of(rt, *topology, fragments),
+        Command::Run { topology, show, .. } if *show => fault_of(rt, *topology, &[]),
+        Command::Audit { topology, show, .. } if *show => fault_of(rt, *topology, &[]),
+        _ => Ok(None),
+    }
+}
+
+/// Tells of a fault in one line, and where rows are shown of what is at fault in the files; that this can't be written changes
+/// nothing.
+fn tell_fault<R: Files + AllocGlobal, E: ByteOut>(
+    rt: &R,
+    err: &mut E,
+    fault: Fault,
+    command: &Command<'_>,
+) -> u8
+    requires { E.failure_count err.old < 2 ^ 63 }
+    ensures { result ≡ 2 }
+{
+    let alloc = rt.alloc();
+    let Ok(line) = format!(in alloc; "{fault}\n") else {
+        return FAULT;
+    };
+    let Ok(()) = write_all(err, line.as_bytes()) else {
+        return FAULT;
+    };
+    if let Ok(Some(sentence)) = sentence_of(rt, command) {
+        let _ = write_all(err, sentence.as_bytes());
+    }
+    FAULT
+}
+
 /// Writes a text that was asked for.
 fn tell_text<O: ByteOut, E: ByteOut>(alloc: Global, out: &mut O, err: &mut E, text: &str) -> u8
     requires out { O.failure_count out.old < 2 ^ 63 }
@@ -211,28 +252,28 @@ pub fn run_words<R: Files + AllocGlobal, I: ByteIn, O: ByteOut, E: ByteOut>(
         Ok(command) => command,
         Err(error) => return tell_words(rt.alloc(), out, err, &error),
     };
-    let outcome = match command {
+    let outcome = match &command {
         Command::Input => run_of_input(rt.alloc(), input, out),
         Command::Once {
             topology,
             fragments,
             show,
-        } => once_of_files(rt, topology, &fragments, show, out),
+        } => once_of_files(rt, *topology, fragments, *show, out),
         Command::Run {
             topology,
             script,
             show,
-        } => run_of_files(rt, topology, script, show, out),
+        } => run_of_files(rt, *topology, *script, *show, out),
         Command::Audit {
             topology,
             script,
             edit,
             show,
-        } => audit_of_files(rt, topology, script, edit, show, out),
-        Command::Explain { entry } => return tell_text(rt.alloc(), out, err, entry),
+        } => audit_of_files(rt, *topology, *script, *edit, *show, out),
+        Command::Explain { entry } => return tell_text(rt.alloc(), out, err, *entry),
     };
     match outcome {
         Ok(outcome) => status_of(outcome),
-        Err(fault) => tell(rt.alloc(), err, fault),
+        Err(fault) => tell_fault(rt, err, fault, &command),
     }
 }

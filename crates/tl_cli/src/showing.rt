@@ -3,6 +3,7 @@
 ghost use Rattle.std.specs.Prelude.{◌<◌, ◌^◌};
 ghost use Rattle.tl_script.specs.Text.{IsCommand};
 
+use crate::sentences::{first_line, shown};
 use std::alloc::{AllocError, Global};
 use std::sync::Arc;
 use tl_beats::Fragment;
@@ -78,22 +79,35 @@ fn stop_front(cause: StopCause) -> &'static [u8] {
     }
 }
 
-/// Writes the line of a stop, without taking memory; answers what the run came to.
+/// What is wrong where a script stops, in a sentence behind the line where it does.
+fn stop_sentence(alloc: Global, cause: StopCause, rest: &[u8]) -> Result<String, AllocError> {
+    let what = match cause {
+        StopCause::Memory => return Ok(String::new(alloc)),
+        StopCause::BadCommand => "this is no command: tlcheck explain 41 has the form of each",
+        StopCause::Truncated => "the script ends inside this command",
+    };
+    let own = shown(first_line(rest));
+    format!(in alloc; "  {own}\n  {what}\n")
+}
+
+/// Writes the line of a stop, without taking memory, and what is wrong there; answers what the run came to.
 fn stop_there<O: ByteOut>(
+    alloc: Global,
     last_rows: u64,
-    cause: StopCause,
-    done: u64,
+    stop: Stop,
+    rest: &[u8],
     out: &mut O,
 ) -> Result<Outcome, WriteFault>
-    requires done { done < 18446744073709551615 }
-    requires out { O.failure_count out.old < 2 ^ 63 }
+    requires { O.failure_count out.old < 2 ^ 63 }
 {
-    let command = done + 1;
-    write_all(out, stop_front(cause))?;
-    write_words(out, &[Word::Decimal(command)])?;
+    write_all(out, stop_front(stop.cause))?;
+    write_words(out, &[Word::Decimal(stop.command)])?;
+    if let Ok(sentence) = stop_sentence(alloc, stop.cause, rest) {
+        write_all(out, sentence.as_bytes())?;
+    }
     Ok(Outcome {
         last_rows,
-        stop: Some(Stop { cause, command }),
+        stop: Some(stop),
     })
 }
 
@@ -107,14 +121,24 @@ pub(crate) fn show_script<O: ByteOut>(
     requires { O.failure_count out.old < 2 ^ 63 }
 {
     let Ok(mut session) = Session::new(alloc, topo) else {
-        return stop_there(0, StopCause::Memory, 0, out);
+        let stop = Stop {
+            cause: StopCause::Memory,
+            command: 1,
+        };
+        return stop_there(alloc, 0, stop, script, out);
     };
     let mut rest = script;
     for done in 0..u64::MAX {
         let last_rows = session.last_rows();
         let read = match read_command(rest) {
             Ok(read) => read,
-            Err(fault) => return stop_there(last_rows, fault.into(), done, out),
+            Err(fault) => {
+                let stop = Stop {
+                    cause: fault.into(),
+                    command: done + 1,
+                };
+                return stop_there(alloc, last_rows, stop, rest, out);
+            }
         };
         let Some((command, taken)) = read else {
             return Ok(Outcome {
@@ -123,7 +147,11 @@ pub(crate) fn show_script<O: ByteOut>(
             });
         };
         let Ok(lines) = command_lines(alloc, &mut session, &command) else {
-            return stop_there(last_rows, StopCause::Memory, done, out);
+            let stop = Stop {
+                cause: StopCause::Memory,
+                command: done + 1,
+            };
+            return stop_there(alloc, last_rows, stop, rest, out);
         };
         write_all(out, lines.as_bytes())?;
         rest = &rest[taken..];

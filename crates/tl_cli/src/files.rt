@@ -1,5 +1,7 @@
 //! The files that the words name.
 
+ghost use Rattle.std.specs.Prelude.{◌≤◌, ◌^◌};
+
 use crate::fault::Fault;
 use crate::sentences::{fragment_sentence, topology_sentence};
 use std::fs;
@@ -67,8 +69,16 @@ pub(crate) fn script_of<R: Files + AllocGlobal>(rt: &R, path: &str) -> Result<Ve
     Ok(script)
 }
 
-/// The whole text of a file of at most so many bytes.
-fn text_of<R: Files + AllocGlobal>(rt: &R, path: &str, most: u64) -> Result<Vec<u8>, Fault> {
+/// The whole text of a regular file of at most so many bytes; of no other file, since a pipe can't be read again.
+fn text_of<R: Files + AllocGlobal>(rt: &R, path: &str, most: u64) -> Result<Vec<u8>, Fault>
+    requires { most ≤ 2 ^ 32 }
+{
+    let Ok(found) = fs::metadata(rt, path) else {
+        return Err(Fault::FILE);
+    };
+    if !found.is_file() {
+        return Err(Fault::FILE);
+    }
     let Ok(file) = fs::open(rt, path) else {
         return Err(Fault::FILE);
     };
@@ -76,43 +86,58 @@ fn text_of<R: Files + AllocGlobal>(rt: &R, path: &str, most: u64) -> Result<Vec<
     Ok(text)
 }
 
-/// What is at fault in a topology's file, in a sentence, if its text is none.
-fn topology_fault<R: Files + AllocGlobal>(rt: &R, path: &str) -> Result<Option<String>, Fault> {
+/// This fault in a sentence, if it is that of a topology's file.
+fn topology_fault<R: Files + AllocGlobal>(
+    rt: &R,
+    fault: Fault,
+    path: &str,
+) -> Result<Option<String>, Fault> {
     let text = text_of(rt, path, MOST_TOPOLOGY)?;
-    let fault = match read_topo(rt.alloc(), &text) {
+    let own = match read_topo(rt.alloc(), &text) {
         Ok((_, used)) if used < text.len() => TopoFault::BadLine(line_after(&text[..used])),
         Ok(_) => return Ok(None),
-        Err(fault) => fault,
+        Err(own) => own,
     };
-    match topology_sentence(rt.alloc(), path, &text, fault) {
+    if fault != own.into() {
+        return Ok(None);
+    }
+    match topology_sentence(rt.alloc(), path, &text, own) {
         Ok(sentence) => Ok(Some(sentence)),
         Err(_) => Err(Fault::MEMORY),
     }
 }
 
-/// What is at fault in a fragment's file, in a sentence, if its text is none.
-fn fragment_fault<R: Files + AllocGlobal>(rt: &R, path: &str) -> Result<Option<String>, Fault> {
+/// This fault in a sentence, if it is that of a fragment's file.
+fn fragment_fault<R: Files + AllocGlobal>(
+    rt: &R,
+    fault: Fault,
+    path: &str,
+) -> Result<Option<String>, Fault> {
     let text = text_of(rt, path, MOST_FRAGMENT)?;
-    let Err(fault) = parse_whole_fragment(rt.alloc(), &text) else {
+    let Err(own) = parse_whole_fragment(rt.alloc(), &text) else {
         return Ok(None);
     };
-    match fragment_sentence(rt.alloc(), path, &text, fault) {
+    if fault != own.into() {
+        return Ok(None);
+    }
+    match fragment_sentence(rt.alloc(), path, &text, own) {
         Ok(sentence) => Ok(Some(sentence)),
         Err(_) => Err(Fault::MEMORY),
     }
 }
 
-/// What is at fault in the first of these files whose text is none, in a sentence; None where each can be read.
+/// This fault in a sentence, if it is that of one of these files, which are read again; of the first that it is of.
 pub(crate) fn fault_of<R: Files + AllocGlobal>(
     rt: &R,
+    fault: Fault,
     topology: &str,
     fragments: &[&str],
 ) -> Result<Option<String>, Fault> {
-    if let Some(sentence) = topology_fault(rt, topology)? {
+    if let Some(sentence) = topology_fault(rt, fault, topology)? {
         return Ok(Some(sentence));
     }
     for path in fragments {
-        if let Some(sentence) = fragment_fault(rt, path)? {
+        if let Some(sentence) = fragment_fault(rt, fault, path)? {
             return Ok(Some(sentence));
         }
     }

@@ -132,9 +132,10 @@ fn tell<E: ByteOut>(alloc: Global, err: &mut E, fault: Fault) -> u8
     FAULT
 }
 
-/// What is at fault in the files of a command whose rows are shown.
+/// A fault in a sentence, if it is that of a file of a command whose rows are shown.
 fn sentence_of<R: Files + AllocGlobal>(
     rt: &R,
+    fault: Fault,
     command: &Command<'_>,
 ) -> Result<Option<String>, Fault> {
     match command {
@@ -142,9 +143,9 @@ fn sentence_of<R: Files + AllocGlobal>(
             topology,
             fragments,
             show,
-        } if *show => fault_of(rt, *topology, fragments),
-        Command::Run { topology, show, .. } if *show => fault_of(rt, *topology, &[]),
-        Command::Audit { topology, show, .. } if *show => fault_of(rt, *topology, &[]),
+        } if *show => fault_of(rt, fault, *topology, fragments),
+        Command::Run { topology, show, .. } if *show => fault_of(rt, fault, *topology, &[]),
+        Command::Audit { topology, show, .. } if *show => fault_of(rt, fault, *topology, &[]),
         _ => Ok(None),
     }
 }
@@ -167,7 +168,7 @@ fn tell_fault<R: Files + AllocGlobal, E: ByteOut>(
     let Ok(()) = write_all(err, line.as_bytes()) else {
         return FAULT;
     };
-    if let Ok(Some(sentence)) = sentence_of(rt, command) {
+    if let Ok(Some(sentence)) = sentence_of(rt, fault, command) {
         let _ = write_all(err, sentence.as_bytes());
     }
     FAULT

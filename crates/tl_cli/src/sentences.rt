@@ -13,6 +13,11 @@ const MARK: [u8; 3] = [0xef, 0xbb, 0xbf];
 
 const RETURN: u8 = b'\r';
 
+const DELETE: u8 = 0x7f;
+
+/// What stands for bytes that can't be shown.
+const NO_TEXT: &str = "bytes that are no text";
+
 /// What a field of a beat's line is spelled as.
 #[derive(Clone, Copy)]
 enum Spelling {
@@ -149,13 +154,17 @@ fn fields(chan: &[u8]) -> &'static [Field] {
     }
 }
 
-/// Bytes as they can be shown, without a carriage return at the end.
+/// Bytes as they can be shown, without a carriage return at the end; none with control characters.
 pub(crate) fn shown(bytes: &[u8]) -> &str {
     let length = match bytes.last() {
         Some(last) if *last == RETURN => bytes.len() - 1,
         _ => bytes.len(),
     };
-    str::from_utf8(&bytes[..length.min(MOST_SHOWN)]).unwrap_or("bytes that are no text")
+    let start = &bytes[..length.min(MOST_SHOWN)];
+    if start.iter().any(|byte| *byte < b' ' || *byte == DELETE) {
+        return NO_TEXT;
+    }
+    str::from_utf8(start).unwrap_or(NO_TEXT)
 }
 
 /// The first line of a text, or all of it where it has no newline.
@@ -228,11 +237,7 @@ fn common_sentence(text: &[u8], own: &[u8]) -> Option<&'static str> {
 }
 
 /// What is wrong with a line of a fragment.
-fn fragment_cause(
-    alloc: Global,
-    fault: FragmentFault,
-    own: &[u8],
-) -> Result<String, AllocError> {
+fn fragment_cause(alloc: Global, fault: FragmentFault, own: &[u8]) -> Result<String, AllocError> {
     let text = match fault {
         FragmentFault::BadHeader if own.starts_with(b"topo ".as_slice()) => {
             "this is a topology, which stands before the fragments"

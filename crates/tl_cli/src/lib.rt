@@ -9,6 +9,8 @@ mod format_entries;
 mod permission_entries;
 mod refusal_entries;
 mod run;
+mod sentences;
+mod showing;
 mod words;
 
 pub use fault::Fault;

@@ -4,7 +4,8 @@ ghost use Rattle.std.specs.Prelude.{◌≡◌, ◌<◌, ◌≤◌, ◌^◌};
 ghost use Rattle.tl_cli.specs.Status.{status_of};
 
 use crate::fault::Fault;
-use crate::files::{fragments_of, script_of, topology_of};
+use crate::files::{fault_of, fragments_of, script_of, topology_of};
+use crate::showing::{show_audit, show_once, show_script};
 use crate::words::{Command, not_utf8, read_words};
 use std::alloc::Global;
 use std::io;
@@ -48,13 +49,18 @@ fn once_of_files<R: Files + AllocGlobal, O: ByteOut>(
     rt: &R,
     topology: &str,
     fragments: &[&str],
+    show: bool,
     out: &mut O,
 ) -> Result<Outcome, Fault>
     requires { O.failure_count out.old < 2 ^ 63 }
 {
     let topo = topology_of(rt, topology)?;
     let fragments = fragments_of(rt, fragments)?;
-    let rows = run_once(rt.alloc(), &topo, &fragments, out)?;
+    let rows = if show {
+        show_once(rt.alloc(), &topo, &fragments, out)?
+    } else {
+        run_once(rt.alloc(), &topo, &fragments, out)?
+    };
     Ok(report_of(rows))
 }
 
@@ -63,13 +69,18 @@ fn run_of_files<R: Files + AllocGlobal, O: ByteOut>(
     rt: &R,
     topology: &str,
     script: &str,
+    show: bool,
     out: &mut O,
 ) -> Result<Outcome, Fault>
     requires { O.failure_count out.old < 2 ^ 63 }
 {
     let topo = topology_of(rt, topology)?;
     let script = script_of(rt, script)?;
-    let outcome = run_script(rt.alloc(), &topo, &script, out)?;
+    let outcome = if show {
+        show_script(rt.alloc(), &topo, &script, out)?
+    } else {
+        run_script(rt.alloc(), &topo, &script, out)?
+    };
     Ok(outcome)
 }
 
@@ -79,13 +90,18 @@ fn audit_of_files<R: Files + AllocGlobal, O: ByteOut>(
     topology: &str,
     script: &str,
     edit: u64,
+    show: bool,
     out: &mut O,
 ) -> Result<Outcome, Fault>
     requires { O.failure_count out.old < 2 ^ 63 }
 {
     let topo = topology_of(rt, topology)?;
     let script = script_of(rt, script)?;
-    let rows = audit_script(rt.alloc(), &topo, &script, edit, out)?;
+    let rows = if show {
+        show_audit(rt.alloc(), &topo, &script, edit, out)?
+    } else {
+        audit_script(rt.alloc(), &topo, &script, edit, out)?
+    };
     Ok(report_of(rows))
 }
 
@@ -112,6 +128,48 @@ fn tell<E: ByteOut>(alloc: Global, err: &mut E, fault: Fault) -> u8
 {
     if let Ok(line) = format!(in alloc; "{fault}\n") {
         let _ = write_all(err, line.as_bytes());
+    }
+    FAULT
+}
+
+/// A fault in a sentence, if it is that of a file of a command whose rows are shown.
+fn sentence_of<R: Files + AllocGlobal>(
+    rt: &R,
+    fault: Fault,
+    command: &Command<'_>,
+) -> Result<Option<String>, Fault> {
+    match command {
+        Command::Once {
+            topology,
+            fragments,
+            show,
+        } if *show => fault_of(rt, fault, *topology, fragments),
+        Command::Run { topology, show, .. } if *show => fault_of(rt, fault, *topology, &[]),
+        Command::Audit { topology, show, .. } if *show => fault_of(rt, fault, *topology, &[]),
+        _ => Ok(None),
+    }
+}
+
+/// Tells of a fault in one line, and where rows are shown of what is at fault in the files; that this can't be written changes
+/// nothing.
+fn tell_fault<R: Files + AllocGlobal, E: ByteOut>(
+    rt: &R,
+    err: &mut E,
+    fault: Fault,
+    command: &Command<'_>,
+) -> u8
+    requires { E.failure_count err.old < 2 ^ 63 }
+    ensures { result ≡ 2 }
+{
+    let alloc = rt.alloc();
+    let Ok(line) = format!(in alloc; "{fault}\n") else {
+        return FAULT;
+    };
+    let Ok(()) = write_all(err, line.as_bytes()) else {
+        return FAULT;
+    };
+    if let Ok(Some(sentence)) = sentence_of(rt, fault, command) {
+        let _ = write_all(err, sentence.as_bytes());
     }
     FAULT
 }
@@ -195,22 +253,28 @@ pub fn run_words<R: Files + AllocGlobal, I: ByteIn, O: ByteOut, E: ByteOut>(
         Ok(command) => command,
         Err(error) => return tell_words(rt.alloc(), out, err, &error),
     };
-    let outcome = match command {
+    let outcome = match &command {
         Command::Input => run_of_input(rt.alloc(), input, out),
         Command::Once {
             topology,
             fragments,
-        } => once_of_files(rt, topology, &fragments, out),
-        Command::Run { topology, script } => run_of_files(rt, topology, script, out),
+            show,
+        } => once_of_files(rt, *topology, fragments, *show, out),
+        Command::Run {
+            topology,
+            script,
+            show,
+        } => run_of_files(rt, *topology, *script, *show, out),
         Command::Audit {
             topology,
             script,
             edit,
-        } => audit_of_files(rt, topology, script, edit, out),
-        Command::Explain { entry } => return tell_text(rt.alloc(), out, err, entry),
+            show,
+        } => audit_of_files(rt, *topology, *script, *edit, *show, out),
+        Command::Explain { entry } => return tell_text(rt.alloc(), out, err, *entry),
     };
     match outcome {
         Ok(outcome) => status_of(outcome),
-        Err(fault) => tell(rt.alloc(), err, fault),
+        Err(fault) => tell_fault(rt, err, fault, &command),
     }
 }

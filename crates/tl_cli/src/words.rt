@@ -15,17 +15,20 @@ pub(crate) enum Command<'a> {
     Once {
         topology: &'a str,
         fragments: Vec<&'a str>,
+        show: bool,
     },
     /// The run of a script, from files.
     Run {
         topology: &'a str,
         script: &'a str,
+        show: bool,
     },
     /// What the first edits of a script leave, from files.
     Audit {
         topology: &'a str,
         script: &'a str,
         edit: u64,
+        show: bool,
     },
     /// The entry of a rule or of a refusal.
     Explain {
@@ -59,6 +62,13 @@ fn script<'a>(alloc: Global) -> Arg<'a> {
     )
 }
 
+fn show<'a>(alloc: Global) -> Arg<'a> {
+    Arg::new(alloc, "show")
+        .long("show")
+        .action(ArgAction::SetTrue)
+        .help("Puts behind each row its beat in words and the earlier beat that makes it so")
+}
+
 fn once<'a>(alloc: Global) -> Result<clap::Command<'a>, Error> {
     let fragments = word(
         alloc,
@@ -71,7 +81,8 @@ fn once<'a>(alloc: Global) -> Result<clap::Command<'a>, Error> {
         .about("Checks the fragments of a capture together and writes the report")
         .after_help(ONCE_EXAMPLE)
         .arg(topology(alloc))?
-        .arg(fragments)?;
+        .arg(fragments)?
+        .arg(show(alloc))?;
     Ok(once)
 }
 
@@ -88,7 +99,8 @@ fn run<'a>(alloc: Global) -> Result<clap::Command<'a>, Error> {
         .after_help(RUN_EXAMPLE)
         .arg(topology(alloc))?
         .arg(script(alloc))?
-        .arg(workers)?;
+        .arg(workers)?
+        .arg(show(alloc))?;
     Ok(run)
 }
 
@@ -104,7 +116,8 @@ fn audit<'a>(alloc: Global) -> Result<clap::Command<'a>, Error> {
         .after_help(AUDIT_EXAMPLE)
         .arg(topology(alloc))?
         .arg(script(alloc))?
-        .arg(edit)?;
+        .arg(edit)?
+        .arg(show(alloc))?;
     Ok(audit)
 }
 
@@ -167,6 +180,7 @@ fn once_asked<'a>(alloc: Global, found: &ArgMatches<'a>) -> Result<Command<'a>, 
     Ok(Command::Once {
         topology: found.get_str("TOPO").unwrap_or(""),
         fragments,
+        show: found.get_flag("show"),
     })
 }
 
@@ -186,6 +200,7 @@ fn run_asked<'a>(
     Ok(Command::Run {
         topology: found.get_str("TOPO").unwrap_or(""),
         script: found.get_str("SCRIPT").unwrap_or(""),
+        show: found.get_flag("show"),
     })
 }
 
@@ -195,6 +210,7 @@ fn audit_asked<'a>(found: &ArgMatches<'a>) -> Command<'a> {
         topology: found.get_str("TOPO").unwrap_or(""),
         script: found.get_str("SCRIPT").unwrap_or(""),
         edit: found.get_one("EDIT").unwrap_or(0),
+        show: found.get_flag("show"),
     }
 }
 

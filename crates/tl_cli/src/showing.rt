@@ -1,0 +1,163 @@
+//! Reports whose rows are shown.
+
+ghost use Rattle.std.specs.Prelude.{◌<◌, ◌^◌};
+ghost use Rattle.tl_script.specs.Text.{IsCommand};
+
+use crate::sentences::{first_line, shown};
+use std::alloc::{AllocError, Global};
+use std::sync::Arc;
+use tl_beats::Fragment;
+use tl_plain::scratch;
+use tl_report::{OnceFault, Report, all_added};
+use tl_run::{Asked, AuditFault, Outcome, Session, Stop, StopCause, asked_by, log_of};
+use tl_script::{Command, read_command};
+use tl_show::{shown_audit, shown_report};
+use tl_text::{ByteOut, Word, WriteFault, write_all, write_words};
+use tl_topology::Topo;
+
+/// The report of fragments, shown; answers the number of its rows.
+pub(crate) fn show_once<O: ByteOut>(
+    alloc: Global,
+    topo: &Topo,
+    fragments: &[Arc<Fragment>],
+    out: &mut O,
+) -> Result<u64, OnceFault>
+    requires { O.failure_count out.old < 2 ^ 63 }
+{
+    let log = all_added(alloc, topo, fragments)?;
+    let inputs = log.inputs();
+    let rows = scratch(alloc, inputs)?;
+    let report = Report::new(1, fragments.len() as u64, rows);
+    let text = shown_report(alloc, inputs.topo(), inputs.present(), &report)?;
+    write_all(out, text.as_bytes())?;
+    Ok(report.rows().len() as u64)
+}
+
+/// What checking everything anew finds behind so many accepted edits of a script, shown; answers the number of its rows.
+pub(crate) fn show_audit<O: ByteOut>(
+    alloc: Global,
+    topo: &Topo,
+    script: &[u8],
+    edit: u64,
+    out: &mut O,
+) -> Result<u64, AuditFault>
+    requires { O.failure_count out.old < 2 ^ 63 }
+{
+    let log = log_of(alloc, topo, script)?;
+    let inputs = log.inputs_at(alloc, edit)?;
+    let rows = scratch(alloc, &inputs)?;
+    let text = shown_audit(alloc, inputs.topo(), inputs.present(), edit, &rows)?;
+    write_all(out, text.as_bytes())?;
+    Ok(rows.len() as u64)
+}
+
+/// The lines of one command more; those of a report are shown.
+fn command_lines(
+    alloc: Global,
+    session: &mut Session,
+    command: &Command<'_>,
+) -> Result<String, AllocError>
+    requires { IsCommand command.now }
+{
+    let asked = asked_by(alloc, command)?;
+    let is_report = matches!(asked, Asked::Report);
+    let version = session.last().version();
+    let lines = session.lines_of(alloc, asked)?;
+    if !is_report || session.last().version() == version {
+        return Ok(lines);
+    }
+    let inputs = session.inputs();
+    shown_report(alloc, inputs.topo(), inputs.present(), session.last())
+}
+
+/// The first words of the line of a stop.
+fn stop_front(cause: StopCause) -> &'static [u8] {
+    match cause {
+        StopCause::Memory => b"stopped 20 at ".as_slice(),
+        StopCause::BadCommand => b"stopped 41 at ".as_slice(),
+        StopCause::Truncated => b"stopped 42 at ".as_slice(),
+    }
+}
+
+/// What is wrong where a script stops, in a sentence behind the line where it does.
+fn stop_sentence(alloc: Global, cause: StopCause, rest: &[u8]) -> Result<String, AllocError> {
+    let what = match cause {
+        StopCause::Memory => return Ok(String::new(alloc)),
+        StopCause::BadCommand => "this is no command: tlcheck explain 41 has the form of each",
+        StopCause::Truncated => "the script ends inside this command",
+    };
+    let own = shown(first_line(rest));
+    format!(in alloc; "  {own}\n  {what}\n")
+}
+
+/// Writes the line of a stop, without taking memory, and what is wrong there; answers what the run came to.
+fn stop_there<O: ByteOut>(
+    alloc: Global,
+    last_rows: u64,
+    stop: Stop,
+    rest: &[u8],
+    out: &mut O,
+) -> Result<Outcome, WriteFault>
+    requires { O.failure_count out.old < 2 ^ 63 }
+{
+    write_all(out, stop_front(stop.cause))?;
+    write_words(out, &[Word::Decimal(stop.command)])?;
+    if let Ok(sentence) = stop_sentence(alloc, stop.cause, rest) {
+        write_all(out, sentence.as_bytes())?;
+    }
+    Ok(Outcome {
+        last_rows,
+        stop: Some(stop),
+    })
+}
+
+/// The run of a script, whose reports are shown.
+pub(crate) fn show_script<O: ByteOut>(
+    alloc: Global,
+    topo: &Topo,
+    script: &[u8],
+    out: &mut O,
+) -> Result<Outcome, WriteFault>
+    requires { O.failure_count out.old < 2 ^ 63 }
+{
+    let Ok(mut session) = Session::new(alloc, topo) else {
+        let stop = Stop {
+            cause: StopCause::Memory,
+            command: 1,
+        };
+        return stop_there(alloc, 0, stop, script, out);
+    };
+    let mut rest = script;
+    for done in 0..u64::MAX {
+        let last_rows = session.last_rows();
+        let read = match read_command(rest) {
+            Ok(read) => read,
+            Err(fault) => {
+                let stop = Stop {
+                    cause: fault.into(),
+                    command: done + 1,
+                };
+                return stop_there(alloc, last_rows, stop, rest, out);
+            }
+        };
+        let Some((command, taken)) = read else {
+            return Ok(Outcome {
+                last_rows,
+                stop: None,
+            });
+        };
+        let Ok(lines) = command_lines(alloc, &mut session, &command) else {
+            let stop = Stop {
+                cause: StopCause::Memory,
+                command: done + 1,
+            };
+            return stop_there(alloc, last_rows, stop, rest, out);
+        };
+        write_all(out, lines.as_bytes())?;
+        rest = &rest[taken..];
+    }
+    Ok(Outcome {
+        last_rows: session.last_rows(),
+        stop: None,
+    })
+}

@@ -12,7 +12,8 @@ use Rattle.tl_definitions.specs.Passes.{IsPass}
 use Rattle.tl_windows.specs.Windows.{beats_in}
 use Rattle.tl_plain.specs.Captured.{areas_at}
 use Rattle.tl_span.specs.Jobs.{Checked, IsResult, manager_of, pass_of}
-use Rattle.tl_span.specs.States.{shown, IsOf}
+use Rattle.tl_span.specs.States.{shown, IsOf, SameSpan}
+use Rattle.tl_span.proofs.StateLaws.{same_shown}
 use Rattle.std.specs.Ordering.{is_le, is_eq}
 use Rattle.std.specs.BTreeMap.{is_at}
 use Rattle.std.specs.List.{Contains}
@@ -234,3 +235,14 @@ checks old now mid board key result same view of_window entry is =
       entry = ap (entry_for key) (sym same) ∙ entry;
       rest = ap (λ (b : Board SpanState (List Row)). record { log = old.log; board = b }) (is ∙ ap (λ (m : Board SpanState (List Row)). with_pieces m (change key (with_result result) m.pieces)) same);
     })
+
+-- A state that is the same may stand for the one that a window leaves.
+pub settled_span : (now : InputData) (owner window : ℕ) (entry exit settled : SpanState) (rows : List Row) → SameSpan exit settled → (IsOf (manager_in now owner) exit → IsOf (manager_in now owner) settled)
+    → IsSpanOf now owner window (record { entry = entry; exit = exit; rows = rows }) → IsSpanOf now owner window (record { entry = entry; exit = settled; rows = rows })
+settled_span now owner window entry exit settled rows same kept is = record {
+  entry = is.entry;
+  exit = is.exit;
+  begins = is.begins;
+  ends = (kept is.ends.0, sym (same_shown exit settled same) ∙ is.ends.1);
+  pass = is.pass;
+}

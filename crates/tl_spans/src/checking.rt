@@ -32,7 +32,8 @@ impl Spans {
         Ok(Some(key))
     }
 
-    /// The result of a window from what it is to start from: the nearest exit before it, or what no beats leave.
+    /// The result of a window from what it is to start from: the nearest exit before it, or what no beats leave. What it leaves is
+    /// settled, so that the states of windows share what is held.
     fn checked(&self, alloc: Global, key: PieceKey) -> Result<Stored<SpanState, Rows>, AllocError>
         requires { is_some (piece_at key self.now.board) ≡ true }
         ensures span { IfOk result (λ stored. IsSpanOf (standing self.now) key.owner key.window (pass_of stored)) }
@@ -52,7 +53,8 @@ impl Spans {
         let Ok(checked) = span_check(alloc, job) else {
             return Err(AllocError);
         };
-        let (exit, rows) = checked.into_parts();
+        let (mut exit, rows) = checked.into_parts();
+        exit.settle()?;
         Ok(Stored {
             entry,
             exit: Arc::new(alloc, exit)?,

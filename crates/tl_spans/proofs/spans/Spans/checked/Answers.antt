@@ -17,7 +17,7 @@ use Rattle.tl_span.specs.declared.state.SpanState.{SpanState}
 use Rattle.tl_span.proofs.StateLaws.{same_shown}
 use Rattle.tl_windows.specs.Windows.{beats_in}
 use Rattle.tl_spans.specs.Spans.{SpansData, standing, manager_in, IsSpanOf}
-use Rattle.tl_spans.proofs.CheckLemmas.{owner_there, owner_below, same_manager, entry_there, some_mapped, entry_shows, checked_span}
+use Rattle.tl_spans.proofs.CheckLemmas.{owner_there, owner_below, same_manager, entry_there, some_mapped, entry_shows, checked_span, settled_span}
 use Rattle.tl_spans.proofs.spans.Spans.checked.Goals as goal
 
 pub overflow_cast-manager : goal.overflow_cast-manager
@@ -90,8 +90,11 @@ returns-clause-span c =
     ∙ ap (λ ls. beats_in window (beats_of_all ls c.present.result.now)) (c.deref.ensures.value ∙ c.in_ok-links.ensures ∙ ap (λ (t : Topology). clients_of owner (declared_links t)) at_topo)
     ∙ ap (λ fs. beats_in window (manager_beats now.topo fs owner)) (c.present.ensures ∙ ap (λ (i : InputData). i.fragments) c.inputs-inputs.ensures.exact) in
     let span = checked_span now owner window entry shows.1.0 checked c.into_parts-exit.ensures.kept (ap manager_of c.in-Ok.ensures.job ∙ c.in_ok-job.ensures.manager ∙ same) begins beats in
-    let exit : checked.exit ≡ arc_value c.in_ok-new.field-0 = sym (c.in_ok-new.ensures.ok ∙ c.into_parts-exit.ensures.exact.0) in
+    let left : SpanState = c.into_parts-exit.result.0 in
+    let settled = settled_span now owner window entry left c.settle.new.self checked.rows c.settle.ensures.same (c.settle.ensures.kept (manager_in now owner))
+    (subst (λ x. IsSpanOf now owner window (record { entry = entry; exit = x; rows = checked.rows })) (sym c.into_parts-exit.ensures.exact.0) span) in
+    let exit : c.settle.new.self ≡ arc_value c.in_ok-new.field-0 = sym c.in_ok-new.ensures.ok in
     let rows : checked.rows ≡ c.new-3.result = sym (c.new-3.ensures ∙ c.into_parts-exit.ensures.exact.1) in
     subst (λ (s : SpansData). IsSpanOf (standing s) owner window (record { entry = entry; exit = arc_value c.in_ok-new.field-0; rows = c.new-3.result })) c.self.view_is
     (subst (λ rs. IsSpanOf now owner window (record { entry = entry; exit = arc_value c.in_ok-new.field-0; rows = rs })) rows
-    (subst (λ x. IsSpanOf now owner window (record { entry = entry; exit = x; rows = checked.rows })) exit span))
+    (subst (λ x. IsSpanOf now owner window (record { entry = entry; exit = x; rows = checked.rows })) exit settled))

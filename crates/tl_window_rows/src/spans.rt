@@ -31,13 +31,12 @@ fn adding(alloc: Global, text: &str) -> Result<Edit, Fail> {
 
 /// Checks what is wanted, ten windows at most, and tells how many that were.
 fn check(alloc: Global, spans: &mut Spans) -> Result<u32, Fail> {
-    let mut count = 0;
-    for _ in 0..10 {
-        if spans.check_first(alloc)?.is_some() {
-            count += 1;
+    for count in 0..10 {
+        if spans.check_first(alloc)?.is_none() {
+            return Ok(count);
         }
     }
-    Ok(count)
+    Ok(10)
 }
 
 /// The rows, where all is settled.

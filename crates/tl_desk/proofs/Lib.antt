@@ -1,0 +1,3 @@
+mod BoxLemmas
+mod AttachedLemmas
+mod ReportLemmas

@@ -1,0 +1,68 @@
+-- Reports behind one edit more, and one report more.
+use Rattle.std.proofs.Common.{◌≡◌, ℕ, zero, suc, ◌+◌, ◌-◌, ◌<◌, ◌≤◌, true, List, [], ◌∷◌, ◌++◌, Option, Some, None, Bor, length, take, get_or, nat_lt, refl, sym, ap, subst, ◌∙◌, arith}
+use Rattle.std.specs.Prelude.{slice_get, is_some}
+use Rattle.std.specs.Option.{IfSome}
+use Rattle.std.proofs.lemmas.Bool.Decides.{nat_tests}
+use Rattle.std.proofs.lemmas.Option.{slice_get-get_or}
+use Rattle.std.specs.List.{AllByRecursion}
+use Rattle.std.proofs.Math.Seq.{take-length}
+use Rattle.std.proofs.lemmas.List.{take-append-le, length-append}
+use Rattle.tl_definitions.specs.Report.{IsReport}
+use Rattle.tl_inputs.specs.Edits.{AnEdit}
+use Rattle.tl_inputs.specs.Log.{LogData, inputs_after}
+use Rattle.tl_plain.specs.Captured.{captures_after}
+use Rattle.tl_desk.specs.Core.{Core, ReportData, IsOf, IsSound, AreVersions, log_of, standing, most_versions}
+
+still_of : (log : LogData) (e : AnEdit) (report : ReportData) → IsOf log report → IsOf (record log { edits = log.edits ++ e ∷ [] }) report
+still_of log e report is =
+    let within : report.edit ≤ length log.edits = is.0 in
+    let more : length (log.edits ++ e ∷ []) ≡ length log.edits + 1 = length-append log.edits (e ∷ []) in (
+      omega (arith, within, more),
+      subst (λ edits. IsReport (captures_after (inputs_after log.topo edits)) report.rows) (sym (take-append-le report.edit log.edits (e ∷ []) within)) is.1,
+    )
+
+-- What a report says of its edits stays true when others come.
+pub reports_stay : (log new : LogData) (e : AnEdit) (reports : List ReportData) → new ≡ record log { edits = log.edits ++ e ∷ [] } → AllByRecursion (IsOf log) reports → AllByRecursion (IsOf new) reports
+reports_stay log new e reports is all = subst (λ l. AllByRecursion (IsOf l) reports) (sym is) (go reports all)
+  where
+    go : (rs : List ReportData) → AllByRecursion (IsOf log) rs → AllByRecursion (IsOf (record log { edits = log.edits ++ e ∷ [] })) rs
+    go [] a = tt
+    go (r ∷ rs) a = (still_of log e r a.0, go rs a.1)
+
+pub one_more : {X : Type 0} (P : X → Type 0) (xs : List X) (x : X) → AllByRecursion P xs → P x → AllByRecursion P (xs ++ x ∷ [])
+one_more P [] x a h = (h, tt)
+one_more P (y ∷ xs) x a h = (a.0, one_more P xs x a.1 h)
+
+pub next_version : (from : ℕ) (reports : List ReportData) (report : ReportData) → AreVersions from reports → report.version ≡ from + length reports → AreVersions from (reports ++ report ∷ [])
+next_version from [] report are is = (let at : report.version ≡ from + 0 = is in let same : report.version ≡ from = omega arith in same, tt)
+next_version from (r ∷ reports) report are is = (are.0, next_version (suc from) reports report are.1 (let at : report.version ≡ from + suc (length reports) = is in omega arith))
+
+-- The report at a place has the version behind it.
+pub version_at : (from : ℕ) (reports : List ReportData) (place : ℕ) (report : ReportData) → AreVersions from reports → slice_get reports place ≡ Some report → report.version ≡ from + place
+version_at from [] place report are found = cc
+version_at from (r ∷ reports) zero report are found = let same : r ≡ report = (let both : Some r ≡ Some report = found in cc) in let at : report.version ≡ from = ap (λ (x : ReportData). x.version) (sym same) ∙ are.0 in omega arith
+version_at from (r ∷ reports) (suc place) report are found = let later : report.version ≡ suc from + place = version_at (suc from) reports place report are.1 found in omega arith
+
+pub version_found : (result : Option (Bor ReportData)) (reports : List ReportData) (place version : ℕ) → AreVersions 1 reports → is_some result ≡ nat_lt place (length reports)
+    → IfSome result (λ x. x.now ≡ get_or reports place x.now) → 1 ≤ version → place ≡ version - 1 → IfSome result (λ x. x.now.version ≡ version)
+version_found None reports place version are there at low is = tt
+version_found (Some x) reports place version are there at low is =
+    let test : nat_lt place (length reports) ≡ true = sym there in
+    let below : place < length reports = grind (arith, nat_tests) in
+    let found : slice_get reports place ≡ Some x.now = slice_get-get_or reports place x.now below ∙ ap Some (sym at) in
+    let same : x.now.version ≡ 1 + place = version_at 1 reports place x.now are found in
+    omega (arith, same, low, is)
+
+-- A desk with one report more.
+pub published : (old : Core) (report : ReportData) → IsSound old → report.version ≡ length old.reports + 1 → report.edit ≡ length (log_of old).edits
+    → IsReport (captures_after (standing old)) report.rows → length old.reports < most_versions → IsSound (record old { reports = old.reports ++ report ∷ [] })
+published old report sound version edit rows few =
+    let whole : take report.edit (log_of old).edits ≡ (log_of old).edits = ap (λ n. take n (log_of old).edits) edit ∙ take-length (log_of old).edits in
+    let longer : length (old.reports ++ report ∷ []) ≡ length old.reports + 1 = length-append old.reports (report ∷ []) in
+    record {
+      attached = sound.attached;
+      reports = one_more (IsOf (log_of old)) old.reports report sound.reports
+          (omega (arith, edit), subst (λ edits. IsReport (captures_after (inputs_after (log_of old).topo edits)) report.rows) (sym whole) rows);
+      versions = next_version 1 old.reports report sound.versions (omega (arith, version));
+      few = omega (arith, few, longer);
+    }

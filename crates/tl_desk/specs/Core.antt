@@ -1,0 +1,72 @@
+-- A desk as plain data.
+use Rattle.std.specs.Prelude.{ℕ, zero, suc, ◌≡◌, ◌≤◌, ◌-◌, List, [], ◌∷◌, length, take, Option, None, slice_get}
+use Rattle.std.specs.Option.{option_map}
+use Rattle.std.specs.List.{AllByRecursion}
+use Rattle.tl_beats.specs.declared.Row.{Row}
+use Rattle.tl_definitions.specs.Report.{IsReport}
+use Rattle.tl_topology.specs.Topology.{Topology}
+use Rattle.tl_inputs.specs.Inputs.{InputData, watch_at}
+use Rattle.tl_inputs.specs.Log.{LogData, inputs_after}
+use Rattle.tl_monitor.specs.Held.{Held}
+use Rattle.tl_plain.specs.Captured.{captures_after}
+use Rattle.tl_spans.specs.Spans.{SpansData}
+use Rattle.tl_spans.specs.Spans as spans
+use Rattle.tl_desk.specs.Boxes.{BoxesData, held_at}
+
+-- A report: its version, the number of edits that it speaks of, and its rows.
+pub record ReportData : Type 0 where
+  pub version : ℕ
+  pub edit : ℕ
+  pub rows : List Row
+
+-- The log of edits with the windows, the monitors with what they told, and all reports, the oldest first.
+pub record Core : Type 0 where
+  pub spans : SpansData
+  pub boxes : BoxesData
+  pub reports : List ReportData
+
+-- the log, and what it leaves
+abbrev pub log_of : Core → LogData
+log_of core = core.spans.log
+
+abbrev pub standing : Core → InputData
+standing core = spans.standing core.spans
+
+-- The report speaks of so many edits of the log, and its rows are those that the definitions find in what these leave.
+abbrev pub IsOf : LogData → ReportData → Type 0
+IsOf log report = (report.edit ≤ length log.edits) × IsReport (captures_after (inputs_after log.topo (take report.edit log.edits))) report.rows
+
+-- The versions are these numbers, one after the other.
+abbrev pub AreVersions : ℕ → List ReportData → Type 0
+AreVersions from [] = Unit {0}
+AreVersions from (report ∷ reports) = (report.version ≡ from) × AreVersions (suc from) reports
+
+-- The monitors are those that are attached, each with its watch.
+abbrev pub AreAttached : InputData → List (ℕ × Held) → Type 0
+AreAttached now live = (number : ℕ) → option_map (λ (h : Held). h.watch) (held_at number live) ≡ watch_at number now.monitors
+
+-- As many reports as are published in all.
+abbrev pub most_versions : ℕ
+most_versions = 65536
+
+-- What every desk keeps: each of its reports is that of its edits.
+pub record IsSound (core : Core) : Type 0 where
+  pub attached : AreAttached (standing core) core.boxes.live
+  pub reports : AllByRecursion (IsOf (log_of core)) core.reports
+  pub versions : AreVersions 1 core.reports
+  pub few : length core.reports ≤ most_versions
+
+-- the last report, and the one of a version
+abbrev pub latest_of : List ReportData → Option ReportData
+latest_of reports = slice_get reports (length reports - 1)
+
+abbrev pub report_of : ℕ → List ReportData → Option ReportData
+report_of zero reports = None
+report_of (suc version) reports = slice_get reports version
+
+-- Nothing was edited, attached or published.
+pub record IsNew (topo : Topology) (core : Core) : Type 0 where
+  pub log : core.spans.log ≡ record { topo = topo; edits = [] }
+  pub pieces : core.spans.board.pieces ≡ []
+  pub boxes : core.boxes ≡ record { live = []; ended = [] }
+  pub reports : core.reports ≡ []

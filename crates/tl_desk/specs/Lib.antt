@@ -1,0 +1,4 @@
+pub mod Faults
+pub mod Boxes
+pub mod Core
+pub mod Steps

@@ -1,0 +1,63 @@
+-- What each call makes of a desk.
+use Rattle.std.specs.Prelude.{ℕ, ◌≡◌, ◌+◌, List, [], ◌∷◌, ◌++◌, length, None}
+use Rattle.std.specs.Ordering.{nat_cmp}
+use Rattle.std.specs.BTreeMap.{insert_entry}
+use Rattle.tl_beats.specs.declared.watch.Watch.{Watch}
+use Rattle.tl_definitions.specs.Report.{IsReport}
+use Rattle.tl_inputs.specs.Edits.{AnEdit, plain_change, add, replace, withdraw, clear_link, set_region, remove_region, attach, retune, detach}
+use Rattle.tl_inputs.specs.Inputs.{refusal}
+use Rattle.tl_monitor.specs.Held.{Held}
+use Rattle.tl_pieces.specs.Pieces.{IsSettled}
+use Rattle.tl_plain.specs.Captured.{captures_after}
+use Rattle.tl_span.specs.States.{SameSpan}
+use Rattle.tl_spans.specs.Edits.{EditsTo}
+use Rattle.tl_desk.specs.Boxes.{BoxesData, retuned_at, ended_at}
+use Rattle.tl_desk.specs.Core.{Core, ReportData, log_of, standing}
+use Rattle.tl_desk.specs.declared.edits.BoxChange.{BoxChange}
+use Rattle.tl_desk.specs.declared.edits.BoxChange.TheVariants as change
+use Rattle.tl_desk.specs.declared.call.Call.{Call}
+use Rattle.tl_desk.specs.declared.call.Call.TheVariants as call
+
+-- What a change of this number makes of the monitors: a retune reaches its monitor, and a detach ends its own.
+abbrev pub boxes_after : AnEdit → ℕ → BoxesData → BoxesData
+boxes_after (retune monitor limit) number boxes = record boxes { live = retuned_at monitor limit boxes.live }
+boxes_after (detach monitor) number boxes = ended_at monitor number boxes
+boxes_after (add f) number boxes = boxes
+boxes_after (replace f) number boxes = boxes
+boxes_after (withdraw name n) number boxes = boxes
+boxes_after (clear_link name) number boxes = boxes
+boxes_after (set_region name n area) number boxes = boxes
+boxes_after (remove_region name n) number boxes = boxes
+boxes_after (attach monitor w) number boxes = boxes
+
+-- the same, as it is found of a change
+abbrev pub boxes_changed : BoxChange → ℕ → BoxesData → BoxesData
+boxes_changed change.Nothing number boxes = boxes
+boxes_changed (change.Retune monitor limit) number boxes = record boxes { live = retuned_at monitor limit boxes.live }
+boxes_changed (change.Detach monitor) number boxes = ended_at monitor number boxes
+
+-- An edit that nothing refuses stands at the log's end and has the number of edits; of the windows those that it touches lose their results.
+pub record Edits (old : Core) (e : AnEdit) (number : ℕ) (new : Core) : Type 0 where
+  pub accepted : refusal (length (log_of old).edits) (standing old) e ≡ None
+  pub last : number ≡ length (log_of new).edits
+  pub spans : EditsTo old.spans e new.spans
+  pub reports : new.reports ≡ old.reports
+
+-- A monitor with this watch has come in under its number.
+abbrev pub Attaches : ℕ → Watch → BoxesData → BoxesData → Type 0
+Attaches monitor w old new = (held : Held) × (held.watch ≡ w) × (new ≡ record old { live = insert_entry nat_cmp old.live monitor held })
+
+-- The next report is published, where all windows are settled: it speaks of all edits.
+pub record Publishes (old : Core) (version : ℕ) (new : Core) : Type 0 where
+  pub next : version ≡ length old.reports + 1
+  pub settled : IsSettled SameSpan old.spans.board
+  pub report : ReportData
+  pub is : report.version ≡ version
+  pub edit : report.edit ≡ length (log_of old).edits
+  pub rows : IsReport (captures_after (standing old)) report.rows
+  pub rest : new ≡ record old { reports = old.reports ++ report ∷ [] }
+
+abbrev pub Step : Core → Call → Core → Type 0
+Step old (call.Edit change number) new = Edits old (plain_change change) number new × (new.boxes ≡ boxes_after (plain_change change) number old.boxes)
+Step old (call.Attach monitor w number) new = Edits old (attach monitor w) number new × Attaches monitor w old.boxes new.boxes
+Step old (call.Publish version) new = Publishes old version new

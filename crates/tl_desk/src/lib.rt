@@ -1,0 +1,15 @@
+//! The desk: a log of edits with the windows of managers and monitors, the monitors themselves, and all reports.
+#![tactic(auto)]
+
+mod boxes;
+mod call;
+mod desk;
+mod edits;
+mod fault;
+mod publish;
+mod report;
+
+pub use call::Call;
+pub use desk::Desk;
+pub use fault::PublishFault;
+pub use report::Report;

@@ -1,0 +1,52 @@
+//! Reports are published.
+
+ghost use Rattle.std.specs.Prelude.{◌≡◌, ◌≤◌, IfOk, OnErr, length};
+ghost use Rattle.std.specs.Result.{IsErrOf};
+ghost use Rattle.tl_definitions.specs.Report.{IsReport};
+ghost use Rattle.tl_pieces.specs.Pieces.{IsSettled};
+ghost use Rattle.tl_plain.specs.Captured.{captures_after};
+ghost use Rattle.tl_span.specs.States.{SameSpan};
+ghost use Rattle.tl_desk.specs.Core.{standing, most_versions};
+ghost use Rattle.tl_desk.specs.Steps.{Step};
+ghost use Rattle.tl_desk.specs.declared.call.Call.TheVariants as call;
+
+use crate::desk::Desk;
+use crate::fault::PublishFault;
+use crate::report::Report;
+use std::alloc::{AllocError, Global};
+use tl_beats::Row;
+use tl_monitor::Monitor;
+
+/// As many reports as are published in all.
+const MOST_VERSIONS: usize = 65_536;
+
+impl<M: Monitor> Desk<M> {
+    /// Publishes the report of all edits and answers its version, from 1. NotReady where some window is not settled; VersionFull
+    /// where 65,536 reports were published; Memory where neither stands and memory is refused. Then nothing has changed.
+    pub fn publish(&mut self, alloc: Global) -> Result<u64, PublishFault>
+        ensures step { IfOk result (λ version. Step self.old (call.Publish version) self.new) }
+        ensures ready { IsErrOf result PublishFault.NotReady → IsSettled SameSpan self.old.spans.board → ⊥ }
+        ensures full { IsErrOf result PublishFault.VersionFull → length self.old.reports ≡ most_versions }
+        ensures err { OnErr result (self.new ≡ self.old) }
+    {
+        if !self.settled() {
+            return Err(PublishFault::NotReady);
+        }
+        if self.reports.len() >= MOST_VERSIONS {
+            return Err(PublishFault::VersionFull);
+        }
+        let version = self.reports.len() as u64 + 1;
+        let rows = self.found(alloc)?;
+        let report = Report::new(alloc, version, self.log().len(), rows)?;
+        self.reports.push(report)?;
+        Ok(version)
+    }
+
+    /// The rows of all windows, in the order of reports.
+    fn found(&self, alloc: Global) -> Result<Vec<Row>, AllocError>
+        requires { IsSettled SameSpan self.now.spans.board }
+        ensures { IfOk result (λ rows. IsReport (captures_after (standing self.now)) rows.items) }
+    {
+        self.spans.rows(alloc)
+    }
+}

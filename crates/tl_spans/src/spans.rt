@@ -79,6 +79,14 @@ impl Spans {
         &self.log
     }
 
+    /// The log alone.
+    pub fn into_log(self) -> Log
+        ensures { result ≡ self.log }
+    {
+        let Spans { log, pieces: _ } = self;
+        log
+    }
+
     /// Whether every window has a result, and each begins with what the one before it ended with. It walks nothing.
     pub fn settled(&self) -> bool
         ensures { Decides result (IsSettled SameSpan self.now.board) }

@@ -10,3 +10,4 @@ mod windows;
 
 pub use rows::Rows;
 pub use spans::Spans;
+pub use windows::{grow, keys_of, prune, touch_each};

@@ -1,6 +1,6 @@
 -- One key after the other.
 use Rattle.std.proofs.Common.{◌≡◌, ℕ, ◌⊎◌, inl, inr, true, false, cond, Bool, List, [], ◌∷◌, ◌++◌, Option, Some, None, refl, sym, ap, subst, ◌∙◌, Equal}
-use Rattle.std.specs.Prelude.{is_some, map, ◌↔◌}
+use Rattle.std.specs.Prelude.{is_some, map}
 use Rattle.std.specs.Option.{option_map}
 use Rattle.std.specs.Ordering.{is_eq}
 use Rattle.std.specs.BTreeMap.{insert_entry, is_at}

@@ -101,34 +101,19 @@ impl Spans {
         let _ = self.log.inputs().present().is_empty();
         let _ = self.pieces.len();
         if grow(&mut self.pieces, keys).is_err() {
-            prune(
-                &mut self.pieces,
-                self.log.inputs().present(),
-                &links,
-                keys,
-            );
+            prune(&mut self.pieces, self.log.inputs().present(), &links, keys);
             let _ = self.pieces.len();
             return Err(EditFault::Memory);
         }
         match self.log.push(edit) {
             Ok(number) => {
                 let _ = self.log.inputs().present().is_empty();
-                prune(
-                    &mut self.pieces,
-                    self.log.inputs().present(),
-                    &links,
-                    keys,
-                );
+                prune(&mut self.pieces, self.log.inputs().present(), &links, keys);
                 touch_each(&mut self.pieces, keys);
                 Ok(number)
             }
             Err(fault) => {
-                prune(
-                    &mut self.pieces,
-                    self.log.inputs().present(),
-                    &links,
-                    keys,
-                );
+                prune(&mut self.pieces, self.log.inputs().present(), &links, keys);
                 let _ = self.pieces.len();
                 Err(fault)
             }

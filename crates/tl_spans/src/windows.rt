@@ -14,11 +14,7 @@ use tl_same::Same;
 use tl_windows::Present;
 
 /// The keys with one of these owners and one of these windows. AllocError where memory is refused.
-pub fn keys_of(
-    alloc: Global,
-    owners: &[u32],
-    windows: &[u64],
-) -> Result<Vec<PieceKey>, AllocError>
+pub fn keys_of(alloc: Global, owners: &[u32], windows: &[u64]) -> Result<Vec<PieceKey>, AllocError>
     ensures { IfOk result (λ keys. AreKeysOf owners.now windows.now keys.items) }
 {
     let mut keys = Vec::new(alloc);

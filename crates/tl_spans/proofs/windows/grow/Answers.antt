@@ -1,10 +1,10 @@
-use Rattle.std.proofs.Common.{◌≡◌, ◌+◌, ℕ, suc, List, [], ◌∷◌, drop, get_or, true, sym, ap, subst, ◌∙◌, arith}
+use Rattle.std.proofs.Common.{◌≡◌, ◌+◌, ℕ, suc, List, [], ◌∷◌, drop, get_or, sym, ap, subst, ◌∙◌, arith}
 use Rattle.std.specs.Prelude.{is_some}
 use Rattle.std.proofs.Math.ListN.{drop_of_length-le}
 use Rattle.std.proofs.Math.Seq.{drop-cons}
 use Rattle.std.proofs.lemmas.List.Elements.{Contains-get_or}
 use Rattle.tl_pieces.specs.declared.key.PieceKey.{PieceKey}
-use Rattle.tl_pieces.specs.Pieces.{Board, opening_of}
+use Rattle.tl_pieces.specs.Pieces.{opening_of}
 use Rattle.tl_spans.specs.Windows.{key_of, IsGrown}
 use Rattle.tl_spans.proofs.WindowLemmas.{grown_one, still_all, put_there, one_there, all_there, none_of, AreThereOr}
 use Rattle.tl_spans.proofs.windows.grow.Goals.{then-not-contains+in_ok-insert, else-not-contains}

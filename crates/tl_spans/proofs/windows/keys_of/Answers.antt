@@ -1,7 +1,6 @@
-use Rattle.std.proofs.Common.{◌≡◌, ◌++◌, List, [], drop, sym, ap, subst, ◌∙◌, arith}
+use Rattle.std.proofs.Common.{◌≡◌, ◌++◌, [], drop, sym, ap, subst, ◌∙◌, arith}
 use Rattle.std.proofs.Math.ListN.{drop_of_length-le}
 use Rattle.std.proofs.lemmas.List.{append-nil}
-use Rattle.tl_pieces.specs.declared.key.PieceKey.{PieceKey}
 use Rattle.tl_spans.specs.Windows.{AreKeysOf}
 use Rattle.tl_spans.proofs.WindowLemmas.{keys_with, are_keys}
 use Rattle.tl_spans.proofs.windows.keys_of.Goals as goal

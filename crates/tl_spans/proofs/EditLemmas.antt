@@ -195,6 +195,20 @@ contains_or_not (y ∷ xs) x = elim (y == x) as (λ b. (y == x) ≡ b → Contai
   ]
 ] refl
 
+-- Of some keys each is one, or isn't.
+pub key_or_not : (keys : List PieceKey) (key : PieceKey) → Contains keys key ⊎ (Contains keys key → ⊥)
+key_or_not [] key = inr (contains_none key)
+key_or_not (k ∷ keys) key = elim (is_at (key_cmp k) key) as (λ b. is_at (key_cmp k) key ≡ b → Contains (k ∷ keys) key ⊎ (Contains (k ∷ keys) key → ⊥)) [
+  | true ↦ λ t. inl (subst (Contains (k ∷ keys)) (key_exact k key t) (contains_here k keys))
+  | false ↦ λ t. elim (key_or_not keys key) [
+    | inl there ↦ inl (contains_there k keys key there)
+    | inr not ↦ inr (λ h. elim (contains_cases k keys key h) [
+      | inl same ↦ (let here : is_at (key_cmp k) key ≡ true = subst (λ q. is_at (key_cmp k) q ≡ true) same (ap is_eq (key_self k)) in let never : true ≡ false = sym here ∙ t in cc)
+      | inr there ↦ not there
+    ])
+  ]
+] refl
+
 -- Of a manager's windows each key is one, or isn't.
 pub own_or_not : (owner : ℕ) (windows : List ℕ) (key : PieceKey) → ((key.owner ≡ owner) × Contains windows key.window) ⊎ (((key.owner ≡ owner) × Contains windows key.window) → ⊥)
 own_or_not owner windows key = elim (all_touched owner key) [
@@ -312,21 +326,11 @@ pub read_beats : (topo read : Topology) (manager owner : ℕ) (links : List ℕ)
 read_beats topo read manager owner links fs gs at own is same =
     ap (λ ls. beats_of_all ls fs) (is ∙ ap (λ (t : Topology). clients_of manager (declared_links t)) at ∙ ap (λ n. clients_of n (declared_links topo)) (sym own)) ∙ ap (λ xs. beats_of_all (clients_of owner (declared_links topo)) xs) same
 
--- Keys of which each is one of these or isn't.
-abbrev pub AreDecided : List PieceKey → Type 0
-AreDecided keys = (key : PieceKey) → Contains keys key ⊎ (Contains keys key → ⊥)
-
-pub decided : (owner : ℕ) (windows : List ℕ) (keys : List PieceKey) → AreKeysOf (owner ∷ []) windows keys → AreDecided keys
-decided owner windows keys are key = elim (own_or_not owner windows key) [
-  | inl own ↦ inl ((of_one_owner owner windows keys are key).1 own)
-  | inr not ↦ inr (λ has. not ((of_one_owner owner windows keys are key).0 has))
-]
-
 -- Where an edit isn't accepted, the pieces that have come for it go again.
-pub restored : {S R : Type 0} (keys : List PieceKey) (P : ℕ → Type 0) (old grown pruned : Board S R) → IsGrown keys old grown → IsPruned P keys grown pruned → AreDecided keys
+pub restored : {S R : Type 0} (keys : List PieceKey) (P : ℕ → Type 0) (old grown pruned : Board S R) → IsGrown keys old grown → IsPruned P keys grown pruned
     → ((key : PieceKey) → Contains keys key → (is_some (piece_at key old) ≡ true) ↔ P key.window) → Rises old.pieces → Rises pruned.pieces → pruned ≡ old
-restored keys P old grown pruned grows prunes decide was a b =
-    same_boards pruned old b a (pruned_openings keys P old grown pruned grows prunes) (λ key. as_it_was keys P old grown pruned grows prunes was key (decide key))
+restored keys P old grown pruned grows prunes was a b =
+    same_boards pruned old b a (pruned_openings keys P old grown pruned grows prunes) (λ key. as_it_was keys P old grown pruned grows prunes was key (key_or_not keys key))
 
 -- The windows of a manager that have a piece are those in which it has a beat.
 pub had_beats : (old : SpansData) → IsSound old → (owner : ℕ) → is_some (opening_of owner old.board.openings) ≡ true → (ps : List Placed) → ps ≡ manager_beats (standing old).topo (standing old).fragments owner
@@ -353,7 +357,7 @@ pub gone_again : (old : SpansData) → IsSound old → (standing old).topo ≡ o
 gone_again old sound topo manager owner own below read links fs at is same windows keys are grown pruned grows prunes a b =
     let there = manager_there old sound topo manager owner own below in
     let of_one = of_one_owner owner windows keys are in
-    restored keys (HasBeat (beats_of_all links fs)) old.board grown pruned grows prunes (decided owner windows keys are)
+    restored keys (HasBeat (beats_of_all links fs)) old.board grown pruned grows prunes
     (λ key has. had_beats old sound owner there (beats_of_all links fs) (read_beats (standing old).topo read manager owner links fs (standing old).fragments at own is same) key ((of_one key).0 has).0) a b
 
 -- Where it is, they come and stay, and none of the manager's windows that it touches keeps its result.

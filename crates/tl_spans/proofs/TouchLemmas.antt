@@ -104,7 +104,7 @@ untouched_beats now manager window e is are none =
     ∙ untouched_links now window (clients_of manager (declared_links now.topo)) e is are (λ link client touches. none (link_touches now e manager window link client touches))
 
 -- Where the beats of a window are the same, it has one as before.
-has_beat_by : (window : ℕ) (ps qs : List Placed) → beats_in window ps ≡ beats_in window qs → HasBeat ps window → HasBeat qs window
+pub has_beat_by : (window : ℕ) (ps qs : List Placed) → beats_in window ps ≡ beats_in window qs → HasBeat ps window → HasBeat qs window
 has_beat_by window ps qs same h =
     let test : (window_of h.0.beat.cycle == window) ≡ true = (let at : window_of h.0.beat.cycle ≡ window = h.2 in grind (arith, nat_tests)) in
     (h.0, (kept_from (lies_in window) qs h.0 (subst (λ xs. Contains xs h.0) same (contains_kept (lies_in window) ps h.0 h.1 test))).0, h.2)

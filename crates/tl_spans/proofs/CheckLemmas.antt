@@ -8,7 +8,7 @@ use Rattle.tl_topology.specs.Topology.{Topology}
 use Rattle.tl_definitions.specs.Managers.{manager_at}
 use Rattle.std.proofs.lemmas.Bool.Decides.{nat_tests}
 use Rattle.tl_definitions.specs.Captures.{manager_beats}
-use Rattle.tl_definitions.specs.Passes.{IsPass}
+use Rattle.tl_definitions.specs.Passes.{Judge, IsPass}
 use Rattle.tl_windows.specs.Windows.{beats_in}
 use Rattle.tl_plain.specs.Captured.{areas_at}
 use Rattle.tl_span.specs.Jobs.{Checked, IsResult, manager_of, pass_of}
@@ -17,6 +17,7 @@ use Rattle.tl_span.proofs.StateLaws.{same_shown}
 use Rattle.std.specs.Ordering.{is_le, is_eq}
 use Rattle.std.specs.BTreeMap.{is_at}
 use Rattle.std.specs.List.{Contains}
+use Rattle.tl_beats.specs.declared.Placed.{Placed}
 use Rattle.tl_beats.specs.declared.Row.{Row}
 use Rattle.tl_definitions.specs.Judging.{Snapshot, judging}
 use Rattle.tl_definitions.proofs.Lists.{contains_here, contains_there, contains_cases, all_of}
@@ -27,6 +28,7 @@ use Rattle.tl_pieces.specs.Pieces.{Piece, Board, Pass, IsBoard, opening_of, piec
 use Rattle.tl_pieces.proofs.OrderLemmas.{key_exact, key_self}
 use Rattle.tl_span.specs.declared.state.SpanState.{SpanState}
 use Rattle.tl_spans.specs.Spans.{SpansData, standing, manager_in, ShowsOf, opening_in, IsSpanOf, AreSpans, IsSound, ChecksWindow}
+use Rattle.tl_spans.specs.Covers.{Covers}
 use Rattle.tl_spans.proofs.CoverLemmas.{found_at, at_found, some_of}
 
 -- ---- a change under a key
@@ -99,19 +101,24 @@ pub some_mapped : {A B : Type 0} (f : A → B) (x : Option A) (y : Option B) →
 some_mapped f None y is h = cc
 some_mapped f (Some x) y is h = refl
 
-module _ (now : InputData) (board : Board SpanState (List Row)) (covers : AreSpans now board) (is : IsBoard board) (key : PieceKey) where
-  -- What a check is to start from is a state of the manager.
-  pub entry_shows : (state : SpanState) → entry_for key board ≡ Some state → (x : Snapshot) × ShowsOf now key.owner state x
-  entry_shows state h = go (last_exit key.owner (before key board.pieces)) refl h
+-- What a check is to start from shows something of its owner.
+module _ {S X : Type 0} (Shows : ℕ → S → X → Type 0) (judge : ℕ → Judge X) (beats : ℕ → List Placed) (opening : ℕ → X) (board : Board S (List Row)) (covers : Covers Shows judge beats opening board) (is : IsBoard board) (key : PieceKey) where
+  pub shown_entry : (state : S) → entry_for key board ≡ Some state → (x : X) × Shows key.owner state x
+  shown_entry state h = go (last_exit key.owner (before key board.pieces)) refl h
     where
-      go : (found : Option SpanState) → last_exit key.owner (before key board.pieces) ≡ found → option_or found (opening_of key.owner board.openings) ≡ Some state → (x : Snapshot) × ShowsOf now key.owner state x
-      go None at g = (opening_in now key.owner, covers.openings key.owner state g)
+      go : (found : Option S) → last_exit key.owner (before key board.pieces) ≡ found → option_or found (opening_of key.owner board.openings) ≡ Some state → (x : X) × Shows key.owner state x
+      go None at g = (opening key.owner, covers.openings key.owner state g)
       go (Some s) at g =
           let last = last_from key.owner (before key board.pieces) s at in
           let member = before_from key board.pieces last.0 last.2 in
-          let span = covers.results last.0.0 last.1 (ap result_of (found_at board is last.0 member) ∙ last.4) in
+          let own = covers.results last.0.0 last.1 (ap result_of (found_at board is last.0 member) ∙ last.4) in
           let same : s ≡ state = cc in
-          (span.exit, subst (λ t. ShowsOf now key.owner t span.exit) (last.5 ∙ same) (subst (λ n. ShowsOf now n last.1.exit span.exit) last.3 span.ends))
+          (own.exit, subst (λ t. Shows key.owner t own.exit) (last.5 ∙ same) (subst (λ n. Shows n last.1.exit own.exit) last.3 own.ends))
+
+module _ (now : InputData) (board : Board SpanState (List Row)) (covers : AreSpans now board) (is : IsBoard board) (key : PieceKey) where
+  -- What a check is to start from is a state of the manager.
+  pub entry_shows : (state : SpanState) → entry_for key board ≡ Some state → (x : Snapshot) × ShowsOf now key.owner state x
+  entry_shows = shown_entry (ShowsOf now) (λ m. judging (manager_in now m)) (λ m. manager_beats now.topo now.fragments m) (opening_in now) board covers is key
 
 -- ---- the board with one more result
 

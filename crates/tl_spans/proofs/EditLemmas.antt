@@ -38,7 +38,7 @@ use Rattle.tl_spans.specs.Spans.{SpansData, standing, manager_in, IsSpanOf, AreS
 use Rattle.tl_spans.specs.Touch.{Touches}
 use Rattle.tl_spans.specs.Touched.{names}
 use Rattle.tl_spans.specs.declared.touched.Touched.TheVariants as touched
-use Rattle.tl_spans.specs.Windows.{key_of, IsAmong, IsGrown, HasAll, IsPruned, AreBlank, blank}
+use Rattle.tl_spans.specs.Windows.{AreKeysOf, IsGrown, HasAll, IsPruned, AreBlank, blank}
 use Rattle.tl_spans.proofs.WindowLemmas.{none_of}
 use Rattle.tl_spans.proofs.TouchLemmas.{untouched_beats, untouched_window, untouched_regions, regions_are_touched, same_topology}
 
@@ -195,58 +195,84 @@ contains_or_not (y ∷ xs) x = elim (y == x) as (λ b. (y == x) ≡ b → Contai
   ]
 ] refl
 
-pub among_or_not : (owner : ℕ) (windows : List ℕ) (key : PieceKey) → IsAmong owner windows key ⊎ (IsAmong owner windows key → ⊥)
-among_or_not owner windows key = elim (all_touched owner key) [
-  | inl same ↦ elim (contains_or_not windows key.window) [ inl has ↦ inl (same, has) | inr not ↦ inr (λ among. not among.1) ]
-  | inr other ↦ inr (λ among. other among.0)
+-- Of some keys each is one, or isn't.
+pub key_or_not : (keys : List PieceKey) (key : PieceKey) → Contains keys key ⊎ (Contains keys key → ⊥)
+key_or_not [] key = inr (contains_none key)
+key_or_not (k ∷ keys) key = elim (is_at (key_cmp k) key) as (λ b. is_at (key_cmp k) key ≡ b → Contains (k ∷ keys) key ⊎ (Contains (k ∷ keys) key → ⊥)) [
+  | true ↦ λ t. inl (subst (Contains (k ∷ keys)) (key_exact k key t) (contains_here k keys))
+  | false ↦ λ t. elim (key_or_not keys key) [
+    | inl there ↦ inl (contains_there k keys key there)
+    | inr not ↦ inr (λ h. elim (contains_cases k keys key h) [
+      | inl same ↦ (let here : is_at (key_cmp k) key ≡ true = subst (λ q. is_at (key_cmp k) q ≡ true) same (ap is_eq (key_self k)) in let never : true ≡ false = sym here ∙ t in cc)
+      | inr there ↦ not there
+    ])
+  ]
+] refl
+
+-- Of a manager's windows each key is one, or isn't.
+pub own_or_not : (owner : ℕ) (windows : List ℕ) (key : PieceKey) → ((key.owner ≡ owner) × Contains windows key.window) ⊎ (((key.owner ≡ owner) × Contains windows key.window) → ⊥)
+own_or_not owner windows key = elim (all_touched owner key) [
+  | inl same ↦ elim (contains_or_not windows key.window) [ inl has ↦ inl (same, has) | inr not ↦ inr (λ own. not own.1) ]
+  | inr other ↦ inr (λ own. other own.0)
 ]
 
-module _ {S R : Type 0} (owner : ℕ) (windows : List ℕ) (P : ℕ → Type 0) (old grown pruned : Board S R) (grows : IsGrown owner windows old grown) (prunes : IsPruned P owner windows grown pruned) where
-  stays_grown : (key : PieceKey) → (IsAmong owner windows key → ⊥) → piece_at key grown ≡ piece_at key old
+-- The keys of one owner.
+pub of_one_owner : (owner : ℕ) (windows : List ℕ) (keys : List PieceKey) → AreKeysOf (owner ∷ []) windows keys → (key : PieceKey) → Contains keys key ↔ ((key.owner ≡ owner) × Contains windows key.window)
+of_one_owner owner windows keys are key = (
+  (λ h. let known = (are key).0 h in elim (contains_cases owner [] key.owner known.0) [
+    | inl same ↦ (sym same, known.1)
+    | inr none ↦ absurd (contains_none key.owner none)
+  ]),
+  (λ own. (are key).1 (subst (Contains (owner ∷ [])) (sym own.0) (contains_here owner []), own.1)),
+)
+
+module _ {S R : Type 0} (keys : List PieceKey) (P : ℕ → Type 0) (old grown pruned : Board S R) (grows : IsGrown keys old grown) (prunes : IsPruned P keys grown pruned) where
+  stays_grown : (key : PieceKey) → (Contains keys key → ⊥) → piece_at key grown ≡ piece_at key old
   stays_grown key not = elim (grows.pieces key) [ inl same ↦ same | inr came ↦ absurd (not came.0) ]
 
-  pub stays_pruned : (key : PieceKey) → (IsAmong owner windows key → ⊥) → piece_at key pruned ≡ piece_at key old
+  pub stays_pruned : (key : PieceKey) → (Contains keys key → ⊥) → piece_at key pruned ≡ piece_at key old
   stays_pruned key not = prunes.stays key (λ among. absurd (not among)) ∙ stays_grown key not
 
   pub pruned_openings : pruned.openings ≡ old.openings
   pruned_openings = prunes.openings ∙ grows.openings
 
-  -- Where P is true of exactly the windows of the owner that had a piece, all is as it was.
-  pub as_it_was : ((key : PieceKey) → key.owner ≡ owner → (is_some (piece_at key old) ≡ true) ↔ P key.window) → (key : PieceKey) → piece_at key pruned ≡ piece_at key old
-  as_it_was was key = elim (among_or_not owner windows key) [
-    | inl among ↦ elim (is_some (piece_at key old)) as (λ b. is_some (piece_at key old) ≡ b → piece_at key pruned ≡ piece_at key old) [
-      | true ↦ λ t. prunes.stays key (λ _. (was key among.0).0 t) ∙ elim (grows.pieces key) [
-        | inl same ↦ same
-        | inr came ↦ absurd (let never : false ≡ true = sym (ap is_some came.1) ∙ t in cc)
-      ]
-      | false ↦ λ t. elim (is_some (piece_at key pruned)) as (λ b. is_some (piece_at key pruned) ≡ b → piece_at key pruned ≡ piece_at key old) [
-        | true ↦ λ u. absurd (let never : true ≡ false = sym ((was key among.0).1 (prunes.left key among u)) ∙ t in cc)
-        | false ↦ λ u. none_of (piece_at key pruned) u ∙ sym (none_of (piece_at key old) t)
-      ] refl
+  -- What has come for a key goes again, where P isn't true of it; of a key that had a piece it is true.
+  back : (key : PieceKey) → (is_some (piece_at key old) ≡ true → P key.window) → (P key.window → is_some (piece_at key old) ≡ true) → (is_some (piece_at key pruned) ≡ true → P key.window)
+      → piece_at key pruned ≡ piece_at key old
+  back key has was left = elim (is_some (piece_at key old)) as (λ b. is_some (piece_at key old) ≡ b → piece_at key pruned ≡ piece_at key old) [
+    | true ↦ λ t. prunes.stays key (λ _. has t) ∙ elim (grows.pieces key) [
+      | inl same ↦ same
+      | inr came ↦ absurd (let never : false ≡ true = sym (ap is_some came.1) ∙ t in cc)
+    ]
+    | false ↦ λ t. elim (is_some (piece_at key pruned)) as (λ b. is_some (piece_at key pruned) ≡ b → piece_at key pruned ≡ piece_at key old) [
+      | true ↦ λ u. absurd (let never : true ≡ false = sym (was (left u)) ∙ t in cc)
+      | false ↦ λ u. none_of (piece_at key pruned) u ∙ sym (none_of (piece_at key old) t)
     ] refl
-    | inr not ↦ stays_pruned key not
-  ]
+  ] refl
 
-  module _ (new : Board S R) (blanks : AreBlank owner windows pruned new) where
+  -- Where P is true of exactly the windows of these keys that had a piece, all is as it was.
+  pub as_it_was : ((key : PieceKey) → Contains keys key → (is_some (piece_at key old) ≡ true) ↔ P key.window) → (key : PieceKey) → Contains keys key ⊎ (Contains keys key → ⊥) → piece_at key pruned ≡ piece_at key old
+  as_it_was was key (inl among) = back key (was key among).0 (was key among).1 (prunes.left key among)
+  as_it_was was key (inr not) = stays_pruned key not
+
+  module _ (new : Board S R) (blanks : AreBlank keys pruned new) where
     pub windows_openings : new.openings ≡ old.openings
     windows_openings = blanks.openings ∙ pruned_openings
 
-    pub windows_stay : (key : PieceKey) → (IsAmong owner windows key → ⊥) → piece_at key new ≡ piece_at key old
+    pub windows_stay : (key : PieceKey) → (Contains keys key → ⊥) → piece_at key new ≡ piece_at key old
     windows_stay key not = blanks.stays key not ∙ stays_pruned key not
 
-    pub windows_result : (key : PieceKey) → IsAmong owner windows key → result_of (piece_at key new) ≡ None
+    pub windows_result : (key : PieceKey) → Contains keys key → result_of (piece_at key new) ≡ None
     windows_result key among = ap result_of (blanks.these key among) ∙ blank_result (piece_at key pruned)
 
-    pub windows_ticket : (key : PieceKey) → IsAmong owner windows key → live_of (piece_at key new) ≡ None
+    pub windows_ticket : (key : PieceKey) → Contains keys key → live_of (piece_at key new) ≡ None
     windows_ticket key among = ap live_of (blanks.these key among) ∙ blank_ticket (piece_at key pruned)
 
-    pub windows_there : HasAll owner windows grown → (key : PieceKey) → IsAmong owner windows key → (is_some (piece_at key new) ≡ true) ↔ P key.window
+    pub windows_there : HasAll keys grown → (key : PieceKey) → Contains keys key → (is_some (piece_at key new) ≡ true) ↔ P key.window
     windows_there all key among =
-        let same : is_some (piece_at key new) ≡ is_some (piece_at key pruned) = ap is_some (blanks.these key among) ∙ blank_there (piece_at key pruned) in
-        let at : key ≡ key_of owner key.window = ap (λ o. key_of o key.window) among.0 in
-        let here : is_some (piece_at key grown) ≡ true = subst (λ k. is_some (piece_at k grown) ≡ true) (sym at) (all key.window among.1) in (
+        let same : is_some (piece_at key new) ≡ is_some (piece_at key pruned) = ap is_some (blanks.these key among) ∙ blank_there (piece_at key pruned) in (
           (λ h. prunes.left key among (sym same ∙ h)),
-          (λ holds. same ∙ ap is_some (prunes.stays key (λ _. holds)) ∙ here),
+          (λ holds. same ∙ ap is_some (prunes.stays key (λ _. holds)) ∙ all key among),
         )
 
 -- ---- lists of entries that find the same are the same
@@ -301,15 +327,19 @@ read_beats topo read manager owner links fs gs at own is same =
     ap (λ ls. beats_of_all ls fs) (is ∙ ap (λ (t : Topology). clients_of manager (declared_links t)) at ∙ ap (λ n. clients_of n (declared_links topo)) (sym own)) ∙ ap (λ xs. beats_of_all (clients_of owner (declared_links topo)) xs) same
 
 -- Where an edit isn't accepted, the pieces that have come for it go again.
-pub restored : (old : SpansData) → IsSound old → (owner : ℕ) → is_some (opening_of owner old.board.openings) ≡ true → (ps : List Placed) → ps ≡ manager_beats (standing old).topo (standing old).fragments owner
-    → (windows : List ℕ) (grown pruned : Board SpanState (List Row)) → IsGrown owner windows old.board grown → IsPruned (HasBeat ps) owner windows grown pruned → Rises old.board.pieces → Rises pruned.pieces → pruned ≡ old.board
-restored old sound owner there ps is windows grown pruned grows prunes a b =
-    same_boards pruned old.board b a (pruned_openings owner windows (HasBeat ps) old.board grown pruned grows prunes)
-    (as_it_was owner windows (HasBeat ps) old.board grown pruned grows prunes (λ key same.
+pub restored : {S R : Type 0} (keys : List PieceKey) (P : ℕ → Type 0) (old grown pruned : Board S R) → IsGrown keys old grown → IsPruned P keys grown pruned
+    → ((key : PieceKey) → Contains keys key → (is_some (piece_at key old) ≡ true) ↔ P key.window) → Rises old.pieces → Rises pruned.pieces → pruned ≡ old
+restored keys P old grown pruned grows prunes was a b =
+    same_boards pruned old b a (pruned_openings keys P old grown pruned grows prunes) (λ key. as_it_was keys P old grown pruned grows prunes was key (key_or_not keys key))
+
+-- The windows of a manager that have a piece are those in which it has a beat.
+pub had_beats : (old : SpansData) → IsSound old → (owner : ℕ) → is_some (opening_of owner old.board.openings) ≡ true → (ps : List Placed) → ps ≡ manager_beats (standing old).topo (standing old).fragments owner
+    → (key : PieceKey) → key.owner ≡ owner → (is_some (piece_at key old.board) ≡ true) ↔ HasBeat ps key.window
+had_beats old sound owner there ps is key same =
     let own : is_some (opening_of key.owner old.board.openings) ≡ true = ap (λ o. is_some (opening_of o old.board.openings)) same ∙ there in
     let beats : ps ≡ manager_beats (standing old).topo (standing old).fragments key.owner = is ∙ ap (manager_beats (standing old).topo (standing old).fragments) (sym same) in
     let was = sound.covered.windows key own in
-    ((λ h. subst (λ qs. HasBeat qs key.window) (sym beats) (was.0 h)), (λ h. was.1 (subst (λ qs. HasBeat qs key.window) beats h)))))
+    ((λ h. subst (λ qs. HasBeat qs key.window) (sym beats) (was.0 h)), (λ h. was.1 (subst (λ qs. HasBeat qs key.window) beats h)))
 
 -- A manager has its opening state.
 pub manager_there : (old : SpansData) → IsSound old → (standing old).topo ≡ old.log.topo → (manager owner : ℕ) → owner ≡ manager → manager < length (standing old).topo.managers
@@ -318,6 +348,47 @@ manager_there old sound topo manager owner own below =
     let under : owner < length old.log.topo.managers = subst (λ (t : Topology). owner < length t.managers) topo (subst (λ n. n < length (standing old).topo.managers) (sym own) below) in
     let test : nat_lt owner (length old.log.topo.managers) ≡ true = grind (arith, nat_tests) in
     sound.managers.owners owner ∙ test
+
+-- Where an edit of some windows of a manager isn't accepted, the pieces that have come for it go again.
+pub gone_again : (old : SpansData) → IsSound old → (standing old).topo ≡ old.log.topo → (manager owner : ℕ) → owner ≡ manager → manager < length (standing old).topo.managers
+    → (read : Topology) (links : List ℕ) (fs : List Recorded) → read ≡ (standing old).topo → links ≡ clients_of manager (declared_links read) → fs ≡ (standing old).fragments
+    → (windows : List ℕ) (keys : List PieceKey) → AreKeysOf (owner ∷ []) windows keys → (grown pruned : Board SpanState (List Row)) → IsGrown keys old.board grown → IsPruned (HasBeat (beats_of_all links fs)) keys grown pruned
+    → Rises old.board.pieces → Rises pruned.pieces → pruned ≡ old.board
+gone_again old sound topo manager owner own below read links fs at is same windows keys are grown pruned grows prunes a b =
+    let there = manager_there old sound topo manager owner own below in
+    let of_one = of_one_owner owner windows keys are in
+    restored keys (HasBeat (beats_of_all links fs)) old.board grown pruned grows prunes
+    (λ key has. had_beats old sound owner there (beats_of_all links fs) (read_beats (standing old).topo read manager owner links fs (standing old).fragments at own is same) key ((of_one key).0 has).0) a b
+
+-- Where it is, they come and stay, and none of the manager's windows that it touches keeps its result.
+module _ (old : SpansData) (sound : IsSound old) (e : AnEdit) (topo : (standing old).topo ≡ old.log.topo) (before : IsPresent (standing old).fragments) (owner : ℕ) (windows : List ℕ) (keys : List PieceKey) (are : AreKeysOf (owner ∷ []) windows keys)
+    (is : (number window : ℕ) → Touches (standing old) e number window ↔ ((number ≡ owner) × Contains windows window)) (log : LogData) (one_more : log ≡ record old.log { edits = old.log.edits ++ e ∷ [] })
+    (ps : List Placed) (grown pruned new : Board SpanState (List Row)) (grows : IsGrown keys old.board grown) (prunes : IsPruned (HasBeat ps) keys grown pruned) (blanks : AreBlank keys pruned new) where
+  abbrev among : PieceKey → Type 0
+  among key = (key.owner ≡ owner) × Contains windows key.window
+
+  one : (key : PieceKey) → Contains keys key ↔ among key
+  one = of_one_owner owner windows keys are
+
+  stay : (key : PieceKey) → (among key → ⊥) → piece_at key new ≡ piece_at key old.board
+  stay key not = windows_stay keys (HasBeat ps) old.board grown pruned grows prunes new blanks key (λ has. not ((one key).0 has))
+
+  openings : new.openings ≡ old.board.openings
+  openings = windows_openings keys (HasBeat ps) old.board grown pruned grows prunes new blanks
+
+  result : (key : PieceKey) → among key → result_of (piece_at key new) ≡ None
+  result key own = windows_result keys (HasBeat ps) old.board grown pruned grows prunes new blanks key ((one key).1 own)
+
+  pub windows_edited : EditsTo old e (record { log = log; board = new })
+  windows_edited = edits_to old sound e topo before (λ number window. (number ≡ owner) × Contains windows window) is log one_more new openings (own_or_not owner windows) stay result
+      (λ key own. windows_ticket keys (HasBeat ps) old.board grown pruned grows prunes new blanks key ((one key).1 own))
+
+  pub windows_sound : IsPresent (changed (standing old) e).fragments → ps ≡ manager_beats (changed (standing old) e).topo (changed (standing old) e).fragments owner → HasAll keys grown
+      → IsSound (record { log = log; board = new })
+  windows_sound after beats all = sound_after old sound e topo before (λ number window. (number ≡ owner) × Contains windows window) is log one_more new openings (own_or_not owner windows) stay result after (λ key own _.
+      let has = windows_there keys (HasBeat ps) old.board grown pruned grows prunes new blanks all key ((one key).1 own) in
+      let same : ps ≡ manager_beats (changed (standing old) e).topo (changed (standing old) e).fragments key.owner = beats ∙ ap (manager_beats (changed (standing old) e).topo (changed (standing old) e).fragments) (sym own.0) in
+      ((λ h. subst (λ qs. HasBeat qs key.window) same (has.0 h)), (λ h. has.1 (subst (λ qs. HasBeat qs key.window) (sym same) h))))
 
 pub on_ok : {T E : Type 0} (r : Result T E) (P : Type 0) → OnOk r P → is_err r ≡ false → P
 on_ok (Ok x) P h not = h

@@ -35,7 +35,7 @@ use Rattle.tl_spans.proofs.CoverLemmas.{whole, found_at, at_found, some_of, piec
 
 -- ---- the rows of a list of pieces
 
-row_from : {S : Type 0} (es : List (PieceKey × Piece S (List Row))) (row : Row) → Contains (all_rows es) row
+pub row_from : {S : Type 0} (es : List (PieceKey × Piece S (List Row))) (row : Row) → Contains (all_rows es) row
     → (e : PieceKey × Piece S (List Row)) × (r : pieces.Pass S (List Row)) × Contains es e × (e.1.result ≡ Some r) × Contains r.rows row
 row_from [] row h = absurd (contains_none row h)
 row_from {S} (e ∷ es) row h = elim (Contains-append_cases (rows_of e.1.result) (all_rows es) row h) [
@@ -48,7 +48,7 @@ row_from {S} (e ∷ es) row h = elim (Contains-append_cases (rows_of e.1.result)
     go None is h = absurd (contains_none row h)
     go (Some r) is h = (e, r, contains_here e es, is, h)
 
-row_in : {S : Type 0} (es : List (PieceKey × Piece S (List Row))) (e : PieceKey × Piece S (List Row)) (r : pieces.Pass S (List Row)) (row : Row)
+pub row_in : {S : Type 0} (es : List (PieceKey × Piece S (List Row))) (e : PieceKey × Piece S (List Row)) (r : pieces.Pass S (List Row)) (row : Row)
     → Contains es e → e.1.result ≡ Some r → Contains r.rows row → Contains (all_rows es) row
 row_in [] e r row h is has = absurd (contains_none e h)
 row_in (x ∷ es) e r row h is has = elim (contains_cases x es e h) [

@@ -42,3 +42,15 @@ Touches now (remove_region name number) manager window = TouchesRegions now (rem
 Touches now (attach monitor w) manager window = ⊥
 Touches now (retune monitor limit) manager window = ⊥
 Touches now (detach monitor) manager window = ⊥
+
+-- The same of a link by its number: the window of the link is touched, whoever reads it. Regions and monitors touch none.
+abbrev pub TouchesLink : InputData → AnEdit → ℕ → ℕ → Type 0
+TouchesLink now (add f) link window = (number_of_name now.topo.links f.link ≡ Some link) × HasBeat (placed_beats (recorded link f)) window
+TouchesLink now (replace f) link window = (number_of_name now.topo.links f.link ≡ Some link) × (HasBeat (placed_beats (recorded link f)) window ⊎ StandsIn now.fragments f.number window link)
+TouchesLink now (withdraw name number) link window = (number_of_name now.topo.links name ≡ Some link) × StandsIn now.fragments number window link
+TouchesLink now (clear_link name) link window = (number_of_name now.topo.links name ≡ Some link) × HasBeat (beats_of link now.fragments) window
+TouchesLink now (set_region name number area) link window = ⊥
+TouchesLink now (remove_region name number) link window = ⊥
+TouchesLink now (attach monitor w) link window = ⊥
+TouchesLink now (retune monitor limit) link window = ⊥
+TouchesLink now (detach monitor) link window = ⊥

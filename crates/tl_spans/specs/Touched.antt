@@ -8,7 +8,7 @@ use Rattle.tl_inputs.specs.Edits.{AnEdit}
 use Rattle.tl_inputs.specs.Inputs.{InputData, changed}
 use Rattle.tl_spans.specs.declared.touched.Touched.{Touched}
 use Rattle.tl_spans.specs.declared.touched.Touched.TheVariants as touched
-use Rattle.tl_spans.specs.Touch.{Touches}
+use Rattle.tl_spans.specs.Touch.{Touches, TouchesLink}
 
 -- The link has this name, and it is one of the manager's, and of no other's.
 pub record IsLinkOf (topo : Topology) (name : List ℕ) (link manager : ℕ) : Type 0 where
@@ -25,7 +25,7 @@ names (touched.All manager) number window = number ≡ manager
 abbrev pub IsSure : InputData → AnEdit → Touched → Type 0
 IsSure now e touched.Nothing = Unit {0}
 IsSure now e (touched.Windows manager windows) = manager < length now.topo.managers
-IsSure now e (touched.All manager) = (changed now e).fragments ≡ now.fragments
+IsSure now e (touched.All manager) = ((changed now e).fragments ≡ now.fragments) × ((link window : ℕ) → TouchesLink now e link window → ⊥)
 
 -- These are exactly the windows that the edit touches.
 pub record IsTouched (now : InputData) (e : AnEdit) (t : Touched) : Type 0 where

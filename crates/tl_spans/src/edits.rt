@@ -13,7 +13,7 @@ ghost use Rattle.tl_spans.specs.Edits.{EditsTo};
 
 use crate::spans::Spans;
 use crate::touched::{Touched, touches_of};
-use crate::windows::{grow, prune, touch_each};
+use crate::windows::{grow, keys_of, prune, touch_each};
 use std::alloc::Global;
 use tl_inputs::{Edit, EditFault};
 use tl_manager_rules::clients_of;
@@ -96,40 +96,24 @@ impl Spans {
     {
         let owner = u32::from(manager);
         let links = clients_of(alloc, self.log.inputs().topo(), manager)?;
+        let keys = keys_of(alloc, &[owner], windows)?;
+        let keys = keys.as_slice();
         let _ = self.log.inputs().present().is_empty();
         let _ = self.pieces.len();
-        if grow(&mut self.pieces, owner, windows).is_err() {
-            prune(
-                &mut self.pieces,
-                self.log.inputs().present(),
-                &links,
-                owner,
-                windows,
-            );
+        if grow(&mut self.pieces, keys).is_err() {
+            prune(&mut self.pieces, self.log.inputs().present(), &links, keys);
             let _ = self.pieces.len();
             return Err(EditFault::Memory);
         }
         match self.log.push(edit) {
             Ok(number) => {
                 let _ = self.log.inputs().present().is_empty();
-                prune(
-                    &mut self.pieces,
-                    self.log.inputs().present(),
-                    &links,
-                    owner,
-                    windows,
-                );
-                touch_each(&mut self.pieces, owner, windows);
+                prune(&mut self.pieces, self.log.inputs().present(), &links, keys);
+                touch_each(&mut self.pieces, keys);
                 Ok(number)
             }
             Err(fault) => {
-                prune(
-                    &mut self.pieces,
-                    self.log.inputs().present(),
-                    &links,
-                    owner,
-                    windows,
-                );
+                prune(&mut self.pieces, self.log.inputs().present(), &links, keys);
                 let _ = self.pieces.len();
                 Err(fault)
             }

@@ -9,4 +9,6 @@ mod touched;
 mod windows;
 
 pub use rows::Rows;
-pub use spans::Spans;
+pub use spans::{Spans, gathered};
+pub use touched::{Touched, touches_of};
+pub use windows::{grow, keys_of, prune, touch_each};

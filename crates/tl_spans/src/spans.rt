@@ -19,6 +19,7 @@ use std::sync::Arc;
 use tl_beats::Row;
 use tl_inputs::Log;
 use tl_pieces::PieceMap;
+use tl_same::Same;
 use tl_span::SpanState;
 use tl_topology::Topo;
 
@@ -107,8 +108,11 @@ impl Spans {
     }
 }
 
-/// The rows of all pieces, one piece after the other.
-fn gathered(alloc: Global, pieces: &PieceMap<SpanState, Rows>) -> Result<Vec<Row>, AllocError>
+/// The rows of all pieces, one piece after the other. AllocError where memory is refused.
+pub fn gathered<S: Same + Drop>(
+    alloc: Global,
+    pieces: &PieceMap<S, Rows>,
+) -> Result<Vec<Row>, AllocError>
     ensures { IfOk result (λ rows. rows.items ≡ all_rows pieces.now.pieces) }
 {
     let mut rows = Vec::new(alloc);

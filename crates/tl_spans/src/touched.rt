@@ -15,7 +15,7 @@ use tl_windows::windows_of;
 
 /// What an edit touches of the windows of managers.
 #[derive(Drop)]
-pub(crate) enum Touched {
+pub enum Touched {
     /// No window.
     Nothing,
     /// These windows of a manager.
@@ -103,7 +103,7 @@ fn of_manager(topo: &Topo, name: &Name) -> Touched
 }
 
 /// Exactly the windows of managers that an edit touches. AllocError where memory is refused.
-pub(crate) fn touches_of(alloc: Global, inputs: &Inputs, edit: &Edit) -> Result<Touched, AllocError>
+pub fn touches_of(alloc: Global, inputs: &Inputs, edit: &Edit) -> Result<Touched, AllocError>
     ensures { IfOk result (IsTouched inputs.now (plain edit.now)) }
 {
     let Edit::Change(change) = edit else {

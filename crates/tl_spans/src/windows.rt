@@ -1,56 +1,73 @@
-//! Pieces of some windows of a manager that come, go, or lose their results.
+//! Pieces of some windows of managers or monitors that come, go, or lose their results.
 
-ghost use Rattle.std.specs.Prelude.{◌≡◌, OnOk, is_some, true};
+ghost use Rattle.std.specs.Prelude.{◌≡◌, ◌++◌, IfOk, OnOk, is_some, map, true};
+ghost use Rattle.std.specs.List.{Contains};
+ghost use Rattle.tl_pieces.specs.declared.key.PieceKey.{PieceKey as AnyKey};
 ghost use Rattle.tl_pieces.specs.Pieces.{opening_of};
-ghost use Rattle.tl_spans.specs.Windows.{IsGrown, HasAll, IsTaken, IsPruned, AreBlank};
+ghost use Rattle.tl_spans.specs.Windows.{key_of, AreKeysOf, IsGrown, HasAll, IsTaken, IsPruned, AreBlank};
 ghost use Rattle.tl_windows.specs.Windows.{HasBeat};
 ghost use Rattle.tl_definitions.specs.Positions.{beats_of_all};
 
-use crate::rows::Rows;
-use std::alloc::AllocError;
+use std::alloc::{AllocError, Global};
 use tl_pieces::{PieceKey, PieceMap};
-use tl_span::SpanState;
+use tl_same::Same;
 use tl_windows::Present;
 
-/// Puts in a piece for each of these windows that has none. AllocError where memory is refused: then some have come.
-pub(crate) fn grow(
-    pieces: &mut PieceMap<SpanState, Rows>,
-    owner: u32,
-    windows: &[u64],
-) -> Result<(), AllocError>
-    requires { is_some (opening_of owner pieces.old.openings) ≡ true }
-    ensures grown { IsGrown owner windows.now pieces.old pieces.new }
-    ensures all { OnOk result (HasAll owner windows.now pieces.new) }
+/// The keys with one of these owners and one of these windows. AllocError where memory is refused.
+pub fn keys_of(alloc: Global, owners: &[u32], windows: &[u64]) -> Result<Vec<PieceKey>, AllocError>
+    ensures { IfOk result (λ keys. AreKeysOf owners.now windows.now keys.items) }
+{
+    let mut keys = Vec::new(alloc);
+    for owner in owners {
+        push_keys(*owner, windows, &mut keys)?;
+    }
+    Ok(keys)
+}
+
+/// Puts the keys of an owner with these windows behind others. AllocError where memory is refused.
+fn push_keys(owner: u32, windows: &[u64], keys: &mut Vec<PieceKey>) -> Result<(), AllocError>
+    ensures { OnOk result (keys.new.items ≡ keys.old.items ++ map (key_of owner) windows.now) }
 {
     for window in windows {
-        let key = PieceKey {
+        keys.push(PieceKey {
             owner,
             window: *window,
-        };
-        if !pieces.contains(key) {
-            pieces.insert(key)?;
+        })?;
+    }
+    Ok(())
+}
+
+/// Puts in a piece for each of these keys, whose owners are there, that has none. AllocError where memory is refused: then some
+/// have come.
+pub fn grow<S: Same + Drop, R: Drop>(
+    pieces: &mut PieceMap<S, R>,
+    keys: &[PieceKey],
+) -> Result<(), AllocError>
+    requires { (key : AnyKey) → Contains keys.now key → is_some (opening_of key.owner pieces.old.openings) ≡ true }
+    ensures grown { IsGrown keys.now pieces.old pieces.new }
+    ensures all { OnOk result (HasAll keys.now pieces.new) }
+{
+    for key in keys {
+        if !pieces.contains(*key) {
+            pieces.insert(*key)?;
         }
     }
     Ok(())
 }
 
-/// The pieces of these windows lose their results.
-pub(crate) fn touch_each(pieces: &mut PieceMap<SpanState, Rows>, owner: u32, windows: &[u64])
-    ensures { AreBlank owner windows.now pieces.old pieces.new }
+/// The pieces of these keys lose their results and their live tickets.
+pub fn touch_each<S: Same + Drop, R: Drop>(pieces: &mut PieceMap<S, R>, keys: &[PieceKey])
+    ensures { AreBlank keys.now pieces.old pieces.new }
 {
-    for window in windows {
-        let key = PieceKey {
-            owner,
-            window: *window,
-        };
-        if pieces.contains(key) {
-            pieces.touch(key);
+    for key in keys {
+        if pieces.contains(*key) {
+            pieces.touch(*key);
         }
     }
 }
 
 /// Takes out a piece, if it is there.
-fn take_out(pieces: &mut PieceMap<SpanState, Rows>, key: PieceKey)
+fn take_out<S: Same + Drop, R: Drop>(pieces: &mut PieceMap<S, R>, key: PieceKey)
     ensures { IsTaken key pieces.old pieces.new }
 {
     let _ = pieces.len();
@@ -59,23 +76,18 @@ fn take_out(pieces: &mut PieceMap<SpanState, Rows>, key: PieceKey)
     }
 }
 
-/// Takes out the pieces of those windows in which none of these links has a beat.
-pub(crate) fn prune(
-    pieces: &mut PieceMap<SpanState, Rows>,
+/// Takes out those pieces of these keys in whose windows none of these links has a beat.
+pub fn prune<S: Same + Drop, R: Drop>(
+    pieces: &mut PieceMap<S, R>,
     present: &Present,
     links: &[u16],
-    owner: u32,
-    windows: &[u64],
+    keys: &[PieceKey],
 )
-    ensures { IsPruned (HasBeat (beats_of_all links.now present.now)) owner windows.now pieces.old pieces.new }
+    ensures { IsPruned (HasBeat (beats_of_all links.now present.now)) keys.now pieces.old pieces.new }
 {
-    for window in windows {
-        if !present.has_beat(*window, links) {
-            let key = PieceKey {
-                owner,
-                window: *window,
-            };
-            take_out(pieces, key);
+    for key in keys {
+        if !present.has_beat(key.window, links) {
+            take_out(pieces, *key);
         }
     }
 }

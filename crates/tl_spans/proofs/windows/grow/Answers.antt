@@ -1,36 +1,43 @@
-use Rattle.std.proofs.Common.{◌≡◌, ◌<◌, ℕ, List, ◌+◌, arith, get_or, true, sym, subst}
+use Rattle.std.proofs.Common.{◌≡◌, ◌+◌, ℕ, suc, List, [], ◌∷◌, drop, get_or, sym, ap, subst, ◌∙◌, arith}
 use Rattle.std.specs.Prelude.{is_some}
+use Rattle.std.proofs.Math.ListN.{drop_of_length-le}
+use Rattle.std.proofs.Math.Seq.{drop-cons}
 use Rattle.std.proofs.lemmas.List.Elements.{Contains-get_or}
-use Rattle.tl_beats.specs.declared.Row.{Row}
-use Rattle.tl_pieces.specs.Pieces.{Board, piece_at}
-use Rattle.tl_span.specs.declared.state.SpanState.{SpanState}
+use Rattle.tl_pieces.specs.declared.key.PieceKey.{PieceKey}
+use Rattle.tl_pieces.specs.Pieces.{opening_of}
 use Rattle.tl_spans.specs.Windows.{key_of, IsGrown}
-use Rattle.tl_spans.proofs.WindowLemmas.{grown_one, still_all, put_there, all_next, all_there, none_of}
+use Rattle.tl_spans.proofs.WindowLemmas.{grown_one, still_all, put_there, one_there, all_there, none_of, AreThereOr}
 use Rattle.tl_spans.proofs.windows.grow.Goals.{then-not-contains+in_ok-insert, else-not-contains}
 use Rattle.tl_spans.proofs.windows.grow.Goals as goal
 
-pub loop-window-preserved : goal.loop-window-preserved
-loop-window-preserved c =
-    let owner : ℕ = c.args.owner in
-    let windows : List ℕ = c.args.windows.now in
-    let index : ℕ = c.loop-window.window-index in
-    let window : ℕ = get_or windows index 0 in
-    let old : Board SpanState (List Row) = c.args.pieces.now in
-    let mid : Board SpanState (List Row) = c.loop-window.pieces in
+pub insert-requires-clause-owner : goal.insert-requires-clause-owner
+insert-requires-clause-owner g c =
+    let keys : List PieceKey = c.args.keys.now in
+    let key : PieceKey = get_or keys c.loop-key.key-index (key_of 0 0) in
+    ap (λ os. is_some (opening_of key.owner os)) c.loop-key.invariant.0.openings ∙ c.requires key (Contains-get_or keys c.loop-key.key-index (key_of 0 0) c.loop-key-test.true)
+
+pub loop-key-preserved : goal.loop-key-preserved
+loop-key-preserved g c =
+    let keys : List PieceKey = c.args.keys.now in
+    let index : ℕ = c.loop-key.key-index in
+    let key : PieceKey = get_or keys index (key_of 0 0) in
+    let rest : List PieceKey = drop (index + 1) keys in
+    let old = c.args.pieces.now in
+    let mid = c.loop-key.pieces in
+    let next : suc index ≡ index + 1 = omega arith in
+    let left : drop index keys ≡ key ∷ rest = drop-cons keys index (key_of 0 0) c.loop-key-test.true ∙ ap (λ n. key ∷ drop n keys) next in
+    let are : AreThereOr keys (key ∷ rest) mid = subst (λ ks. AreThereOr keys ks mid) left c.loop-key.invariant.1 in
     elim c.if-not-contains.branch [
       | then-not-contains+in_ok-insert w ↦
-          subst (λ (p : Board SpanState (List Row)). IsGrown owner windows old p × ((i : ℕ) → i < index + 1 → is_some (piece_at (key_of owner (get_or windows i 0)) p) ≡ true)) (sym w.pieces-is) (
-            grown_one owner windows old mid w.insert.new.self window c.loop-window.invariant.0 (Contains-get_or windows index 0 c.loop-window-test.true) (none_of (piece_at (key_of owner window) mid) (sym w.if-not-contains.ensures)) w.in_ok-insert.ensures.ok,
-            all_next (λ i. is_some (piece_at (key_of owner (get_or windows i 0)) w.insert.new.self) ≡ true) index
-                (λ i lt. still_all mid w.insert.new.self (key_of owner window) (key_of owner (get_or windows i 0)) w.in_ok-insert.ensures.ok (c.loop-window.invariant.1 i lt))
-                (put_there mid w.insert.new.self (key_of owner window) w.in_ok-insert.ensures.ok),
+          subst (λ p. IsGrown keys old p × AreThereOr keys rest p) (sym w.pieces-is) (
+            grown_one keys old mid w.insert.new.self key c.loop-key.invariant.0 (Contains-get_or keys index (key_of 0 0) c.loop-key-test.true) (none_of _ (sym w.if-not-contains.ensures)) w.in_ok-insert.ensures.ok,
+            one_there keys rest key mid w.insert.new.self are (λ q. still_all mid w.insert.new.self key q w.in_ok-insert.ensures.ok) (put_there mid w.insert.new.self key w.in_ok-insert.ensures.ok),
           )
       | else-not-contains w ↦
-          subst (λ (p : Board SpanState (List Row)). IsGrown owner windows old p × ((i : ℕ) → i < index + 1 → is_some (piece_at (key_of owner (get_or windows i 0)) p) ≡ true)) (sym w.pieces-is) (
-            c.loop-window.invariant.0,
-            all_next (λ i. is_some (piece_at (key_of owner (get_or windows i 0)) mid) ≡ true) index c.loop-window.invariant.1 (sym w.if-not-contains.ensures),
-          )
+          subst (λ p. IsGrown keys old p × AreThereOr keys rest p) (sym w.pieces-is) (c.loop-key.invariant.0, one_there keys rest key mid mid are (λ q there. there) (sym w.if-not-contains.ensures))
     ]
 
 pub returns-clause-all : goal.returns-clause-all
-returns-clause-all c = all_there c.args.owner c.args.windows.now c.loop-window.pieces (λ i lt. c.loop-window.invariant.1 i (omega (arith, lt, c.loop-window-test.false)))
+returns-clause-all g c =
+    let none : drop c.loop-key.key-index c.args.keys.now ≡ [] = drop_of_length-le c.args.keys.now (omega (arith, c.loop-key-test.false)) in
+    all_there c.args.keys.now c.loop-key.pieces (subst (λ ks. AreThereOr c.args.keys.now ks c.loop-key.pieces) none c.loop-key.invariant.1)

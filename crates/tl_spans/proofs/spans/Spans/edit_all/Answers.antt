@@ -30,7 +30,7 @@ invariant_of-self-2 c =
     after
     (λ key named there.
     let was = c.self.invariant.covered.windows key (ap (λ os. is_some (opening_of key.owner os)) (sym (all_openings c.from.result inside.board c.touch_all.new.self all)) ∙ there) in
-    let left = beats_left now e key.owner key.window is.sure in
+    let left = beats_left now e key.owner key.window is.sure.0 in
     let still : is_some (piece_at key c.touch_all.new.self) ≡ is_some (piece_at key inside.board) =
     ap is_some (all_blank c.from.result inside.board c.touch_all.new.self all key (named ∙ sym owner)) ∙ blank_there (piece_at key inside.board) in
     ((λ h. left.1 (was.0 (sym still ∙ h))), (λ h. still ∙ was.1 (left.0 h))))

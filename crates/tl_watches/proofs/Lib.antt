@@ -1,0 +1,3 @@
+mod MonitorLemmas
+mod PassLemmas
+mod RowLemmas

@@ -1,0 +1,131 @@
+//! The checks of windows, and the rows of all.
+
+ghost use Rattle.std.specs.Prelude.{◌≡◌, ◌<◌, IfOk, OnOk, OnErr, Some, is_some, length, true};
+ghost use Rattle.std.specs.Arc.{arc_value};
+ghost use Rattle.std.specs.List.{All};
+ghost use Rattle.std.specs.List.Sorted.{IsStrictlySortedBy};
+ghost use Rattle.tl_definitions.specs.Positions.{position_order};
+ghost use Rattle.tl_definitions.specs.Report.{IsReport};
+ghost use Rattle.tl_definitions.specs.Tallies.{AreOfOneLink};
+ghost use Rattle.tl_inputs.specs.Inputs.{watch_at};
+ghost use Rattle.tl_pieces.specs.Marks.{pass_of};
+ghost use Rattle.tl_pieces.specs.Pieces.{piece_at, entry_for, IsSettled, IsFirstWanted};
+ghost use Rattle.tl_plain.specs.Captured.{captures_after, watched_beats};
+ghost use Rattle.tl_span.specs.States.{SameSpan};
+ghost use Rattle.tl_spans.specs.Spans.{standing, ChecksFirst};
+ghost use Rattle.tl_watches.specs.Tally.{SameTally};
+ghost use Rattle.tl_windows.specs.Windows.{beats_in};
+ghost use Rattle.tl_watches.specs.Watches.{IsOfWatch, ChecksWatch};
+
+use crate::tally::Tally;
+use crate::watches::Watches;
+use std::alloc::{AllocError, Global};
+use std::sync::Arc;
+use tl_beats::{Placed, Row, Watch};
+use tl_inputs::Inputs;
+use tl_monitor::{Monitor, Watched, monitor_check};
+use tl_pieces::{PieceKey, Stored};
+use tl_span::sort_rows;
+use tl_spans::{Rows, gathered};
+
+/// The beats of a window of the link that a watch names; none where the topology has no such link.
+fn watched(
+    alloc: Global,
+    inputs: &Inputs,
+    watch: &Watch,
+    window: u64,
+) -> Result<Vec<Placed>, AllocError>
+    ensures exact { IfOk result (λ beats. beats.items ≡ beats_in window (watched_beats inputs.now.topo inputs.now.fragments watch.now)) }
+    ensures link { IfOk result (λ beats. AreOfOneLink beats.items) }
+    ensures rises { IfOk result (λ beats. IsStrictlySortedBy position_order beats.items) }
+{
+    let present = inputs.present();
+    let _ = present.is_empty();
+    let Some(link) = inputs.topo().link_of(&watch.link()) else {
+        return Ok(Vec::new(alloc));
+    };
+    let beats = present.link_beats_in(alloc, window, link)?;
+    Ok(beats)
+}
+
+impl Watches {
+    /// Checks the first window of a manager that is wanted, from what the windows of its manager before it leave, and answers
+    /// which it was; None where none is wanted, and then nothing has changed. AllocError where memory is refused: then nothing
+    /// has changed.
+    pub fn check_span(&mut self, alloc: Global) -> Result<Option<PieceKey>, AllocError>
+        ensures first { IfOk result (IsFirstWanted SameSpan self.old.spans.board) }
+        ensures checked { IfOk result (λ found. ChecksFirst self.old.spans found self.new.spans) }
+        ensures rest { self.new.board ≡ self.old.board }
+        ensures err { OnErr result (self.new ≡ self.old) }
+    {
+        let _ = &self.pieces;
+        let found = self.spans.check_first(alloc)?;
+        Ok(found)
+    }
+
+    /// Checks a window of a monitor, which is given, from what the windows of the monitor before it leave. AllocError where memory
+    /// is refused: then no window has changed. The monitor keeps its watch, and its tally may be any.
+    pub fn check_watch<M: Monitor>(
+        &mut self,
+        alloc: Global,
+        key: PieceKey,
+        monitor: &mut Watched<M>,
+    ) -> Result<(), AllocError>
+        requires there { is_some (piece_at key self.old.board) ≡ true }
+        requires watch { watch_at key.owner (standing self.old.spans).monitors ≡ Some monitor.old.watch }
+        ensures ok { OnOk result (ChecksWatch self.old key self.new) }
+        ensures watch { monitor.new.watch ≡ monitor.old.watch }
+        ensures closed_at { monitor.new.closed_at ≡ monitor.old.closed_at }
+        ensures err { OnErr result (self.new ≡ self.old) }
+    {
+        let _ = &self.spans;
+        let stored = self.judged(alloc, key, monitor)?;
+        self.pieces.store(key, stored);
+        Ok(())
+    }
+
+    /// The result of a window of a monitor from what it is to start from.
+    fn judged<M: Monitor>(
+        &self,
+        alloc: Global,
+        key: PieceKey,
+        monitor: &mut Watched<M>,
+    ) -> Result<Stored<Tally, Rows>, AllocError>
+        requires there { is_some (piece_at key self.now.board) ≡ true }
+        requires watch { watch_at key.owner (standing self.now.spans).monitors ≡ Some monitor.old.watch }
+        ensures of_window { IfOk result (λ stored. IsOfWatch (standing self.now.spans) key.owner key.window (pass_of stored)) }
+        ensures entry { IfOk result (λ stored. entry_for key self.now.board ≡ Some (arc_value stored.entry)) }
+        ensures watch { monitor.new.watch ≡ monitor.old.watch }
+        ensures closed_at { monitor.new.closed_at ≡ monitor.old.closed_at }
+    {
+        let _ = self.pieces.len();
+        let entry = Arc::try_clone(self.pieces.entry_for(key).unwrap())?;
+        let watch = monitor.watch();
+        let beats = watched(alloc, self.spans.log().inputs(), &watch, key.window)?;
+        let checked = monitor_check(alloc, key.owner, monitor, entry.count, &beats)?;
+        let exit = Tally {
+            count: checked.tally,
+        };
+        Ok(Stored {
+            entry,
+            exit: Arc::new(alloc, exit)?,
+            rows: Rows::new(checked.rows),
+        })
+    }
+
+    /// The report of what stands: the rows of all windows, of managers and of monitors. AllocError where memory is refused.
+    pub fn rows(&self, alloc: Global) -> Result<Vec<Row>, AllocError>
+        requires spans { IsSettled SameSpan self.now.spans.board }
+        requires board { IsSettled SameTally self.now.board }
+        ensures report { IfOk result (λ rows. IsReport (captures_after (standing self.now.spans)) rows.items) }
+        ensures links { IfOk result (λ rows. All (λ row. row.link < length self.now.spans.log.topo.links) rows.items) }
+    {
+        let _ = self.spans.log().inputs().present().is_empty();
+        let _ = self.pieces.settled();
+        let _ = self.pieces.len();
+        let mut rows = self.spans.rows(alloc)?;
+        let flagged = gathered(alloc, &self.pieces)?;
+        rows.extend_from_slice(&flagged)?;
+        Ok(sort_rows(rows))
+    }
+}

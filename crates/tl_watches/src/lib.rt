@@ -1,0 +1,10 @@
+//! The windows of all managers and of all monitors that are attached, each with its result, behind a log of edits. The monitors
+//! themselves are elsewhere: a check of a monitor's window is given the monitor.
+#![tactic(auto)]
+
+mod checking;
+mod tally;
+mod watches;
+
+pub use tally::Tally;
+pub use watches::Watches;

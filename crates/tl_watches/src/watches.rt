@@ -1,0 +1,81 @@
+//! The windows of managers and of monitors behind a log of edits.
+
+ghost use Rattle.std.specs.Prelude.{◌≡◌, [], IfOk, IfSome, is_some, true};
+ghost use Rattle.std.specs.Bool.{Decides};
+ghost use Rattle.tl_pieces.specs.Pieces.{piece_at, IsSettled, IsFirstWanted};
+ghost use Rattle.tl_span.specs.States.{SameSpan};
+ghost use Rattle.tl_watches.specs.Tally.{SameTally};
+ghost use Rattle.tl_watches.specs.Watches.{AreWatches};
+ghost use Rattle.tl_spans.specs.Spans.{standing};
+
+use crate::tally::Tally;
+use std::alloc::{AllocError, Global};
+use std::marker::Model;
+use tl_pieces::{PieceKey, PieceMap};
+use tl_spans::{Rows, Spans};
+use tl_topology::Topo;
+
+/// A log of edits with the windows of all managers, and the windows of the monitors that are attached: of each window in which a
+/// monitor's link has a beat its result, from when it was checked until an edit touches it. The owner of a monitor's windows is
+/// its number.
+#[derive(Drop)]
+pub struct Watches {
+    pub(crate) spans: Spans,
+    pub(crate) pieces: PieceMap<Tally, Rows>,
+}
+
+impl Model for Watches {
+    ghost use Rattle.std.specs.Coded.{codes};
+    ghost use Rattle.tl_span.specs.contracts.state.SpanState as state;
+    ghost use Rattle.tl_spans.specs.Spans.{standing};
+    ghost use Rattle.tl_watches.specs.Watches.{WatchesData, AreWatches};
+
+    ghost Value = { WatchesData };
+
+    ghost coded = { Prim.hlevel (codes, state.the_row.coded) };
+
+    ghost view = { λ w. record { spans = w.spans; board = w.pieces } };
+
+    ghost invariant = { λ w. AreWatches (standing w.spans) w.pieces };
+}
+
+impl Watches {
+    /// A log without edits, and so neither windows nor monitors. AllocError where memory is refused.
+    pub fn new(alloc: Global, topo: Topo) -> Result<Watches, AllocError>
+        ensures log { IfOk result (λ watches. watches.spans.log ≡ record { topo = topo; edits = [] }) }
+        ensures spans { IfOk result (λ watches. watches.spans.board.pieces ≡ []) }
+        ensures board { IfOk result (λ watches. watches.board ≡ record { openings = []; pieces = [] }) }
+    {
+        Ok(Watches {
+            spans: Spans::new(alloc, topo)?,
+            pieces: PieceMap::new(alloc),
+        })
+    }
+
+    /// The log with the windows of managers.
+    pub fn spans(&self) -> &Spans
+        ensures exact { result.now ≡ self.now.spans }
+        ensures kept { AreWatches (standing self.now.spans) self.now.board }
+    {
+        let _ = &self.pieces;
+        &self.spans
+    }
+
+    /// Whether every window, of managers and of monitors, has a result, and each begins with what the one before it ended with.
+    /// It walks nothing.
+    pub fn settled(&self) -> bool
+        ensures { Decides result (IsSettled SameSpan self.now.spans.board × IsSettled SameTally self.now.board) }
+    {
+        self.spans.settled() && self.pieces.settled()
+    }
+
+    /// The first window of a monitor that is wanted.
+    pub fn next_watch(&mut self) -> Option<PieceKey>
+        ensures first { IsFirstWanted SameTally self.old.board result }
+        ensures there { IfSome result (λ key. is_some (piece_at key self.old.board) ≡ true) }
+        ensures same { self.new ≡ self.old }
+    {
+        let _ = &self.spans;
+        self.pieces.first_wanted()
+    }
+}

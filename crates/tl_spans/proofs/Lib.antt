@@ -7,3 +7,4 @@ pub mod WindowLemmas
 pub mod TouchLemmas
 pub mod TouchedLemmas
 pub mod EditLemmas
+pub mod RecheckLemmas

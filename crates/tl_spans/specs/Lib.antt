@@ -5,3 +5,4 @@ pub mod Touch
 pub mod Touched
 pub mod Windows
 pub mod Edits
+pub mod Recheck

@@ -3,6 +3,7 @@
 
 mod checking;
 mod edits;
+mod recheck;
 mod rows;
 mod spans;
 mod touched;

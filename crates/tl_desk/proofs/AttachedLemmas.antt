@@ -27,9 +27,9 @@ use Rattle.tl_inputs.specs.declared.edit.Change.{Change}
 use Rattle.tl_inputs.specs.declared.edit.Change.TheVariants as change
 use Rattle.tl_monitor.specs.Held.{Held}
 use Rattle.tl_spans.proofs.EntryLemmas.{lookup_put}
-use Rattle.tl_desk.specs.Boxes.{BoxesData, held_at, retuned_at, told, ended_at}
+use Rattle.tl_desk.specs.Boxes.{BoxesData, held_at, without_tally, retuned_at, told, ended_at}
 use Rattle.tl_desk.specs.Core.{AreAttached}
-use Rattle.tl_desk.specs.Steps.{boxes_after}
+use Rattle.tl_desk.specs.Steps.{boxes_after, KeepsBoxes}
 
 nat_exact : (x y : ℕ) → nat_cmp x y ≡ Equal → x ≡ y
 nat_exact x y h = grind (arith, nat_tests)
@@ -200,3 +200,45 @@ given_back old put taken m h none comes goes =
     goes
     ∙ ap (λ (b : BoxesData). record b { live = remove_entry (is_at (nat_cmp m)) b.live }) comes
     ∙ ap (λ live. record old { live = live }) (put_and_taken m h old.live none)
+
+-- ---- monitors that keep all but their tallies
+
+pub kept_none : (boxes : BoxesData) → KeepsBoxes boxes boxes
+kept_none boxes = record { ended = refl; live = λ number. refl }
+
+pub kept_both : (one two three : BoxesData) → KeepsBoxes one two → KeepsBoxes two three → KeepsBoxes one three
+kept_both one two three first second = record { ended = second.ended ∙ first.ended; live = λ number. second.live number ∙ first.live number }
+
+-- One of them was used.
+pub kept_one : (old new : BoxesData) (m : ℕ) (h g : Held) → held_at m old.live ≡ Some h → g.watch ≡ h.watch → g.closed_at ≡ h.closed_at → new ≡ record old { live = set_value (is_at (nat_cmp m)) old.live g } → KeepsBoxes old new
+kept_one old new m h g found watch closed is = record {
+  ended = ap (λ (b : BoxesData). b.ended) is;
+  live = λ n. ap (λ (b : BoxesData). option_map without_tally (held_at n b.live)) is
+      ∙ ap (option_map without_tally) (lookup-set_value number_equivalence (is_at (nat_cmp m)) (same_test m) n g old.live (subst IsSome (sym found) refl))
+      ∙ go n (is_at (nat_cmp m) n) refl;
+}
+  where
+    same : without_tally g ≡ without_tally h
+    same = ap (λ w. (w, g.closed_at)) watch ∙ ap (λ e. (h.watch, e)) closed
+
+    go : (n : ℕ) (b : Bool) → is_at (nat_cmp m) n ≡ b → option_map without_tally (cond b (Some g) (held_at n old.live)) ≡ option_map without_tally (held_at n old.live)
+    go n true t = ap Some same ∙ sym (ap (λ k. option_map without_tally (held_at k old.live)) (sym (number_exact m n t)) ∙ ap (option_map without_tally) found)
+    go n false t = refl
+
+watches_kept : (one two : Option Held) → option_map without_tally two ≡ option_map without_tally one → option_map watch_of two ≡ option_map watch_of one
+watches_kept None None h = refl
+watches_kept None (Some x) h = cc
+watches_kept (Some x) None h = cc
+watches_kept (Some x) (Some y) h = let both : without_tally y ≡ without_tally x = cc in ap (λ (p : Watch × ℕ). Some p.0) both
+
+-- They are attached as before.
+pub still_attached : (now : InputData) (old new : BoxesData) → KeepsBoxes old new → AreAttached now old.live → AreAttached now new.live
+still_attached now old new keeps are n = watches_kept (held_at n old.live) (held_at n new.live) (keeps.live n) ∙ are n
+
+-- A monitor that is attached is here, with its watch.
+pub here : (now : InputData) (live : List (ℕ × Held)) (m : ℕ) → AreAttached now live → is_some (watch_at m now.monitors) ≡ true → (h : Held) × (held_at m live ≡ Some h) × (watch_at m now.monitors ≡ Some h.watch)
+here now live m are some = go (held_at m live) refl (are m)
+  where
+    go : (found : Option Held) → held_at m live ≡ found → option_map watch_of found ≡ watch_at m now.monitors → (h : Held) × (held_at m live ≡ Some h) × (watch_at m now.monitors ≡ Some h.watch)
+    go None at same = absurd (let never : false ≡ true = ap is_some same ∙ some in cc)
+    go (Some h) at same = (h, at, sym same)

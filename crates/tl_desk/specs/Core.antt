@@ -8,9 +8,12 @@ use Rattle.tl_topology.specs.Topology.{Topology}
 use Rattle.tl_inputs.specs.Inputs.{InputData, watch_at}
 use Rattle.tl_inputs.specs.Log.{LogData, inputs_after}
 use Rattle.tl_monitor.specs.Held.{Held}
+use Rattle.tl_pieces.specs.Pieces.{IsSettled}
 use Rattle.tl_plain.specs.Captured.{captures_after}
-use Rattle.tl_spans.specs.Spans.{SpansData}
 use Rattle.tl_spans.specs.Spans as spans
+use Rattle.tl_span.specs.States.{SameSpan}
+use Rattle.tl_watches.specs.Tally.{SameTally}
+use Rattle.tl_watches.specs.Watches.{WatchesData}
 use Rattle.tl_desk.specs.Boxes.{BoxesData, held_at}
 
 -- A report: its version, the number of edits that it speaks of, and its rows.
@@ -21,16 +24,16 @@ pub record ReportData : Type 0 where
 
 -- The log of edits with the windows, the monitors with what they told, and all reports, the oldest first.
 pub record Core : Type 0 where
-  pub spans : SpansData
+  pub windows : WatchesData
   pub boxes : BoxesData
   pub reports : List ReportData
 
 -- the log, and what it leaves
 abbrev pub log_of : Core → LogData
-log_of core = core.spans.log
+log_of core = core.windows.spans.log
 
 abbrev pub standing : Core → InputData
-standing core = spans.standing core.spans
+standing core = spans.standing core.windows.spans
 
 -- The report speaks of so many edits of the log, and its rows are those that the definitions find in what these leave.
 abbrev pub IsOf : LogData → ReportData → Type 0
@@ -64,9 +67,14 @@ abbrev pub report_of : ℕ → List ReportData → Option ReportData
 report_of zero reports = None
 report_of (suc version) reports = slice_get reports version
 
+-- All windows are settled, of managers and of monitors: each has a result, and begins with what the one before it ended with.
+abbrev pub AllSettled : Core → Type 0
+AllSettled core = IsSettled SameSpan core.windows.spans.board × IsSettled SameTally core.windows.board
+
 -- Nothing was edited, attached or published.
 pub record IsNew (topo : Topology) (core : Core) : Type 0 where
-  pub log : core.spans.log ≡ record { topo = topo; edits = [] }
-  pub pieces : core.spans.board.pieces ≡ []
+  pub log : log_of core ≡ record { topo = topo; edits = [] }
+  pub spans : core.windows.spans.board.pieces ≡ []
+  pub watches : core.windows.board ≡ record { openings = []; pieces = [] }
   pub boxes : core.boxes ≡ record { live = []; ended = [] }
   pub reports : core.reports ≡ []

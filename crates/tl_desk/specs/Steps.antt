@@ -1,5 +1,5 @@
 -- What each call makes of a desk.
-use Rattle.std.specs.Prelude.{ℕ, ◌≡◌, ◌+◌, List, [], ◌∷◌, ◌++◌, length, None}
+use Rattle.std.specs.Prelude.{ℕ, ◌≡◌, ◌+◌, List, [], ◌∷◌, ◌++◌, length, min, None}
 use Rattle.std.specs.Ordering.{nat_cmp}
 use Rattle.std.specs.BTreeMap.{insert_entry}
 use Rattle.tl_beats.specs.declared.watch.Watch.{Watch}
@@ -7,12 +7,14 @@ use Rattle.tl_definitions.specs.Report.{IsReport}
 use Rattle.tl_inputs.specs.Edits.{AnEdit, plain_change, add, replace, withdraw, clear_link, set_region, remove_region, attach, retune, detach}
 use Rattle.tl_inputs.specs.Inputs.{refusal}
 use Rattle.tl_monitor.specs.Held.{Held}
-use Rattle.tl_pieces.specs.Pieces.{IsSettled}
+use Rattle.std.specs.Option.{option_map}
 use Rattle.tl_plain.specs.Captured.{captures_after}
 use Rattle.tl_span.specs.States.{SameSpan}
+use Rattle.tl_spans.specs.Recheck.{Rechecks, ChecksSome}
 use Rattle.tl_spans.specs.Edits.{EditsTo}
-use Rattle.tl_desk.specs.Boxes.{BoxesData, retuned_at, ended_at}
-use Rattle.tl_desk.specs.Core.{Core, ReportData, log_of, standing}
+use Rattle.tl_watches.specs.Tally.{SameTally}
+use Rattle.tl_desk.specs.Boxes.{BoxesData, held_at, without_tally, retuned_at, ended_at}
+use Rattle.tl_desk.specs.Core.{Core, ReportData, AllSettled, log_of, standing}
 use Rattle.tl_desk.specs.declared.edits.BoxChange.{BoxChange}
 use Rattle.tl_desk.specs.declared.edits.BoxChange.TheVariants as change
 use Rattle.tl_desk.specs.declared.call.Call.{Call}
@@ -40,7 +42,7 @@ boxes_changed (change.Detach monitor) number boxes = ended_at monitor number box
 pub record Edits (old : Core) (e : AnEdit) (number : ℕ) (new : Core) : Type 0 where
   pub accepted : refusal (length (log_of old).edits) (standing old) e ≡ None
   pub last : number ≡ length (log_of new).edits
-  pub spans : EditsTo old.spans e new.spans
+  pub windows : EditsTo old.windows.spans e new.windows.spans
   pub reports : new.reports ≡ old.reports
 
 -- A monitor with this watch has come in under its number.
@@ -50,14 +52,40 @@ Attaches monitor w old new = (held : Held) × (held.watch ≡ w) × (new ≡ rec
 -- The next report is published, where all windows are settled: it speaks of all edits.
 pub record Publishes (old : Core) (version : ℕ) (new : Core) : Type 0 where
   pub next : version ≡ length old.reports + 1
-  pub settled : IsSettled SameSpan old.spans.board
+  pub settled : AllSettled old
   pub report : ReportData
   pub is : report.version ≡ version
   pub edit : report.edit ≡ length (log_of old).edits
   pub rows : IsReport (captures_after (standing old)) report.rows
   pub rest : new ≡ record old { reports = old.reports ++ report ∷ [] }
 
+-- The monitors are the same, but for their tallies.
+pub record KeepsBoxes (old new : BoxesData) : Type 0 where
+  pub ended : new.ended ≡ old.ended
+  pub live : (number : ℕ) → option_map without_tally (held_at number new.live) ≡ option_map without_tally (held_at number old.live)
+
+-- Exactly the windows that had no result, or one that did not begin with what stands before it, are checked, and all are settled. They
+-- are counted, up to the greatest 64-bit number.
+pub record RechecksAll (old : Core) (count : ℕ) (new : Core) : Type 0 where
+  pub log : log_of new ≡ log_of old
+  pub of_managers : ℕ
+  pub managers : Rechecks SameSpan old.windows.spans.board new.windows.spans.board of_managers
+  pub of_monitors : ℕ
+  pub monitors : Rechecks SameTally old.windows.board new.windows.board of_monitors
+  pub sum : count ≡ min (of_managers + of_monitors) 18446744073709551615
+  pub boxes : KeepsBoxes old.boxes new.boxes
+  pub reports : new.reports ≡ old.reports
+
+-- Some of the windows that had no result, or one that did not begin with what stands before it, are checked; all else stays.
+pub record RechecksSome (old new : Core) : Type 0 where
+  pub log : log_of new ≡ log_of old
+  pub managers : ChecksSome SameSpan old.windows.spans.board new.windows.spans.board
+  pub monitors : ChecksSome SameTally old.windows.board new.windows.board
+  pub boxes : KeepsBoxes old.boxes new.boxes
+  pub reports : new.reports ≡ old.reports
+
 abbrev pub Step : Core → Call → Core → Type 0
 Step old (call.Edit change number) new = Edits old (plain_change change) number new × (new.boxes ≡ boxes_after (plain_change change) number old.boxes)
 Step old (call.Attach monitor w number) new = Edits old (attach monitor w) number new × Attaches monitor w old.boxes new.boxes
+Step old (call.Recheck count) new = RechecksAll old count new
 Step old (call.Publish version) new = Publishes old version new

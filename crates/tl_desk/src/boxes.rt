@@ -1,16 +1,24 @@
 //! The monitors that a desk owns, and what those told that ended.
 
-ghost use Rattle.std.specs.Prelude.{◌≡◌, ◌++◌, ◌∷◌, [], map, None, OnOk, OnErr, IfErr};
+ghost use Rattle.std.specs.Prelude.{◌≡◌, ◌++◌, ◌∷◌, [], map, None, OnOk, OnErr, IfErr, is_some, true};
 ghost use Rattle.std.specs.BTreeMap.{insert_entry, is_at};
 ghost use Rattle.std.specs.List.Sorted.{IsStrictlySortedBy};
 ghost use Rattle.std.specs.Map.{keys_of, remove_entry};
 ghost use Rattle.std.specs.Ordering.{nat_cmp};
+ghost use Rattle.tl_inputs.specs.Inputs.{watch_at};
+ghost use Rattle.tl_pieces.specs.Pieces.{piece_at};
+ghost use Rattle.tl_spans.specs.Spans.{standing};
+ghost use Rattle.tl_watches.specs.Watches.{ChecksWatch};
 ghost use Rattle.tl_desk.specs.Boxes.{held_at, retuned_at, told, ended_at};
+ghost use Rattle.tl_desk.specs.Core.{AreAttached};
+ghost use Rattle.tl_desk.specs.Steps.{KeepsBoxes};
 
-use std::alloc::{AllocFailed, Global};
+use std::alloc::{AllocError, AllocFailed, Global};
 use std::collections::BTreeMap;
 use std::marker::Model;
 use tl_monitor::{Monitor, Settlement, Watched};
+use tl_pieces::PieceKey;
+use tl_watches::Watches;
 
 /// Attached monitors by number, and what each told that ended, in the order of their ends.
 #[derive(Drop)]
@@ -114,6 +122,25 @@ impl<M: Monitor> Boxes<M> {
             let told = end(monitor, edit);
             self.ended.push((number, told)).unwrap();
         }
+    }
+
+    /// Checks a window of a monitor that is here. AllocError where memory is refused: then no window has changed.
+    pub(crate) fn check(
+        &mut self,
+        alloc: Global,
+        windows: &mut Watches,
+        key: PieceKey,
+    ) -> Result<(), AllocError>
+        requires attached { AreAttached (standing windows.old.spans) self.old.live }
+        requires there { is_some (piece_at key windows.old.board) ≡ true }
+        requires owner { is_some (watch_at key.owner (standing windows.old.spans).monitors) ≡ true }
+        ensures kept { KeepsBoxes self.old self.new }
+        ensures ok { OnOk result (ChecksWatch windows.old key windows.new) }
+        ensures err { OnErr result (windows.new ≡ windows.old) }
+    {
+        let _ = &self.ended;
+        let monitor = self.live.get_mut(&key.owner).unwrap();
+        windows.check_watch(alloc, key, monitor)
     }
 
     /// Ends all monitors, in the order of their numbers, and answers what each told that ended, before or now.

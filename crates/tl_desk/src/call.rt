@@ -10,6 +10,8 @@ pub enum Call {
     Edit(Change, u64),
     /// A monitor with this number and watch was attached by the edit of this number.
     Attach(u32, Watch, u64),
+    /// All windows were settled, and so many were checked for it.
+    Recheck(u64),
     /// The report of this version was published.
     Publish(u64),
 }

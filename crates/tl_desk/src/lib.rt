@@ -7,6 +7,7 @@ mod desk;
 mod edits;
 mod fault;
 mod publish;
+mod recheck;
 mod report;
 
 pub use call::Call;

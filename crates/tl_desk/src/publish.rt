@@ -3,10 +3,8 @@
 ghost use Rattle.std.specs.Prelude.{◌≡◌, ◌≤◌, IfOk, OnErr, length};
 ghost use Rattle.std.specs.Result.{IsErrOf};
 ghost use Rattle.tl_definitions.specs.Report.{IsReport};
-ghost use Rattle.tl_pieces.specs.Pieces.{IsSettled};
 ghost use Rattle.tl_plain.specs.Captured.{captures_after};
-ghost use Rattle.tl_span.specs.States.{SameSpan};
-ghost use Rattle.tl_desk.specs.Core.{standing, most_versions};
+ghost use Rattle.tl_desk.specs.Core.{standing, most_versions, AllSettled};
 ghost use Rattle.tl_desk.specs.Steps.{Step};
 ghost use Rattle.tl_desk.specs.declared.call.Call.TheVariants as call;
 
@@ -25,7 +23,7 @@ impl<M: Monitor> Desk<M> {
     /// where 65,536 reports were published; Memory where neither stands and memory is refused. Then nothing has changed.
     pub fn publish(&mut self, alloc: Global) -> Result<u64, PublishFault>
         ensures step { IfOk result (λ version. Step self.old (call.Publish version) self.new) }
-        ensures ready { IsErrOf result PublishFault.NotReady → IsSettled SameSpan self.old.spans.board → ⊥ }
+        ensures ready { IsErrOf result PublishFault.NotReady → AllSettled self.old → ⊥ }
         ensures full { IsErrOf result PublishFault.VersionFull → length self.old.reports ≡ most_versions }
         ensures err { OnErr result (self.new ≡ self.old) }
     {
@@ -44,9 +42,11 @@ impl<M: Monitor> Desk<M> {
 
     /// The rows of all windows, in the order of reports.
     fn found(&self, alloc: Global) -> Result<Vec<Row>, AllocError>
-        requires { IsSettled SameSpan self.now.spans.board }
+        requires { AllSettled self.now }
         ensures { IfOk result (λ rows. IsReport (captures_after (standing self.now)) rows.items) }
     {
-        self.spans.rows(alloc)
+        let _ = &self.boxes;
+        let _ = &self.reports;
+        self.windows.rows(alloc)
     }
 }

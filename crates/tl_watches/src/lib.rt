@@ -3,6 +3,7 @@
 #![tactic(auto)]
 
 mod checking;
+mod rechecks;
 mod tally;
 mod watches;
 

@@ -2,6 +2,7 @@
 
 ghost use Rattle.std.specs.Prelude.{◌≡◌, [], IfOk, IfSome, is_some, true};
 ghost use Rattle.std.specs.Bool.{Decides};
+ghost use Rattle.tl_inputs.specs.Inputs.{watch_at};
 ghost use Rattle.tl_pieces.specs.Pieces.{piece_at, IsSettled, IsFirstWanted};
 ghost use Rattle.tl_span.specs.States.{SameSpan};
 ghost use Rattle.tl_watches.specs.Tally.{SameTally};
@@ -73,9 +74,11 @@ impl Watches {
     pub fn next_watch(&mut self) -> Option<PieceKey>
         ensures first { IsFirstWanted SameTally self.old.board result }
         ensures there { IfSome result (λ key. is_some (piece_at key self.old.board) ≡ true) }
+        ensures attached { IfSome result (λ key. is_some (watch_at key.owner (standing self.old.spans).monitors) ≡ true) }
         ensures same { self.new ≡ self.old }
     {
         let _ = &self.spans;
+        let _ = self.pieces.len();
         self.pieces.first_wanted()
     }
 }

@@ -3,7 +3,9 @@
 #![tactic(auto)]
 
 mod checking;
+mod edits;
 mod tally;
+mod touched;
 mod watches;
 
 pub use tally::Tally;

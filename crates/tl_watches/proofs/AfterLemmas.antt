@@ -1,18 +1,17 @@
 -- What an edit makes of the windows of monitors.
-use Rattle.std.proofs.Common.{◌≡◌, ℕ, ◌⊎◌, inl, inr, ◌==◌, true, false, cond, Bool, List, [], ◌∷◌, Option, Some, None, refl, sym, ap, subst, ◌∙◌, arith, eqb-true}
+use Rattle.std.proofs.Common.{◌≡◌, ℕ, ◌⊎◌, inl, inr, ◌==◌, true, false, cond, List, [], ◌∷◌, Option, Some, None, refl, sym, ap, subst, ◌∙◌, arith, eqb-true}
 use Rattle.std.specs.Prelude.{◌↔◌, is_some, option_map}
 use Rattle.std.specs.Option.{option_map_or}
 use Rattle.std.specs.Ordering.{nat_cmp}
 use Rattle.std.specs.BTreeMap.{insert_entry, is_at}
-use Rattle.std.specs.List.{Contains}
 use Rattle.std.proofs.lemmas.Bool.Decides.{nat_tests}
 use Rattle.tl_topology.specs.Topology.{number_of_name}
 use Rattle.tl_beats.specs.Watches.{link_of}
 use Rattle.tl_beats.specs.declared.Row.{Row}
 use Rattle.tl_beats.specs.declared.watch.Watch.{Watch}
 use Rattle.tl_beats.specs.declared.watch.Watch.TheVariants as watch
-use Rattle.tl_definitions.specs.Passes.{Judge, IsPass}
-use Rattle.tl_definitions.specs.Positions.{Recorded, beats_of, beats_of_all}
+use Rattle.tl_definitions.specs.Passes.{IsPass}
+use Rattle.tl_definitions.specs.Positions.{Recorded, beats_of}
 use Rattle.tl_definitions.specs.Tallies.{watching, kept_tally}
 use Rattle.tl_definitions.specs.Watching.{IsWatch}
 use Rattle.tl_definitions.proofs.Lists.{contains_none, contains_cases}
@@ -33,9 +32,8 @@ use Rattle.tl_spans.proofs.TouchLemmas.{untouched_links, same_topology, has_beat
 use Rattle.tl_watches.specs.declared.tally.Tally.{Tally}
 use Rattle.tl_watches.specs.Edits.{opening_after, EditsBoth}
 use Rattle.tl_watches.specs.Touch.{edited_monitor, TouchesWatch}
-use Rattle.tl_watches.specs.Watches.{WatchesData, beats_for, idle, judge_for, no_tally, ShowsTally, IsOfWatch, AreWatches}
+use Rattle.tl_watches.specs.Watches.{WatchesData, beats_for, idle, judge_for, IsOfWatch, AreWatches}
 use Rattle.tl_watches.proofs.MonitorLemmas.{Monitors, left, at_itself, same_number, watch_put}
-use Rattle.tl_watches.proofs.PassLemmas.{beats_are}
 
 -- ---- the monitors after an edit
 

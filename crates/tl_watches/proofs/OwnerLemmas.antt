@@ -4,7 +4,6 @@ use Rattle.std.specs.Prelude.{◌↔◌, is_some, option_map}
 use Rattle.std.specs.Option.{option_map_or}
 use Rattle.std.specs.Ordering.{nat_cmp, is_eq, match_ordering}
 use Rattle.std.specs.BTreeMap.{insert_entry, is_at}
-use Rattle.std.specs.Cmp.{IsEquivalence}
 use Rattle.std.specs.List.{Contains}
 use Rattle.std.specs.Map.{keys_of, lookup, remove_entry}
 use Rattle.std.proofs.lemmas.Bool.Decides.{nat_tests}
@@ -25,7 +24,7 @@ use Rattle.tl_inputs.specs.declared.fault.EditFault.TheVariants as fault
 use Rattle.tl_inputs.proofs.LogLaws.{no_cause}
 use Rattle.tl_pieces.specs.declared.key.PieceKey.{PieceKey}
 use Rattle.tl_pieces.specs.Keys.{key_cmp, value_at, without, Rises}
-use Rattle.tl_pieces.specs.Pieces.{Piece, Board, IsBoard, OwnersRise, opening_of, piece_at, result_of, live_of, with_openings, with_pieces, without_owner, touched_all}
+use Rattle.tl_pieces.specs.Pieces.{Board, IsBoard, OwnersRise, opening_of, piece_at, result_of, live_of, with_openings, with_pieces, without_owner, touched_all}
 use Rattle.tl_pieces.proofs.OrderLemmas.{key_exact}
 use Rattle.tl_plain.specs.Captured.{watched_beats}
 use Rattle.tl_windows.specs.Present.{IsPresent}
@@ -157,8 +156,8 @@ module _ (now : InputData) (monitor : ℕ) (before : IsPresent now.fragments) (a
     result = λ key touches. ap result_of (gone key (detaches_alone now monitor key.owner key.window touches));
     ticket = λ key touches. ap live_of (gone key (detaches_alone now monitor key.owner key.window touches));
     there = λ key touches owner. absurd (
-      let own : (key.owner == monitor) ≡ true = own_test key.owner monitor (detaches_alone now monitor key.owner key.window touches) in
-      let never : false ≡ true = sym (ap is_some (detached_opening key.owner ∙ ap (λ b. cond b None (opening_of key.owner old.openings)) own)) ∙ owner in cc);
+        let own : (key.owner == monitor) ≡ true = own_test key.owner monitor (detaches_alone now monitor key.owner key.window touches) in
+        let never : false ≡ true = sym (ap is_some (detached_opening key.owner ∙ ap (λ b. cond b None (opening_of key.owner old.openings)) own)) ∙ owner in cc);
   }
 
 -- ---- a monitor that comes

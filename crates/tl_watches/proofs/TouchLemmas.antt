@@ -1,5 +1,5 @@
 -- Which windows of monitors an edit touches, as they are found.
-use Rattle.std.proofs.Common.{◌≡◌, ℕ, zero, suc, ◌<◌, ◌==◌, inl, inr, true, false, cond, Bool, List, [], ◌∷◌, ◌++◌, Option, Some, None, length, refl, sym, ap, subst, ◌∙◌, arith}
+use Rattle.std.proofs.Common.{◌≡◌, ℕ, zero, suc, ◌<◌, ◌==◌, inl, inr, true, false, cond, Bool, List, [], ◌∷◌, Option, Some, None, length, refl, sym, ap, subst, ◌∙◌, arith}
 use Rattle.std.specs.Prelude.{◌↔◌, slice_get}
 use Rattle.std.specs.List.{Contains}
 use Rattle.std.specs.Option.{option_map_or}
@@ -13,7 +13,7 @@ use Rattle.tl_definitions.specs.Managers.{declared_links}
 use Rattle.tl_definitions.specs.Positions.{Recorded, beats_of, beats_of_all}
 use Rattle.tl_definitions.proofs.Lists.{contains_none, contains_here, contains_there, contains_cases}
 use Rattle.tl_inputs.specs.Edits.{AnEdit, add, replace, withdraw, clear_link, set_region, remove_region, attach, retune, detach}
-use Rattle.tl_inputs.specs.Inputs.{InputData, watch_at, attached}
+use Rattle.tl_inputs.specs.Inputs.{InputData, attached}
 use Rattle.tl_pieces.specs.declared.key.PieceKey.{PieceKey}
 use Rattle.tl_plain.specs.Captured.{watched_beats}
 use Rattle.tl_plain.proofs.CaptureLaws.{number_below}
@@ -23,7 +23,6 @@ use Rattle.tl_spans.specs.Touch.{Touches, TouchesRegions, TouchesLink}
 use Rattle.tl_spans.specs.Touched.{IsTouched, names}
 use Rattle.tl_spans.specs.Windows.{AreKeysOf}
 use Rattle.tl_spans.specs.declared.touched.Touched.{Touched}
-use Rattle.tl_spans.specs.declared.touched.Touched.TheVariants as touched
 use Rattle.tl_spans.proofs.EditLemmas.{of_one_owner}
 use Rattle.tl_spans.proofs.TouchLemmas.{declared_is_client, link_touches, touched_by}
 use Rattle.tl_spans.proofs.TouchedLemmas.{link_windows}

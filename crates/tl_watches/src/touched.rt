@@ -64,11 +64,7 @@ fn names_link(topo: &Topo, link: u16, watch: &Watch) -> bool
 }
 
 /// The monitors whose watch names a link, by number. AllocError where memory is refused.
-pub(crate) fn watchers(
-    alloc: Global,
-    inputs: &Inputs,
-    link: u16,
-) -> Result<Vec<u32>, AllocError>
+pub(crate) fn watchers(alloc: Global, inputs: &Inputs, link: u16) -> Result<Vec<u32>, AllocError>
     ensures { IfOk result (λ owners. owners.items ≡ watchers inputs.now.topo link (attached inputs.now.monitors)) }
 {
     let watches = inputs.watches(alloc)?;
@@ -113,5 +109,4 @@ pub(crate) fn known(watch: &Watch)
 /// A number that a program holds is in its range.
 fn fits(number: u32)
     ensures { number < 2 ^ 32 }
-{
-}
+{}

@@ -1,5 +1,4 @@
 use Rattle.std.proofs.Common.{◌≡◌, ◌++◌, drop}
-use Rattle.tl_inputs.specs.Inputs.{attached}
 use Rattle.tl_watches.specs.Touch.{watchers}
 use Rattle.tl_watches.proofs.touched.watchers.Given as goal
 

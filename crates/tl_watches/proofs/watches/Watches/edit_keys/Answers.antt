@@ -1,4 +1,4 @@
-use Rattle.std.proofs.Common.{◌≡◌, ◌∷◌, [], List, ap, sym, subst, ◌∙◌}
+use Rattle.std.proofs.Common.{◌≡◌, List, ap, sym, subst, ◌∙◌}
 use Rattle.tl_beats.specs.declared.Row.{Row}
 use Rattle.tl_inputs.specs.Edits.{AnEdit, plain}
 use Rattle.tl_inputs.specs.Inputs.{InputData, changed}

@@ -1,11 +1,11 @@
-use Rattle.std.proofs.Common.{◌≡◌, ap, sym, subst, ◌∙◌}
+use Rattle.std.proofs.Common.{ap, subst, ◌∙◌}
 use Rattle.tl_inputs.specs.Edits.{AnEdit, retune}
 use Rattle.tl_inputs.specs.Inputs.{InputData, changed}
 use Rattle.tl_windows.specs.Present.{IsPresent}
 use Rattle.tl_spans.specs.Spans.{SpansData, standing}
 use Rattle.tl_watches.specs.Edits.{EditsBoth}
 use Rattle.tl_watches.specs.Watches.{WatchesData}
-use Rattle.tl_watches.proofs.AfterLemmas.{IsEdited, both_edited, both_watched, read_fragments, told}
+use Rattle.tl_watches.proofs.AfterLemmas.{both_edited, both_watched, read_fragments, told}
 use Rattle.tl_watches.proofs.OwnerLemmas.{retuned_edited}
 use Rattle.tl_watches.proofs.watches.Watches.retune.Goals as goal
 

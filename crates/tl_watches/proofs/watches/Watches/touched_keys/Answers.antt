@@ -10,7 +10,7 @@ use Rattle.tl_spans.specs.Windows.{AreKeysOf}
 use Rattle.tl_watches.specs.Touch.{edited_link, OnWatch, watchers, AreTouched}
 use Rattle.tl_watches.specs.Watches.{WatchesData}
 use Rattle.tl_watches.proofs.MonitorLemmas.{monitors_rise}
-use Rattle.tl_watches.proofs.TouchLemmas.{watchers_are, touched_keys, none_touched}
+use Rattle.tl_watches.proofs.TouchLemmas.{watchers_are, touched_keys}
 use Rattle.tl_watches.proofs.watches.Watches.touched_keys.Goals as goal
 
 pub returns : goal.returns

@@ -1,3 +1,7 @@
 mod MonitorLemmas
 mod PassLemmas
 mod RowLemmas
+mod TouchLemmas
+mod AfterLemmas
+mod KeyLemmas
+mod OwnerLemmas

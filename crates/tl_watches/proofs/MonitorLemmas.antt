@@ -24,10 +24,10 @@ Monitors = List (ℕ × Option Watch)
 abbrev pub AreInOrder : Monitors → Type 0
 AreInOrder ms = IsStrictlySortedBy nat_cmp (keys_of ms)
 
-at_itself : (n : ℕ) → is_at (nat_cmp n) n ≡ true
+pub at_itself : (n : ℕ) → is_at (nat_cmp n) n ≡ true
 at_itself n = grind (arith, nat_tests)
 
-same_number : (n k : ℕ) → is_at (nat_cmp n) k ≡ true → n ≡ k
+pub same_number : (n k : ℕ) → is_at (nat_cmp n) k ≡ true → n ≡ k
 same_number n k h = grind (arith, nat_tests)
 
 pub watch_put : (n k : ℕ) (w : Option Watch) (ms : Monitors) → watch_at n (insert_entry nat_cmp ms k w) ≡ cond (is_at (nat_cmp n) k) w (watch_at n ms)
@@ -62,7 +62,7 @@ rise_put k w (m ∷ ms) s = go (nat_cmp k m.0) refl (rise_put k w ms s.1)
     go Greater e later = (above_put m.0 k w ms s.0 (let less : nat_cmp m.0 k ≡ Less = grind (arith, nat_tests) in less), later)
 
 -- An edit of a link or a manager leaves the monitors.
-left : (o : Option ℕ) (f : ℕ → InputData) (now : InputData) → ((n : ℕ) → (f n).monitors ≡ now.monitors) → (option_map_or f o now).monitors ≡ now.monitors
+pub left : (o : Option ℕ) (f : ℕ → InputData) (now : InputData) → ((n : ℕ) → (f n).monitors ≡ now.monitors) → (option_map_or f o now).monitors ≡ now.monitors
 left None f now h = refl
 left (Some n) f now h = h n
 

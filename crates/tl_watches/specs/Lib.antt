@@ -1,2 +1,4 @@
 pub mod Tally
 pub mod Watches
+pub mod Touch
+pub mod Edits

@@ -3,8 +3,10 @@
 #![tactic(auto)]
 
 mod checking;
+mod edits;
 mod rechecks;
 mod tally;
+mod touched;
 mod watches;
 
 pub use tally::Tally;

@@ -1,0 +1,32 @@
+use Rattle.std.proofs.Common.{◌≡◌, ℕ, List, Some, ap, sym, subst, ◌∙◌}
+use Rattle.std.specs.Prelude.{◌↔◌}
+use Rattle.std.specs.List.{Contains}
+use Rattle.tl_inputs.specs.Edits.{AnEdit, plain}
+use Rattle.tl_inputs.specs.Inputs.{InputData, attached}
+use Rattle.tl_inputs.specs.Log.{LogData, inputs_after}
+use Rattle.tl_spans.specs.Spans.{SpansData, standing}
+use Rattle.tl_spans.specs.Touch.{TouchesLink}
+use Rattle.tl_spans.specs.Windows.{AreKeysOf}
+use Rattle.tl_watches.specs.Touch.{edited_link, OnWatch, watchers, AreTouched}
+use Rattle.tl_watches.specs.Watches.{WatchesData}
+use Rattle.tl_watches.proofs.MonitorLemmas.{monitors_rise}
+use Rattle.tl_watches.proofs.TouchLemmas.{watchers_are, touched_keys}
+use Rattle.tl_watches.proofs.watches.Watches.touched_keys.Goals as goal
+
+pub returns : goal.returns
+returns c =
+    let spans : SpansData = c.self.inside.spans in
+    let now : InputData = standing spans in
+    let e : AnEdit = plain c.args.edit.now in
+    let link : ℕ = c.in-Some.link in
+    let read : c.inputs-inputs.result.now ≡ now = c.inputs-inputs.ensures.exact ∙ ap (λ (l : LogData). inputs_after l.topo l.edits) c.log.ensures.exact in
+    let edited : edited_link now.topo e ≡ Some link = ap (λ (i : InputData). edited_link i.topo e) (sym read) ∙ ap (λ t. edited_link t e) (sym c.topo.ensures) ∙ sym c.edited_link.ensures ∙ c.in-Some.is in
+    let watch : (number : ℕ) → Contains c.in_ok-owners.owners.items number ↔ OnWatch now number (λ l. l ≡ link) = λ number.
+    subst (λ (os : List ℕ). Contains os number ↔ OnWatch now number (λ l. l ≡ link)) (sym (c.in_ok-owners.ensures ∙ ap (λ (i : InputData). watchers i.topo link (attached i.monitors)) read))
+    (watchers_are now (monitors_rise spans.log.topo spans.log.edits) link number) in
+    let on : (window : ℕ) → Contains c.in_ok-windows.windows.items window ↔ TouchesLink now e link window = λ window.
+    subst (λ (i : InputData). edited_link i.topo e ≡ Some link → Contains c.in_ok-windows.windows.items window ↔ TouchesLink i e link window) read (c.in_ok-windows.ensures link window) edited in
+    let are : AreKeysOf c.in_ok-owners.owners.items c.in_ok-windows.windows.items c.in_ok-keys.keys.items =
+    subst (λ os. AreKeysOf os c.in_ok-windows.windows.items c.in_ok-keys.keys.items) c.deref.ensures.value (subst (λ ws. AreKeysOf c.deref.result.now ws c.in_ok-keys.keys.items) c.deref-2.ensures.value c.in_ok-keys.ensures) in
+    subst (λ (d : WatchesData). AreTouched (standing d.spans) e link c.in_ok-keys.keys.items) c.self.view_is
+    (touched_keys now e link edited c.in_ok-owners.owners.items c.in_ok-windows.windows.items c.in_ok-keys.keys.items watch on are)

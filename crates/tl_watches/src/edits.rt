@@ -1,0 +1,188 @@
+//! Edits, and what they touch.
+
+ghost use Rattle.std.specs.Prelude.{◌≡◌, ◌<◌, length, IfOk, IfErr, OnOk, OnErr, None, Some};
+ghost use Rattle.std.specs.Result.{IsErrOf};
+ghost use Rattle.tl_inputs.specs.Edits.{plain, attach, retune, detach};
+ghost use Rattle.tl_inputs.specs.Inputs.{refusal};
+ghost use Rattle.tl_spans.specs.Spans.{standing};
+ghost use Rattle.tl_watches.specs.Edits.{EditsBoth};
+ghost use Rattle.tl_watches.specs.Touch.{edited_monitor, AreTouched};
+
+use crate::tally::Tally;
+use crate::touched::{edited_link, keys_with, known, touched_windows, watchers};
+use crate::watches::Watches;
+use std::alloc::{AllocError, Global};
+use std::sync::Arc;
+use tl_beats::Watch;
+use tl_inputs::{Change, Edit, EditFault};
+use tl_pieces::PieceKey;
+use tl_spans::{grow, keys_of, prune, touch_each};
+
+impl Watches {
+    /// Accepts an edit and answers its number, or refuses it: the first cause of `EditFault`, which stands then, or Memory where
+    /// no cause stands and memory is refused. The windows of managers and of monitors that it touches lose their results, those
+    /// that have no beat any more go, and those that get their first come. A monitor that is attached comes with its windows, and
+    /// one that is detached goes with them. A refused edit is dropped, and nothing has changed. It costs what it costs `Spans`,
+    /// and a few looks for each window of each monitor that it touches.
+    pub fn edit(&mut self, alloc: Global, edit: Edit) -> Result<u64, EditFault>
+        ensures number { IfOk result (λ number. number ≡ length self.new.spans.log.edits) }
+        ensures ok { OnOk result (EditsBoth self.old (plain edit) self.new) }
+        ensures accepted { OnOk result (refusal (length self.old.spans.log.edits) (standing self.old.spans) (plain edit) ≡ None) }
+        ensures refused { IfErr result (λ fault. (fault ≡ EditFault.Memory → ⊥) → refusal (length self.old.spans.log.edits) (standing self.old.spans) (plain edit) ≡ Some fault) }
+        ensures memory { IsErrOf result EditFault.Memory → refusal (length self.old.spans.log.edits) (standing self.old.spans) (plain edit) ≡ None }
+        ensures err { OnErr result (self.new ≡ self.old) }
+    {
+        let _ = &self.pieces;
+        if let Some(fault) = self.spans.log().refusal(&edit) {
+            return Err(fault);
+        }
+        match &edit {
+            Edit::Attach(monitor, watch) => self.attach(alloc, *monitor, *watch),
+            Edit::Change(Change::Retune(monitor, limit)) => self.retune(alloc, *monitor, *limit),
+            Edit::Change(Change::Detach(monitor)) => self.detach(alloc, *monitor),
+            _ => self.edit_links(alloc, edit),
+        }
+    }
+}
+
+impl Watches {
+    /// Accepts an edit of fragments or of regions.
+    fn edit_links(&mut self, alloc: Global, edit: Edit) -> Result<u64, EditFault>
+        requires none { refusal (length self.old.spans.log.edits) (standing self.old.spans) (plain edit) ≡ None }
+        requires links { edited_monitor (plain edit) ≡ None }
+        ensures number { IfOk result (λ number. number ≡ length self.new.spans.log.edits) }
+        ensures ok { OnOk result (EditsBoth self.old (plain edit) self.new) }
+        ensures memory { IfErr result (λ fault. fault ≡ EditFault.Memory) }
+        ensures err { OnErr result (self.new ≡ self.old) }
+    {
+        let (link, keys) = self.touched_keys(alloc, &edit)?;
+        self.edit_keys(alloc, edit, link, &keys)
+    }
+
+    /// The keys of the windows of monitors that an edit of fragments touches, and the link that all of them watch; where there are
+    /// none, any link. AllocError where memory is refused.
+    fn touched_keys(&self, alloc: Global, edit: &Edit) -> Result<(u16, Vec<PieceKey>), AllocError>
+        ensures { IfOk result (λ touched. AreTouched (standing self.now.spans) (plain edit.now) touched.0 touched.1.items) }
+    {
+        let _ = &self.pieces;
+        let inputs = self.spans.log().inputs();
+        let Some(link) = edited_link(inputs.topo(), edit) else {
+            return Ok((0, Vec::new(alloc)));
+        };
+        let windows = touched_windows(alloc, inputs, edit)?;
+        let owners = watchers(alloc, inputs, link)?;
+        let keys = keys_of(alloc, &owners, &windows)?;
+        Ok((link, keys))
+    }
+
+    /// Accepts an edit that touches the windows of these keys.
+    fn edit_keys(
+        &mut self,
+        alloc: Global,
+        edit: Edit,
+        link: u16,
+        keys: &[PieceKey],
+    ) -> Result<u64, EditFault>
+        requires none { refusal (length self.old.spans.log.edits) (standing self.old.spans) (plain edit) ≡ None }
+        requires links { edited_monitor (plain edit) ≡ None }
+        requires touched { AreTouched (standing self.old.spans) (plain edit) link keys.now }
+        ensures number { IfOk result (λ number. number ≡ length self.new.spans.log.edits) }
+        ensures ok { OnOk result (EditsBoth self.old (plain edit) self.new) }
+        ensures memory { IfErr result (λ fault. fault ≡ EditFault.Memory) }
+        ensures err { OnErr result (self.new ≡ self.old) }
+    {
+        let links = [link];
+        let _ = self.spans.log().inputs().present().is_empty();
+        let _ = self.pieces.len();
+        if grow(&mut self.pieces, keys).is_err() {
+            let present = self.spans.log().inputs().present();
+            prune(&mut self.pieces, present, &links, keys);
+            let _ = self.pieces.len();
+            return Err(EditFault::Memory);
+        }
+        match self.spans.edit(alloc, edit) {
+            Ok(number) => {
+                let present = self.spans.log().inputs().present();
+                let _ = present.is_empty();
+                prune(&mut self.pieces, present, &links, keys);
+                touch_each(&mut self.pieces, keys);
+                Ok(number)
+            }
+            Err(fault) => {
+                let present = self.spans.log().inputs().present();
+                prune(&mut self.pieces, present, &links, keys);
+                let _ = self.pieces.len();
+                Err(fault)
+            }
+        }
+    }
+
+    /// Attaches a monitor: it comes with its windows.
+    fn attach(&mut self, alloc: Global, monitor: u32, watch: Watch) -> Result<u64, EditFault>
+        requires none { refusal (length self.old.spans.log.edits) (standing self.old.spans) (attach monitor watch) ≡ None }
+        ensures number { IfOk result (λ number. number ≡ length self.new.spans.log.edits) }
+        ensures ok { OnOk result (EditsBoth self.old (attach monitor watch) self.new) }
+        ensures memory { IfErr result (λ fault. fault ≡ EditFault.Memory) }
+        ensures err { OnErr result (self.new ≡ self.old) }
+    {
+        known(&watch);
+        let _ = self.pieces.len();
+        let inputs = self.spans.log().inputs();
+        let _ = inputs.present().is_empty();
+        let keys = keys_with(alloc, inputs, monitor, &watch)?;
+        let keys = keys.as_slice();
+        let opening = Arc::new(alloc, Tally { count: 0 })?;
+        self.pieces.add_owner(monitor, opening)?;
+        if grow(&mut self.pieces, keys).is_err() {
+            self.pieces.remove_owner(monitor);
+            let _ = self.pieces.len();
+            return Err(EditFault::Memory);
+        }
+        match self.spans.edit(alloc, Edit::Attach(monitor, watch)) {
+            Ok(number) => {
+                let _ = self.spans.log().inputs().present().is_empty();
+                Ok(number)
+            }
+            Err(fault) => {
+                self.pieces.remove_owner(monitor);
+                let _ = self.pieces.len();
+                Err(fault)
+            }
+        }
+    }
+
+    /// Gives a monitor another limit: its windows lose their results.
+    fn retune(&mut self, alloc: Global, monitor: u32, limit: u32) -> Result<u64, EditFault>
+        requires none { refusal (length self.old.spans.log.edits) (standing self.old.spans) (retune monitor limit) ≡ None }
+        ensures number { IfOk result (λ number. number ≡ length self.new.spans.log.edits) }
+        ensures ok { OnOk result (EditsBoth self.old (retune monitor limit) self.new) }
+        ensures memory { IfErr result (λ fault. fault ≡ EditFault.Memory) }
+        ensures err { OnErr result (self.new ≡ self.old) }
+    {
+        let _ = self.spans.log().inputs().present().is_empty();
+        let number = self
+            .spans
+            .edit(alloc, Edit::Change(Change::Retune(monitor, limit)))?;
+        let _ = self.spans.log().inputs().present().is_empty();
+        self.pieces.touch_all(monitor);
+        Ok(number)
+    }
+
+    /// Detaches a monitor: it goes with its windows.
+    fn detach(&mut self, alloc: Global, monitor: u32) -> Result<u64, EditFault>
+        requires none { refusal (length self.old.spans.log.edits) (standing self.old.spans) (detach monitor) ≡ None }
+        ensures number { IfOk result (λ number. number ≡ length self.new.spans.log.edits) }
+        ensures ok { OnOk result (EditsBoth self.old (detach monitor) self.new) }
+        ensures memory { IfErr result (λ fault. fault ≡ EditFault.Memory) }
+        ensures err { OnErr result (self.new ≡ self.old) }
+    {
+        let _ = self.pieces.len();
+        let _ = self.spans.log().inputs().present().is_empty();
+        let number = self
+            .spans
+            .edit(alloc, Edit::Change(Change::Detach(monitor)))?;
+        let _ = self.spans.log().inputs().present().is_empty();
+        self.pieces.remove_owner(monitor);
+        Ok(number)
+    }
+}

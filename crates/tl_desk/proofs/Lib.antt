@@ -1,3 +1,4 @@
 mod BoxLemmas
 mod AttachedLemmas
 mod ReportLemmas
+mod WatchLemmas

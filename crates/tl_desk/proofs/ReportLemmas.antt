@@ -11,7 +11,11 @@ use Rattle.tl_definitions.specs.Report.{IsReport}
 use Rattle.tl_inputs.specs.Edits.{AnEdit}
 use Rattle.tl_inputs.specs.Log.{LogData, inputs_after}
 use Rattle.tl_plain.specs.Captured.{captures_after}
-use Rattle.tl_desk.specs.Core.{Core, ReportData, IsOf, IsSound, AreVersions, log_of, standing, most_versions}
+use Rattle.tl_watches.specs.Watches.{WatchesData}
+use Rattle.tl_desk.specs.Boxes.{BoxesData}
+use Rattle.tl_desk.specs.Steps.{KeepsBoxes}
+use Rattle.tl_desk.proofs.AttachedLemmas.{still_attached}
+use Rattle.tl_desk.specs.Core.{Core, ReportData, IsOf, IsSound, AreAttached, AreVersions, log_of, standing, most_versions}
 
 still_of : (log : LogData) (e : AnEdit) (report : ReportData) → IsOf log report → IsOf (record log { edits = log.edits ++ e ∷ [] }) report
 still_of log e report is =
@@ -66,3 +70,12 @@ published old report sound version edit rows few =
       versions = next_version 1 old.reports report sound.versions (omega (arith, version));
       few = omega (arith, few, longer);
     }
+
+-- A desk whose log and reports are as they were, and whose monitors are the same but for their tallies.
+pub sound_still : (old : Core) (windows : WatchesData) (boxes : BoxesData) → IsSound old → windows.spans.log ≡ log_of old → KeepsBoxes old.boxes boxes → IsSound (record { windows = windows; boxes = boxes; reports = old.reports })
+sound_still old windows boxes sound log keeps = record {
+  attached = subst (λ (l : LogData). AreAttached (inputs_after l.topo l.edits) boxes.live) (sym log) (still_attached (standing old) old.boxes boxes keeps sound.attached);
+  reports = subst (λ (l : LogData). AllByRecursion (IsOf l) old.reports) (sym log) sound.reports;
+  versions = sound.versions;
+  few = sound.few;
+}

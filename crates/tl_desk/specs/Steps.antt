@@ -11,7 +11,7 @@ use Rattle.std.specs.Option.{option_map}
 use Rattle.tl_plain.specs.Captured.{captures_after}
 use Rattle.tl_span.specs.States.{SameSpan}
 use Rattle.tl_spans.specs.Recheck.{Rechecks, ChecksSome}
-use Rattle.tl_spans.specs.Edits.{EditsTo}
+use Rattle.tl_watches.specs.Edits.{EditsBoth}
 use Rattle.tl_watches.specs.Tally.{SameTally}
 use Rattle.tl_desk.specs.Boxes.{BoxesData, held_at, without_tally, retuned_at, ended_at}
 use Rattle.tl_desk.specs.Core.{Core, ReportData, AllSettled, log_of, standing}
@@ -42,7 +42,7 @@ boxes_changed (change.Detach monitor) number boxes = ended_at monitor number box
 pub record Edits (old : Core) (e : AnEdit) (number : ℕ) (new : Core) : Type 0 where
   pub accepted : refusal (length (log_of old).edits) (standing old) e ≡ None
   pub last : number ≡ length (log_of new).edits
-  pub windows : EditsTo old.windows.spans e new.windows.spans
+  pub windows : EditsBoth old.windows e new.windows
   pub reports : new.reports ≡ old.reports
 
 -- A monitor with this watch has come in under its number.

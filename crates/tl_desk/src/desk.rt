@@ -15,7 +15,6 @@ use std::alloc::{AllocError, Global};
 use std::marker::Model;
 use tl_inputs::Log;
 use tl_monitor::{Monitor, Settlement};
-
 use tl_topology::Topo;
 use tl_watches::Watches;
 

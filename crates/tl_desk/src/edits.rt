@@ -60,3 +60,48 @@ impl BoxChange {
     }
 }
 
+impl<M: Monitor> Desk<M> {
+    /// Accepts a change and answers its number as an edit, or refuses it: the first cause of `EditFault`, which stands then, or
+    /// Memory where no cause stands and memory is refused. The windows that it touches lose their results, and no other does; a
+    /// retune reaches its monitor, and a detach ends its own. A refused change is dropped, and nothing has changed.
+    pub fn edit(&mut self, alloc: Global, change: Change) -> Result<u64, EditFault>
+        ensures step { IfOk result (λ number. Step self.old (call.Edit change number) self.new) }
+        ensures refused { IfErr result (λ fault. (fault ≡ EditFault.Memory → ⊥) → refusal (length (log_of self.old).edits) (standing self.old) (plain_change change) ≡ Some fault) }
+        ensures memory { IsErrOf result EditFault.Memory → refusal (length (log_of self.old).edits) (standing self.old) (plain_change change) ≡ None }
+        ensures err { OnErr result (self.new ≡ self.old) }
+    {
+        let _ = &self.reports;
+        let of_boxes = BoxChange::of(&change);
+        let number = self.windows.edit(alloc, Edit::Change(change))?;
+        of_boxes.apply(&mut self.boxes, number);
+        Ok(number)
+    }
+
+    /// Attaches a monitor under a number and answers the number of the edit, or refuses it: the first cause of `EditFault`, which
+    /// stands then, or Memory where no cause stands and memory is refused. A monitor that is refused comes back as it was, and
+    /// nothing has changed.
+    pub fn attach(&mut self, alloc: Global, number: u32, monitor: M) -> Result<u64, (EditFault, M)>
+        ensures step { IfOk result (λ edit. Step self.old (call.Attach number (M.held monitor).watch edit) self.new) }
+        ensures refused { IfErr result (λ e. (e.0 ≡ EditFault.Memory → ⊥) → refusal (length (log_of self.old).edits) (standing self.old) (attach number (M.held monitor).watch) ≡ Some e.0) }
+        ensures memory { IfErr result (λ e. e.0 ≡ EditFault.Memory → refusal (length (log_of self.old).edits) (standing self.old) (attach number (M.held monitor).watch) ≡ None) }
+        ensures back { IfErr result (λ e. M.held e.1 ≡ M.held monitor) }
+        ensures err { OnErr result (self.new ≡ self.old) }
+    {
+        let _ = &self.reports;
+        let watched = Watched::new(monitor);
+        let edit = Edit::Attach(number, watched.watch());
+        if let Some(fault) = self.windows.spans().log().refusal(&edit) {
+            return Err((fault, watched.into_inner()));
+        }
+        if let Err(watched) = self.boxes.attach(number, watched) {
+            return Err((EditFault::Memory, watched.into_inner()));
+        }
+        match self.windows.edit(alloc, edit) {
+            Ok(number) => Ok(number),
+            Err(fault) => {
+                let watched = self.boxes.give_back(number).unwrap();
+                Err((fault, watched.into_inner()))
+            }
+        }
+    }
+}

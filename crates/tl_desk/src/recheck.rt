@@ -1,6 +1,8 @@
 //! The check of all windows that are wanted.
 
 ghost use Rattle.std.specs.Prelude.{◌≡◌, IfOk, OnErr};
+ghost use Rattle.tl_pieces.specs.Pieces.{IsSettled};
+ghost use Rattle.tl_span.specs.States.{SameSpan};
 ghost use Rattle.tl_spans.specs.Recheck.{Rechecks, ChecksSome};
 ghost use Rattle.tl_spans.specs.Spans.{standing};
 ghost use Rattle.tl_watches.specs.Tally.{SameTally};
@@ -22,14 +24,17 @@ fn check_watches<M: Monitor>(
     windows: &mut Watches,
     boxes: &mut Boxes<M>,
 ) -> Result<u64, AllocError>
-    requires { AreAttached (standing windows.old.spans) boxes.old.live }
+    requires attached { AreAttached (standing windows.old.spans) boxes.old.live }
+    requires settled { IsSettled SameSpan windows.old.spans.board }
     ensures spans { windows.new.spans ≡ windows.old.spans }
     ensures boxes { KeepsBoxes boxes.old boxes.new }
     ensures ok { IfOk result (λ count. Rechecks SameTally windows.old.board windows.new.board count) }
     ensures err { OnErr result (ChecksSome SameTally windows.old.board windows.new.board) }
 {
+    let _ = windows.spans();
     let mut count = 0;
-    while let Some(key) = windows.next_watch() {
+    while !windows.settled() {
+        let key = windows.next_watch().unwrap();
         boxes.check(alloc, windows, key)?;
         count += 1;
     }
@@ -46,6 +51,7 @@ impl<M: Monitor> Desk<M> {
         ensures err { OnErr result (RechecksSome self.old self.new) }
     {
         let _ = &self.reports;
+        let _ = self.windows.spans();
         let of_managers = self.windows.recheck_spans(alloc)?;
         let of_monitors = check_watches(alloc, &mut self.windows, &mut self.boxes)?;
         Ok(of_managers.saturating_add(of_monitors))

@@ -1,9 +1,9 @@
 //! The windows of managers and of monitors behind a log of edits.
 
-ghost use Rattle.std.specs.Prelude.{◌≡◌, [], IfOk, IfSome, is_some, true};
+ghost use Rattle.std.specs.Prelude.{◌≡◌, ◌<◌, [], length, IfOk, IfSome, is_some, true};
 ghost use Rattle.std.specs.Bool.{Decides};
 ghost use Rattle.tl_inputs.specs.Inputs.{watch_at};
-ghost use Rattle.tl_pieces.specs.Pieces.{piece_at, IsSettled, IsFirstWanted};
+ghost use Rattle.tl_pieces.specs.Pieces.{piece_at, IsBoard, IsSettled, IsFirstWanted};
 ghost use Rattle.tl_span.specs.States.{SameSpan};
 ghost use Rattle.tl_watches.specs.Tally.{SameTally};
 ghost use Rattle.tl_watches.specs.Watches.{AreWatches};
@@ -57,8 +57,11 @@ impl Watches {
     pub fn spans(&self) -> &Spans
         ensures exact { result.now ≡ self.now.spans }
         ensures kept { AreWatches (standing self.now.spans) self.now.board }
+        // The keys rise, and each is of an owner; so do the owners.
+        ensures board { IsBoard self.now.board }
+        ensures few { length self.now.board.pieces < 18446744073709551616 }
     {
-        let _ = &self.pieces;
+        let _ = self.pieces.len();
         &self.spans
     }
 

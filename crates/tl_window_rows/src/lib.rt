@@ -4,6 +4,8 @@
 #[cfg(test)]
 mod beats;
 #[cfg(test)]
+mod desk;
+#[cfg(test)]
 mod edits;
 #[cfg(test)]
 mod logs;

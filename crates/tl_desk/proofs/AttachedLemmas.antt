@@ -6,7 +6,6 @@ use Rattle.std.specs.Option.{option_map, option_map_or, IsSome}
 use Rattle.std.specs.Ordering.{nat_cmp, is_eq, match_ordering}
 use Rattle.std.specs.Cmp.{IsEquivalence}
 use Rattle.std.specs.BTreeMap.{insert_entry, is_at}
-use Rattle.std.specs.List.{IsDistinct}
 use Rattle.std.specs.List.Sorted.{IsStrictlySortedBy}
 use Rattle.std.specs.Map.{keys_of, lookup, remove_entry, set_value}
 use Rattle.std.proofs.lemmas.Bool.Decides.{nat_tests}
@@ -19,7 +18,7 @@ use Rattle.tl_windows.specs.Present.{recorded, put_in, without, cleared}
 use Rattle.tl_beats.specs.declared.watch.Watch.{Watch}
 use Rattle.tl_definitions.specs.Positions.{Recorded}
 use Rattle.tl_definitions.specs.Watching.{retuned}
-use Rattle.tl_inputs.specs.Edits.{AnEdit, plain_change, attach}
+use Rattle.tl_inputs.specs.Edits.{plain_change, attach}
 use Rattle.tl_beats.specs.Watches.{link_of}
 use Rattle.tl_inputs.specs.declared.fault.EditFault.TheVariants as fault
 use Rattle.tl_inputs.specs.Inputs.{InputData, watch_at, refusal, most_edits, changed, with_fragments, with_regions, with_monitor, regions_at}

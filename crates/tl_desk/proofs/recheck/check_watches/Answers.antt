@@ -1,4 +1,4 @@
-use Rattle.std.proofs.Common.{◌≡◌, ◌+◌, ◌≤◌, ◌<◌, [], ◌++◌, ◌∷◌, List, Some, true, false, arith, length, refl, subst, ◌∙◌, sym, ap}
+use Rattle.std.proofs.Common.{◌≡◌, ◌+◌, ◌≤◌, [], ◌++◌, ◌∷◌, List, true, false, arith, length, refl, subst, ◌∙◌, sym, ap}
 use Rattle.std.specs.Option.{IsSome}
 use Rattle.tl_pieces.specs.declared.key.PieceKey.{PieceKey}
 use Rattle.tl_pieces.specs.Pieces.{IsSettled}

@@ -1,4 +1,4 @@
-use Rattle.std.proofs.Common.{◌≡◌, ◌++◌, map, ap, ◌∙◌}
+use Rattle.std.proofs.Common.{◌++◌, map, ap, ◌∙◌}
 use Rattle.tl_desk.specs.Boxes.{BoxesData, told}
 use Rattle.tl_desk.proofs.BoxLemmas.{none_left}
 use Rattle.tl_desk.proofs.boxes.Boxes.finish.Goals as goal

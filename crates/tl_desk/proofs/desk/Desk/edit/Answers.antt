@@ -1,6 +1,6 @@
-use Rattle.std.proofs.Common.{◌≡◌, sym, ap, subst, ◌∙◌}
+use Rattle.std.proofs.Common.{◌≡◌, sym, subst, ◌∙◌}
 use Rattle.tl_inputs.specs.Edits.{AnEdit, plain_change}
-use Rattle.tl_inputs.specs.Inputs.{InputData, changed}
+use Rattle.tl_inputs.specs.Inputs.{changed}
 use Rattle.tl_spans.specs.Spans.{standing}
 use Rattle.tl_spans.proofs.EditLemmas.{stands}
 use Rattle.tl_desk.specs.Boxes.{BoxesData}

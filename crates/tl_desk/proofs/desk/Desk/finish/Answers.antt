@@ -1,4 +1,4 @@
-use Rattle.std.proofs.Common.{◌≡◌, ◌++◌, ℕ, map, length, ap, ◌∙◌}
+use Rattle.std.proofs.Common.{◌++◌, ℕ, map, length, ap, ◌∙◌}
 use Rattle.tl_inputs.specs.Log.{LogData}
 use Rattle.tl_desk.specs.Boxes.{told}
 use Rattle.tl_desk.specs.Core.{Core, log_of}

@@ -1,5 +1,4 @@
-use Rattle.std.proofs.Common.{◌≡◌, ◌+◌, ◌<◌, ◌++◌, ◌∷◌, [], List, ℕ, length, sym, ap, subst, ◌∙◌, arith, rules}
-use Rattle.tl_beats.specs.declared.Row.{Row}
+use Rattle.std.proofs.Common.{◌≡◌, ◌+◌, ◌<◌, length, sym, ap, subst, ◌∙◌, rules}
 use Rattle.tl_inputs.specs.Log.{LogData}
 use Rattle.tl_definitions.specs.Report.{IsReport}
 use Rattle.tl_plain.specs.Captured.{captures_after}

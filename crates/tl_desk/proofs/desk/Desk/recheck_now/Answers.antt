@@ -1,4 +1,4 @@
-use Rattle.std.proofs.Common.{◌≡◌, [], List, refl, sym, subst}
+use Rattle.std.proofs.Common.{[], List, refl, sym, subst}
 use Rattle.tl_beats.specs.declared.Row.{Row}
 use Rattle.tl_pieces.specs.Pieces.{Board}
 use Rattle.tl_spans.specs.Recheck.{ChecksSome}

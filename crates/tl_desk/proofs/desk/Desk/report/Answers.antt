@@ -1,5 +1,5 @@
-use Rattle.std.proofs.Common.{◌≡◌, List, ap, subst, sym, ◌∙◌}
-use Rattle.tl_desk.specs.Core.{ReportData, AreVersions}
+use Rattle.std.proofs.Common.{subst, sym}
+use Rattle.tl_desk.specs.Core.{AreVersions}
 use Rattle.tl_desk.proofs.ReportLemmas.{version_found}
 use Rattle.tl_desk.proofs.desk.Desk.report.Goals as goal
 

@@ -4,8 +4,6 @@
 #[cfg(test)]
 mod beats;
 #[cfg(test)]
-mod desk;
-#[cfg(test)]
 mod edits;
 #[cfg(test)]
 mod logs;

@@ -2,7 +2,7 @@
 
 ghost use Rattle.std.specs.Prelude.{◌≡◌};
 
-use std::alloc::AllocFailed;
+use std::alloc::{AllocError, AllocFailed};
 use std::fmt;
 use tl_beats::FragmentFault;
 use tl_report::OnceFault;
@@ -55,6 +55,16 @@ impl<T: Drop> From<AllocFailed<T>> for Fault {
     ghost from_gives = { λ _ fault. fault ≡ record { code = 20; number = None } };
 
     fn from(_error: AllocFailed<T>) -> Fault {
+        Fault::MEMORY
+    }
+}
+
+impl From<AllocError> for Fault {
+    ghost use Rattle.std.specs.Prelude.{None};
+
+    ghost from_gives = { λ _ fault. fault ≡ record { code = 20; number = None } };
+
+    fn from(_error: AllocError) -> Fault {
         Fault::MEMORY
     }
 }

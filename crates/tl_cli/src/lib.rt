@@ -6,6 +6,7 @@ mod fault;
 mod files;
 mod flow_entries;
 mod format_entries;
+mod monitors;
 mod permission_entries;
 mod refusal_entries;
 mod run;

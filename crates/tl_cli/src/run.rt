@@ -5,15 +5,19 @@ ghost use Rattle.tl_cli.specs.Status.{status_of};
 
 use crate::fault::Fault;
 use crate::files::{fault_of, fragments_of, script_of, topology_of};
+use crate::monitors::{attached_in, settlement_lines};
 use crate::showing::{show_audit, show_once, show_script};
 use crate::words::{Command, not_utf8, read_words};
 use std::alloc::Global;
 use std::io;
 use std::rt::Files;
+use std::sync::Arc;
+use tl_beats::Watch;
+use tl_monitor::{After, Budget, Monitor};
 use tl_report::run_once;
 use tl_run::{Outcome, audit_script, run_script};
 use tl_text::{ByteIn, ByteOut, read_text, write_all};
-use tl_topology::read_topo;
+use tl_topology::{Topo, read_topo};
 
 /// The most bytes of standard input.
 const MOST_INPUT: u64 = 67_108_864;
@@ -64,6 +68,44 @@ fn once_of_files<R: Files + AllocGlobal, O: ByteOut>(
     Ok(report_of(rows))
 }
 
+/// The run of a script with the monitors that it attaches, and behind a run that did not stop what each of them told.
+fn run_of_script<O: ByteOut>(
+    alloc: Global,
+    topo: &Topo,
+    script: &[u8],
+    show: bool,
+    out: &mut O,
+) -> Result<Outcome, Fault>
+    requires { O.failure_count out.old < 2 ^ 63 }
+{
+    let attached = attached_in(alloc, script)?;
+    let mut boxes: Vec<Box<dyn Monitor + Send>> = Vec::new(alloc);
+    for monitor in &attached {
+        let cell = Arc::try_clone(&monitor.cell)?;
+        let boxed: Box<dyn Monitor + Send> = match monitor.watch {
+            Watch::Budget { link, class, limit } => {
+                Box::new(alloc, Budget::new(link, class, limit, cell))?
+            }
+            Watch::After {
+                link,
+                first,
+                second,
+            } => Box::new(alloc, After::new(link, first, second, cell))?,
+        };
+        boxes.push(boxed)?;
+    }
+    let outcome = if show {
+        show_script(alloc, topo, script, boxes, out)?
+    } else {
+        run_script(alloc, topo, script, boxes, out)?
+    };
+    if outcome.stop.is_none() {
+        let lines = settlement_lines(alloc, &attached)?;
+        write_all(out, lines.as_bytes())?;
+    }
+    Ok(outcome)
+}
+
 /// The run of a file's script.
 fn run_of_files<R: Files + AllocGlobal, O: ByteOut>(
     rt: &R,
@@ -76,12 +118,7 @@ fn run_of_files<R: Files + AllocGlobal, O: ByteOut>(
 {
     let topo = topology_of(rt, topology)?;
     let script = script_of(rt, script)?;
-    let outcome = if show {
-        show_script(rt.alloc(), &topo, &script, out)?
-    } else {
-        run_script(rt.alloc(), &topo, &script, out)?
-    };
-    Ok(outcome)
+    run_of_script(rt.alloc(), &topo, &script, show, out)
 }
 
 /// What checking everything anew finds behind so many accepted edits of a file's script.
@@ -117,8 +154,7 @@ fn run_of_input<I: ByteIn, O: ByteOut>(
 {
     let text = read_text(alloc, input, MOST_INPUT)?;
     let (topo, used) = read_topo(alloc, &text)?;
-    let outcome = run_script(alloc, &topo, &text[used..], out)?;
-    Ok(outcome)
+    run_of_script(alloc, &topo, &text[used..], false, out)
 }
 
 /// Tells of a fault in one line; that this can't be written changes nothing.

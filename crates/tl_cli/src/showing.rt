@@ -1,15 +1,18 @@
 //! Reports whose rows are shown.
 
-ghost use Rattle.std.specs.Prelude.{◌<◌, ◌^◌};
+ghost use Rattle.std.specs.Prelude.{◌≡◌, ◌<◌, ◌^◌, OnOk};
 ghost use Rattle.tl_script.specs.Text.{IsCommand};
 
 use crate::sentences::{first_line, shown};
 use std::alloc::{AllocError, Global};
 use std::sync::Arc;
 use tl_beats::Fragment;
+use tl_monitor::Monitor;
 use tl_plain::scratch;
 use tl_report::{OnceFault, Report, all_added};
-use tl_run::{Asked, AuditFault, Outcome, Session, Stop, StopCause, asked_by, log_of};
+use tl_run::{
+    AuditFault, CommandFault, Outcome, Session, Stop, StopCause, asked_by, log_of,
+};
 use tl_script::{Command, read_command};
 use tl_show::{shown_audit, shown_report};
 use tl_text::{ByteOut, Word, WriteFault, write_all, write_words};
@@ -27,7 +30,7 @@ pub(crate) fn show_once<O: ByteOut>(
     let log = all_added(alloc, topo, fragments)?;
     let inputs = log.inputs();
     let rows = scratch(alloc, inputs)?;
-    let report = Report::new(1, fragments.len() as u64, rows);
+    let report = Report::new(alloc, 1, fragments.len() as u64, rows)?;
     let text = shown_report(alloc, inputs.topo(), inputs.present(), &report)?;
     write_all(out, text.as_bytes())?;
     Ok(report.rows().len() as u64)
@@ -51,23 +54,37 @@ pub(crate) fn show_audit<O: ByteOut>(
     Ok(rows.len() as u64)
 }
 
+/// The version of the last report, or 0.
+fn version_of<M: Monitor>(session: &Session<M>) -> u64 {
+    session.last().map_or(0, |report| report.version())
+}
+
 /// The lines of one command more; those of a report are shown.
-fn command_lines(
+fn command_lines<M: Monitor>(
     alloc: Global,
-    session: &mut Session,
+    session: &mut Session<M>,
     command: &Command<'_>,
-) -> Result<String, AllocError>
+) -> Result<String, CommandFault>
     requires { IsCommand command.now }
 {
     let asked = asked_by(alloc, command)?;
-    let is_report = matches!(asked, Asked::Report);
-    let version = session.last().version();
+    let version = version_of(session);
     let lines = session.lines_of(alloc, asked)?;
-    if !is_report || session.last().version() == version {
-        return Ok(lines);
-    }
     let inputs = session.inputs();
-    shown_report(alloc, inputs.topo(), inputs.present(), session.last())
+    match session.last() {
+        Some(report) if report.version() != version => {
+            Ok(shown_report(alloc, inputs.topo(), inputs.present(), report)?)
+        }
+        _ => Ok(lines),
+    }
+}
+
+/// Why a run stops whose command has no lines.
+fn cause_of(fault: CommandFault) -> StopCause {
+    match fault {
+        CommandFault::WrongBox => StopCause::WrongBox,
+        CommandFault::Memory => StopCause::Memory,
+    }
 }
 
 /// The first words of the line of a stop.
@@ -76,6 +93,7 @@ fn stop_front(cause: StopCause) -> &'static [u8] {
         StopCause::Memory => b"stopped 20 at ".as_slice(),
         StopCause::BadCommand => b"stopped 41 at ".as_slice(),
         StopCause::Truncated => b"stopped 42 at ".as_slice(),
+        StopCause::WrongBox => b"stopped 36 at ".as_slice(),
     }
 }
 
@@ -85,6 +103,7 @@ fn stop_sentence(alloc: Global, cause: StopCause, rest: &[u8]) -> Result<String,
         StopCause::Memory => return Ok(String::new(alloc)),
         StopCause::BadCommand => "this is no command: tlcheck explain 41 has the form of each",
         StopCause::Truncated => "the script ends inside this command",
+        StopCause::WrongBox => "the next monitor is missing or watches something else",
     };
     let own = shown(first_line(rest));
     format!(in alloc; "  {own}\n  {what}\n")
@@ -99,6 +118,7 @@ fn stop_there<O: ByteOut>(
     out: &mut O,
 ) -> Result<Outcome, WriteFault>
     requires { O.failure_count out.old < 2 ^ 63 }
+    ensures { OnOk result (O.failure_count out.new ≡ O.failure_count out.old) }
 {
     write_all(out, stop_front(stop.cause))?;
     write_words(out, &[Word::Decimal(stop.command)])?;
@@ -111,22 +131,16 @@ fn stop_there<O: ByteOut>(
     })
 }
 
-/// The run of a script, whose reports are shown.
-pub(crate) fn show_script<O: ByteOut>(
+/// Runs the commands of a script up to its end or its stop; its reports are shown.
+fn show_commands<M: Monitor, O: ByteOut>(
     alloc: Global,
-    topo: &Topo,
+    session: &mut Session<M>,
     script: &[u8],
     out: &mut O,
 ) -> Result<Outcome, WriteFault>
     requires { O.failure_count out.old < 2 ^ 63 }
+    ensures { OnOk result (O.failure_count out.new ≡ O.failure_count out.old) }
 {
-    let Ok(mut session) = Session::new(alloc, topo) else {
-        let stop = Stop {
-            cause: StopCause::Memory,
-            command: 1,
-        };
-        return stop_there(alloc, 0, stop, script, out);
-    };
     let mut rest = script;
     for done in 0..u64::MAX {
         let last_rows = session.last_rows();
@@ -146,12 +160,15 @@ pub(crate) fn show_script<O: ByteOut>(
                 stop: None,
             });
         };
-        let Ok(lines) = command_lines(alloc, &mut session, &command) else {
-            let stop = Stop {
-                cause: StopCause::Memory,
-                command: done + 1,
-            };
-            return stop_there(alloc, last_rows, stop, rest, out);
+        let lines = match command_lines(alloc, session, &command) {
+            Ok(lines) => lines,
+            Err(fault) => {
+                let stop = Stop {
+                    cause: cause_of(fault),
+                    command: done + 1,
+                };
+                return stop_there(alloc, last_rows, stop, rest, out);
+            }
         };
         write_all(out, lines.as_bytes())?;
         rest = &rest[taken..];
@@ -160,4 +177,28 @@ pub(crate) fn show_script<O: ByteOut>(
         last_rows: session.last_rows(),
         stop: None,
     })
+}
+
+/// The run of a script with the monitors that its commands attach; its reports are shown. At the end each monitor that is still
+/// attached is closed, and all are dropped.
+pub(crate) fn show_script<M: Monitor, O: ByteOut>(
+    alloc: Global,
+    topo: &Topo,
+    script: &[u8],
+    boxes: Vec<M>,
+    out: &mut O,
+) -> Result<Outcome, WriteFault>
+    requires { O.failure_count out.old < 2 ^ 63 }
+    ensures { OnOk result (O.failure_count out.new ≡ O.failure_count out.old) }
+{
+    let Ok(mut session) = Session::new(alloc, topo, boxes) else {
+        let stop = Stop {
+            cause: StopCause::Memory,
+            command: 1,
+        };
+        return stop_there(alloc, 0, stop, script, out);
+    };
+    let come = show_commands(alloc, &mut session, script, out);
+    session.finish();
+    come
 }

@@ -15,7 +15,8 @@ use Rattle.tl_watches.specs.Watches.{WatchesData}
 use Rattle.tl_desk.specs.Boxes.{BoxesData}
 use Rattle.tl_desk.specs.Steps.{KeepsBoxes}
 use Rattle.tl_desk.proofs.AttachedLemmas.{still_attached}
-use Rattle.tl_desk.specs.Core.{Core, ReportData, IsOf, IsSound, AreAttached, AreVersions, log_of, standing, most_versions}
+use Rattle.tl_report.specs.Output.{ReportData}
+use Rattle.tl_desk.specs.Core.{Core, AreLinked, IsOf, IsSound, AreAttached, AreVersions, log_of, standing, most_versions}
 
 still_of : (log : LogData) (e : AnEdit) (report : ReportData) → IsOf log report → IsOf (record log { edits = log.edits ++ e ∷ [] }) report
 still_of log e report is =
@@ -23,6 +24,7 @@ still_of log e report is =
     let more : length (log.edits ++ e ∷ []) ≡ length log.edits + 1 = length-append log.edits (e ∷ []) in (
       omega (arith, within, more),
       subst (λ edits. IsReport (captures_after (inputs_after log.topo edits)) report.rows) (sym (take-append-le report.edit log.edits (e ∷ []) within)) is.1,
+      is.2,
     )
 
 -- What a report says of its edits stays true when others come.
@@ -59,14 +61,14 @@ version_found (Some x) reports place version are there at low is =
 
 -- A desk with one report more.
 pub published : (old : Core) (report : ReportData) → IsSound old → report.version ≡ length old.reports + 1 → report.edit ≡ length (log_of old).edits
-    → IsReport (captures_after (standing old)) report.rows → length old.reports < most_versions → IsSound (record old { reports = old.reports ++ report ∷ [] })
-published old report sound version edit rows few =
+    → IsReport (captures_after (standing old)) report.rows → AreLinked (log_of old).topo report.rows → length old.reports < most_versions → IsSound (record old { reports = old.reports ++ report ∷ [] })
+published old report sound version edit rows linked few =
     let whole : take report.edit (log_of old).edits ≡ (log_of old).edits = ap (λ n. take n (log_of old).edits) edit ∙ take-length (log_of old).edits in
     let longer : length (old.reports ++ report ∷ []) ≡ length old.reports + 1 = length-append old.reports (report ∷ []) in
     record {
       attached = sound.attached;
       reports = one_more (IsOf (log_of old)) old.reports report sound.reports
-          (omega (arith, edit), subst (λ edits. IsReport (captures_after (inputs_after (log_of old).topo edits)) report.rows) (sym whole) rows);
+          (omega (arith, edit), subst (λ edits. IsReport (captures_after (inputs_after (log_of old).topo edits)) report.rows) (sym whole) rows, linked);
       versions = next_version 1 old.reports report sound.versions (omega (arith, version));
       few = omega (arith, few, longer);
     }

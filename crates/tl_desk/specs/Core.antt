@@ -1,7 +1,7 @@
 -- A desk as plain data.
-use Rattle.std.specs.Prelude.{ℕ, zero, suc, ◌≡◌, ◌≤◌, ◌-◌, List, [], ◌∷◌, length, take, Option, None, slice_get}
+use Rattle.std.specs.Prelude.{ℕ, zero, suc, ◌≡◌, ◌<◌, ◌≤◌, ◌-◌, List, [], ◌∷◌, length, take, Option, None, slice_get}
 use Rattle.std.specs.Option.{option_map}
-use Rattle.std.specs.List.{AllByRecursion}
+use Rattle.std.specs.List.{All, AllByRecursion}
 use Rattle.tl_beats.specs.declared.Row.{Row}
 use Rattle.tl_definitions.specs.Report.{IsReport}
 use Rattle.tl_topology.specs.Topology.{Topology}
@@ -10,17 +10,12 @@ use Rattle.tl_inputs.specs.Log.{LogData, inputs_after}
 use Rattle.tl_monitor.specs.Held.{Held}
 use Rattle.tl_pieces.specs.Pieces.{IsSettled}
 use Rattle.tl_plain.specs.Captured.{captures_after}
+use Rattle.tl_report.specs.Output.{ReportData}
 use Rattle.tl_spans.specs.Spans as spans
 use Rattle.tl_span.specs.States.{SameSpan}
 use Rattle.tl_watches.specs.Tally.{SameTally}
 use Rattle.tl_watches.specs.Watches.{WatchesData}
 use Rattle.tl_desk.specs.Boxes.{BoxesData, held_at}
-
--- A report: its version, the number of edits that it speaks of, and its rows.
-pub record ReportData : Type 0 where
-  pub version : ℕ
-  pub edit : ℕ
-  pub rows : List Row
 
 -- The log of edits with the windows, the monitors with what they told, and all reports, the oldest first.
 pub record Core : Type 0 where
@@ -35,9 +30,13 @@ log_of core = core.windows.spans.log
 abbrev pub standing : Core → InputData
 standing core = spans.standing core.windows.spans
 
+-- The topology has the links of the rows.
+abbrev pub AreLinked : Topology → List Row → Type 0
+AreLinked topo rows = All (λ row. row.link < length topo.links) rows
+
 -- The report speaks of so many edits of the log, and its rows are those that the definitions find in what these leave.
 abbrev pub IsOf : LogData → ReportData → Type 0
-IsOf log report = (report.edit ≤ length log.edits) × IsReport (captures_after (inputs_after log.topo (take report.edit log.edits))) report.rows
+IsOf log report = (report.edit ≤ length log.edits) × IsReport (captures_after (inputs_after log.topo (take report.edit log.edits))) report.rows × AreLinked log.topo report.rows
 
 -- The versions are these numbers, one after the other.
 abbrev pub AreVersions : ℕ → List ReportData → Type 0

@@ -1,5 +1,5 @@
 -- What each call makes of a desk.
-use Rattle.std.specs.Prelude.{ℕ, ◌≡◌, ◌+◌, [], ◌∷◌, ◌++◌, length, min, None}
+use Rattle.std.specs.Prelude.{ℕ, ◌≡◌, ◌<◌, ◌+◌, [], ◌∷◌, ◌++◌, length, min, None}
 use Rattle.std.specs.Ordering.{nat_cmp}
 use Rattle.std.specs.BTreeMap.{insert_entry}
 use Rattle.tl_beats.specs.declared.watch.Watch.{Watch}
@@ -9,12 +9,13 @@ use Rattle.tl_inputs.specs.Inputs.{refusal}
 use Rattle.tl_monitor.specs.Held.{Held}
 use Rattle.std.specs.Option.{option_map}
 use Rattle.tl_plain.specs.Captured.{captures_after}
+use Rattle.tl_report.specs.Output.{ReportData}
 use Rattle.tl_span.specs.States.{SameSpan}
 use Rattle.tl_spans.specs.Recheck.{Rechecks, ChecksSome}
 use Rattle.tl_watches.specs.Edits.{EditsBoth}
 use Rattle.tl_watches.specs.Tally.{SameTally}
 use Rattle.tl_desk.specs.Boxes.{BoxesData, held_at, without_tally, retuned_at, ended_at}
-use Rattle.tl_desk.specs.Core.{Core, ReportData, AllSettled, log_of, standing}
+use Rattle.tl_desk.specs.Core.{Core, AllSettled, most_versions, log_of, standing}
 use Rattle.tl_desk.specs.declared.edits.BoxChange.{BoxChange}
 use Rattle.tl_desk.specs.declared.edits.BoxChange.TheVariants as change
 use Rattle.tl_desk.specs.declared.call.Call.{Call}
@@ -49,8 +50,9 @@ pub record Edits (old : Core) (e : AnEdit) (number : ℕ) (new : Core) : Type 0 
 abbrev pub Attaches : ℕ → Watch → BoxesData → BoxesData → Type 0
 Attaches monitor w old new = (held : Held) × (held.watch ≡ w) × (new ≡ record old { live = insert_entry nat_cmp old.live monitor held })
 
--- The next report is published, where all windows are settled: it speaks of all edits.
+-- The next report is published, where there is room for one and all windows are settled: it speaks of all edits.
 pub record Publishes (old : Core) (version : ℕ) (new : Core) : Type 0 where
+  pub room : length old.reports < most_versions
   pub next : version ≡ length old.reports + 1
   pub settled : AllSettled old
   pub report : ReportData

@@ -7,14 +7,14 @@ ghost use Rattle.tl_definitions.specs.Report.{IsReport};
 ghost use Rattle.tl_inputs.specs.Log.{inputs_after};
 ghost use Rattle.tl_plain.specs.Captured.{captures_after};
 ghost use Rattle.tl_desk.specs.Boxes.{told};
-ghost use Rattle.tl_desk.specs.Core.{log_of, latest_of, report_of, AllSettled, IsNew};
+ghost use Rattle.tl_desk.specs.Core.{log_of, latest_of, report_of, AllSettled, AreLinked, IsNew};
 
 use crate::boxes::Boxes;
-use crate::report::Report;
 use std::alloc::{AllocError, Global};
 use std::marker::Model;
 use tl_inputs::Log;
 use tl_monitor::{Monitor, Settlement};
+use tl_report::Report;
 use tl_topology::Topo;
 use tl_watches::Watches;
 
@@ -77,6 +77,8 @@ impl<M: Monitor> Desk<M> {
         ensures last { option_map (λ r. r.now) result ≡ latest_of self.now.reports }
         ensures exact { IfSome result (λ report. (report.now.edit ≤ length self.now.windows.spans.log.edits)
             × IsReport (captures_after (inputs_after self.now.windows.spans.log.topo (take report.now.edit self.now.windows.spans.log.edits))) report.now.rows) }
+        // The topology has the links of its rows.
+        ensures links { IfSome result (λ report. AreLinked self.now.windows.spans.log.topo report.now.rows) }
     {
         let _ = &self.windows;
         let _ = &self.boxes;
@@ -90,6 +92,8 @@ impl<M: Monitor> Desk<M> {
         ensures version { IfSome result (λ report. report.now.version ≡ version) }
         ensures exact { IfSome result (λ report. (report.now.edit ≤ length self.now.windows.spans.log.edits)
             × IsReport (captures_after (inputs_after self.now.windows.spans.log.topo (take report.now.edit self.now.windows.spans.log.edits))) report.now.rows) }
+        // The topology has the links of its rows.
+        ensures links { IfSome result (λ report. AreLinked self.now.windows.spans.log.topo report.now.rows) }
     {
         let _ = &self.windows;
         let _ = &self.boxes;

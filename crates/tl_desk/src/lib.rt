@@ -8,9 +8,8 @@ mod edits;
 mod fault;
 mod publish;
 mod recheck;
-mod report;
 
 pub use call::Call;
 pub use desk::Desk;
 pub use fault::PublishFault;
-pub use report::Report;
+pub use tl_report::Report;

@@ -4,16 +4,16 @@ ghost use Rattle.std.specs.Prelude.{◌≡◌, ◌≤◌, IfOk, OnErr, length};
 ghost use Rattle.std.specs.Result.{IsErrOf};
 ghost use Rattle.tl_definitions.specs.Report.{IsReport};
 ghost use Rattle.tl_plain.specs.Captured.{captures_after};
-ghost use Rattle.tl_desk.specs.Core.{standing, most_versions, AllSettled};
+ghost use Rattle.tl_desk.specs.Core.{log_of, standing, most_versions, AllSettled, AreLinked};
 ghost use Rattle.tl_desk.specs.Steps.{Step};
 ghost use Rattle.tl_desk.specs.declared.call.Call.TheVariants as call;
 
 use crate::desk::Desk;
 use crate::fault::PublishFault;
-use crate::report::Report;
 use std::alloc::{AllocError, Global};
 use tl_beats::Row;
 use tl_monitor::Monitor;
+use tl_report::Report;
 
 /// As many reports as are published in all.
 const MOST_VERSIONS: usize = 65_536;
@@ -43,7 +43,8 @@ impl<M: Monitor> Desk<M> {
     /// The rows of all windows, in the order of reports.
     fn found(&self, alloc: Global) -> Result<Vec<Row>, AllocError>
         requires { AllSettled self.now }
-        ensures { IfOk result (λ rows. IsReport (captures_after (standing self.now)) rows.items) }
+        ensures exact { IfOk result (λ rows. IsReport (captures_after (standing self.now)) rows.items) }
+        ensures links { IfOk result (λ rows. AreLinked (log_of self.now).topo rows.items) }
     {
         let _ = &self.boxes;
         let _ = &self.reports;

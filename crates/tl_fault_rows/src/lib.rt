@@ -1,6 +1,9 @@
-//! Tests of faults: the words that they print, and that each read and each write that fails is told.
+//! Tests of faults: the words that they print, that each read and each write that fails is told, and that a run stops at a monitor
+//! that is missing.
 #![tactic(auto)]
 
+#[cfg(test)]
+mod boxes;
 #[cfg(test)]
 mod printed;
 #[cfg(test)]

@@ -7,6 +7,7 @@ use std::sync::Arc;
 use std::test::Fail;
 use tl_beats::parse_whole_fragment;
 use tl_cli::run_words;
+use tl_monitor::Budget;
 use tl_report::{OnceFault, run_once};
 use tl_run::{AuditFault, audit_script, run_script};
 use tl_text::{ByteOut, CountedReader, CountedWriter, WriteFault};
@@ -121,7 +122,8 @@ fn each_write_of_a_run_that_fails_is_told(rt: HostRuntime) -> Result<(), Fail> {
         for room in 0..=LINES.len() {
             let mut slow = writer_with(rt.alloc(), room, full);
             let mut out = CountedWriter::new(&mut slow);
-            let answer = run_script(rt.alloc(), &topo, SCRIPT.as_bytes(), &mut out);
+            let boxes: Vec<Budget> = Vec::new(rt.alloc());
+            let answer = run_script(rt.alloc(), &topo, SCRIPT.as_bytes(), boxes, &mut out);
             if room == LINES.len() {
                 assert!(rt; answer.is_ok_and(|outcome| outcome.last_rows == 1));
             } else {

@@ -7,8 +7,8 @@ use Rattle.tl_tables.specs.Rules.{rule_text_of}
 use Rattle.tl_topology.specs.Topology.{Topology}
 use Rattle.tl_beats.specs.declared.Row.{Row}
 
--- a report without where it lies in memory
-pub record Rows : Type 0 where
+-- A report: its version, the number of edits that it speaks of, and its rows.
+pub record ReportData : Type 0 where
   pub version : ℕ
   pub edit : ℕ
   pub rows : List Row
@@ -33,11 +33,11 @@ newline = 10 ∷ []
 unfoldable pub row_text : Topology → Row → List ℕ
 row_text topo row = joined (link_text topo row.link ∷ codes " " ∷ decimal row.fragment ∷ codes " " ∷ decimal row.line ∷ codes " " ∷ rule_text_of row.rule ∷ monitor_text row.monitor ∷ newline ∷ [])
 
-unfoldable pub head_text : Rows → List ℕ
+unfoldable pub head_text : ReportData → List ℕ
 head_text report = joined (codes "report " ∷ decimal report.version ∷ codes " edit " ∷ decimal report.edit ∷ codes " rows " ∷ decimal (length report.rows) ∷ newline ∷ [])
 
 -- a line that counts the rows, and a line for each
-unfoldable pub report_bytes : Topology → Rows → List ℕ
+unfoldable pub report_bytes : Topology → ReportData → List ℕ
 report_bytes topo report = head_text report ++ flat_map (row_text topo) report.rows
 
 -- ---- what checking everything anew after so many edits finds

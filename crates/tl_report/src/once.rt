@@ -111,7 +111,7 @@ pub fn run_once<O: ByteOut>(
 {
     let log = all_added(alloc, topo, fragments)?;
     let rows = scratch(alloc, log.inputs())?;
-    let report = Report::new(1, fragments.len() as u64, rows);
+    let report = Report::new(alloc, 1, fragments.len() as u64, rows)?;
     let text = report_text(alloc, topo, &report)?;
     write_all(out, text.as_bytes())?;
     Ok(report.rows().len() as u64)

@@ -6,36 +6,44 @@ ghost use Rattle.tl_report.specs.Output.{row_text, head_text, report_bytes, audi
 
 use std::alloc::{AllocError, Global};
 use std::marker::Model;
+use std::sync::Arc;
 use tl_beats::Row;
 use tl_tables::rule_text;
 use tl_topology::Topo;
 
-/// A published report: its version, the number of accepted edits that it speaks of, and its rows in their order.
+/// A published report: its version, the number of accepted edits that it speaks of, and its rows in their order. Copies share
+/// the rows.
 #[derive(Drop)]
 pub struct Report {
     version: u64,
     edit: u64,
-    rows: Vec<Row>,
+    rows: Arc<Vec<Row>>,
 }
 
 impl Model for Report {
-    ghost use Rattle.tl_report.specs.Output.{Rows};
+    ghost use Rattle.std.specs.Arc.{arc_value};
+    ghost use Rattle.tl_report.specs.Output.{ReportData};
 
-    ghost Value = { Rows };
+    ghost Value = { ReportData };
 
-    ghost view = { λ r. record { version = r.version; edit = r.edit; rows = r.rows.items } };
+    ghost view = { λ r. record { version = r.version; edit = r.edit; rows = (arc_value r.rows).items } };
 }
 
 impl Report {
-    /// The report with these parts.
-    pub fn new(version: u64, edit: u64, rows: Vec<Row>) -> Report
-        ensures { result ≡ record { version = version; edit = edit; rows = rows.items } }
+    /// The report with these parts. AllocError where memory is refused.
+    pub fn new(
+        alloc: Global,
+        version: u64,
+        edit: u64,
+        rows: Vec<Row>,
+    ) -> Result<Report, AllocError>
+        ensures { IfOk result (λ report. report ≡ record { version = version; edit = edit; rows = rows.items }) }
     {
-        Report {
+        Ok(Report {
             version,
             edit,
-            rows,
-        }
+            rows: Arc::new(alloc, rows)?,
+        })
     }
 
     /// Its version, from 1.
@@ -45,11 +53,11 @@ impl Report {
         self.version
     }
 
-    /// The same rows of the same edits, published again as this version.
-    pub fn publish_again(&mut self, version: u64)
-        ensures { self.new ≡ record self.old { version = version } }
+    /// How many edits had been accepted when it was published.
+    pub fn edit(&self) -> u64
+        ensures { result ≡ self.now.edit }
     {
-        self.version = version;
+        self.edit
     }
 
     /// Its rows, in their order.
@@ -57,6 +65,17 @@ impl Report {
         ensures { result.now ≡ self.now.rows }
     {
         self.rows.as_slice()
+    }
+
+    /// The same report; its rows are shared and not copied. AllocError where memory is refused.
+    pub fn copy(&self) -> Result<Report, AllocError>
+        ensures { IfOk result (λ copy. copy ≡ self.now) }
+    {
+        Ok(Report {
+            version: self.version,
+            edit: self.edit,
+            rows: Arc::try_clone(&self.rows)?,
+        })
     }
 }
 

@@ -163,7 +163,7 @@ fn an_unknown_link_is_refused(rt: HostRuntime) -> Result<(), Fail> {
 #[test]
 fn reports_have_their_text(rt: HostRuntime) -> Result<(), Fail> {
     let (topo, _) = read_topo(rt.alloc(), ONE_MANAGER.as_bytes())?;
-    let report = Report::new(3, 2, Vec::new(rt.alloc()));
+    let report = Report::new(rt.alloc(), 3, 2, Vec::new(rt.alloc()))?;
     assert!(rt; report.rows().is_empty());
     let text = report_text(rt.alloc(), &topo, &report)?;
     assert!(rt; text.as_str() == "report 3 edit 2 rows 0\n");

@@ -1,3 +1,4 @@
 pub mod OutputLaws
 pub mod RunLaws
+pub mod SessionLaws
 pub mod LineLaws

@@ -11,7 +11,8 @@ use Rattle.tl_plain.specs.Captured.{captures_after}
 use Rattle.tl_report.specs.Output.{report_bytes}
 use Rattle.tl_script.specs.declared.command.Command.{Command}
 use Rattle.tl_run.specs.Commands.{Asking, an_edit, no_fragment, a_report, asked}
-use Rattle.tl_run.specs.Output.{Progress, IsEdit, IsRenewed, IsPublish, IsStep, IsOutput, OneOutput, RunsKeepEdits, edits_with, accepted, most_reports}
+use Rattle.tl_desk.specs.Core.{most_versions}
+use Rattle.tl_run.specs.Output.{Progress, IsEdit, IsRenewed, IsPublish, IsStep, IsOutput, OneOutput, RunsKeepEdits, edits_with, accepted}
 
 one_edit : (now : Progress) (e : AnEdit) (why : Option EditFault) (one two : List ℕ) (here there : Progress) → IsEdit now e why one here → IsEdit now e why two there → (one ≡ two) × (here ≡ there)
 one_edit now e None one two here there p q = (p.0 ∙ sym q.0, p.1 ∙ sym q.1)
@@ -32,7 +33,7 @@ one_step : (topo : Topology) (now : Progress) (asks : Asking) (one two : List �
 unfolding IsStep
 one_step topo now (an_edit e) one two here there p q = one_edit now e (refusal (length now.edits) (inputs_after topo now.edits) e) one two here there p q
 one_step topo now (no_fragment fault) one two here there p q = (p.0 ∙ sym q.0, p.1 ∙ sym q.1)
-one_step topo now a_report one two here there p q = one_publish topo now (nat_lt now.reports most_reports) one two here there p q
+one_step topo now a_report one two here there p q = one_publish topo now (nat_lt now.reports most_versions) one two here there p q
 
 pub one_output : OneOutput
 one_output topo now [] one two here there p q = (p.0 ∙ sym q.0, p.1 ∙ sym q.1)
@@ -56,7 +57,7 @@ edits_stepped : (topo : Topology) (now : Progress) (asks : Asking) (line : List 
 unfolding IsStep
 edits_stepped topo now (an_edit e) line next p = edits_by now.edits e now next (refusal (length now.edits) (inputs_after topo now.edits) e) line refl p
 edits_stepped topo now (no_fragment fault) line next p = ap (λ (n : Progress). n.edits) p.1
-edits_stepped topo now a_report line next p = edits_published topo now (nat_lt now.reports most_reports) line next p
+edits_stepped topo now a_report line next p = edits_published topo now (nat_lt now.reports most_versions) line next p
 
 pub runs_keep_edits : RunsKeepEdits
 runs_keep_edits topo now [] text next p = ap (λ (n : Progress). n.edits) p.1

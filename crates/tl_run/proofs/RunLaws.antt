@@ -2,6 +2,8 @@
 use Rattle.std.proofs.Common.{◌≡◌, ℕ, ◌+◌, ◌-◌, ◌<◌, ◌≤◌, List, [], ◌∷◌, ◌++◌, append_assoc, append-nil, length, length-append, length-drop, take, drop, Option, Some, None, Result, Ok, Err, refl, sym, ap, ◌∙◌, subst, arith}
 use Rattle.std.proofs.Math.Seq.{take-append_seam, take-length}
 use Rattle.std.specs.Option.{option_map}
+use Rattle.std.specs.Prelude.{slice_get}
+use Rattle.std.proofs.lemmas.Grind.{flat_map-append}
 use Rattle.std.proofs.lemmas.Option.{same_Some}
 use Rattle.tl_topology.specs.Topology.{Topology}
 use Rattle.std.specs.Io.KnownBytes.{Appends}
@@ -11,10 +13,11 @@ use Rattle.tl_script.specs.Reading.{command_in}
 use Rattle.tl_script.specs.Scripts.{Script, script_by, commands_of, fault_of}
 use Rattle.tl_script.proofs.CommandTexts.{takes_some}
 use Rattle.tl_script.proofs.ScriptLaws.{first_command_then_others}
-use Rattle.tl_run.specs.Commands.{asked}
+use Rattle.tl_beats.specs.declared.watch.Watch.{Watch}
+use Rattle.tl_run.specs.Commands.{asked, attached_by, watches_of}
 use Rattle.tl_inputs.specs.Edits.{AnEdit}
 use Rattle.tl_run.specs.Audits.{edits_of, IsStopAt}
-use Rattle.tl_run.specs.Output.{Progress, start, IsStep, IsOutput, accepted, edits_with}
+use Rattle.tl_run.specs.Output.{Progress, RunData, start, IsStep, IsOutput, TakesBox, LacksBox, accepted, edits_with}
 use Rattle.tl_script.specs.Text.{IsCommand}
 use Rattle.tl_script.proofs.CommandTexts.{reads_are_spelled}
 use Rattle.tl_script.specs.declared.fault.ScriptFault.TheVariants as fault
@@ -22,7 +25,7 @@ use Rattle.tl_run.specs.declared.stop.Outcome.{Outcome}
 use Rattle.tl_run.specs.declared.stop.Stop.{Stop}
 use Rattle.tl_run.specs.declared.stop.StopCause.{StopCause}
 use Rattle.tl_run.specs.declared.stop.StopCause.TheVariants as cause
-use Rattle.tl_run.specs.Stops.{IsSaid, IsFront, IsCut, IsOutcome, HasCome, Stops, StopsFor, commands_before, of_script, last_text}
+use Rattle.tl_run.specs.Stops.{HaveBoxes, IsUnboxed, IsSaid, IsFront, IsCut, IsOutcome, HasCome, Stops, StopsFor, commands_before, of_script, last_text}
 use Rattle.tl_run.proofs.LineLaws.{nothing_said}
 use Rattle.tl_run.proofs.OutputLaws.{output_more}
 
@@ -83,30 +86,41 @@ few_are script rest before count is =
 
 -- ---- and their lines
 
--- A run up to some command: what was read, the lines of it, and where they are.
-pub record Ran (topo : Topology) (script rest : List ℕ) (done : ℕ) (now : Progress) (old new : Option (List ℕ)) (gathered : List ℕ) : Type 0 where
+-- the monitors that one command more leaves
+have_more : (boxes left after : List Watch) (before : List Command) (c : Command) → boxes ≡ watches_of before ++ left → TakesBox left (asked c) after → boxes ≡ watches_of (before ++ c ∷ []) ++ after
+have_more boxes left after before c have takes =
+    have
+    ∙ ap (λ ws. watches_of before ++ ws) takes
+    ∙ sym (append_assoc (watches_of before) (attached_by (asked c)) after)
+    ∙ ap (λ ws. ws ++ after) (ap (λ ws. watches_of before ++ ws) (sym (append-nil (attached_by (asked c)))) ∙ sym (flat_map-append (λ c. attached_by (asked c)) before (c ∷ [])))
+
+-- A run up to some command: what was read, the lines of it, where they are, and the monitors that are left.
+pub record Ran (topo : Topology) (script rest : List ℕ) (done : ℕ) (boxes left : List Watch) (now : Progress) (old new : Option (List ℕ)) (gathered : List ℕ) : Type 0 where
   pub before : List Command
   pub lines : List ℕ
   pub read : IsRead script rest before done
+  pub have : boxes ≡ watches_of before ++ left
   pub output : IsOutput topo start before lines now
   pub said : IsSaid old new gathered lines
 
-pub ran_none : (topo : Topology) (script gathered : List ℕ) (now : Progress) (old : Option (List ℕ)) → now ≡ start → gathered ≡ [] → Ran topo script script 0 now old old gathered
-ran_none topo script gathered now old fresh empty = record {
+pub ran_none : (topo : Topology) (script gathered : List ℕ) (boxes : List Watch) (now : Progress) (old : Option (List ℕ)) → now ≡ start → gathered ≡ [] → Ran topo script script 0 boxes boxes now old old gathered
+ran_none topo script gathered boxes now old fresh empty = record {
   before = [];
   lines = [];
   read = none_read script;
+  have = refl;
   output = (refl, fresh);
   said = subst (λ l. IsSaid old old l []) (sym empty) (nothing_said old);
 }
 
-pub ran_more : (topo : Topology) (script rest : List ℕ) (done : ℕ) (now next : Progress) (old new then : Option (List ℕ)) (gathered left : List ℕ) (c : Command) (taken : ℕ) (line : List ℕ)
-    → (ran : Ran topo script rest done now old new gathered) → command_in rest ≡ Ok (Some (c, taken)) → IsStep topo now (asked c) line next
-    → ((before : List ℕ) → IsSaid old new gathered before → IsSaid old then left (before ++ line)) → Ran topo script (drop taken rest) (done + 1) next old then left
-ran_more topo script rest done now next old new then gathered left c taken line ran e step told = record {
+pub ran_more : (topo : Topology) (script rest : List ℕ) (done : ℕ) (boxes left after : List Watch) (now next : Progress) (old new then : Option (List ℕ)) (gathered kept : List ℕ) (c : Command) (taken : ℕ) (line : List ℕ)
+    → (ran : Ran topo script rest done boxes left now old new gathered) → command_in rest ≡ Ok (Some (c, taken)) → IsStep topo now (asked c) line next → TakesBox left (asked c) after
+    → ((before : List ℕ) → IsSaid old new gathered before → IsSaid old then kept (before ++ line)) → Ran topo script (drop taken rest) (done + 1) boxes after next old then kept
+ran_more topo script rest done boxes left after now next old new then gathered kept c taken line ran e step takes told = record {
   before = ran.before ++ c ∷ [];
   lines = ran.lines ++ line;
   read = one_read script rest ran.before done c taken ran.read e;
+  have = have_more boxes left after ran.before c ran.have takes;
   output = output_more topo start ran.before ran.lines now c line next ran.output step;
   said = told ran.lines ran.said;
 }
@@ -114,20 +128,32 @@ ran_more topo script rest done now next old new then gathered left c taken line 
 one_back : (n : ℕ) → (n + 1) - 1 ≡ n
 one_back n = omega arith
 
+-- what stands behind so many others is found at their number
+got_there : {X : Type 0} (before : List X) (x : X) (rest : List X) (count : ℕ) → length before ≡ count → slice_get ((before ++ x ∷ []) ++ rest) count ≡ Some x
+got_there before x rest count counted = ap (slice_get ((before ++ x ∷ []) ++ rest)) (sym counted) ∙ go before
+  where
+    go : (xs : List X) → slice_get ((xs ++ x ∷ []) ++ rest) (length xs) ≡ Some x
+    go [] = refl
+    go (y ∷ ys) = go ys
+
 -- ---- the ends of a run
 
-module _ (topo : Topology) (script rest : List ℕ) (done : ℕ) (now : Progress) (old new : Option (List ℕ)) (gathered : List ℕ) (ran : Ran topo script rest done now old new gathered) where
+module _ (topo : Topology) (script rest : List ℕ) (done : ℕ) (boxes left : List Watch) (now : Progress) (old new : Option (List ℕ)) (gathered : List ℕ) (ran : Ran topo script rest done boxes left now old new gathered) where
   -- the lines of the commands before this one
   so_far : IsOutput topo start (take ((done + 1) - 1) (commands_of script).commands) ran.lines now
   so_far = subst (λ cs. IsOutput topo start cs ran.lines now) (sym (ap (λ n. take n (commands_of script).commands) (one_back done) ∙ first_are script rest ran.before done ran.read)) ran.output
 
-  faulty : (found : ScriptFault) → fault_of (commands_of script) ≡ Some (done + 1, found) → StopsFor (commands_of script) (of_script found) (done + 1)
+  have_so_far : HaveBoxes boxes (take ((done + 1) - 1) (commands_of script).commands)
+  have_so_far = (left, ran.have ∙ ap (λ cs. watches_of cs ++ left) (sym (ap (λ n. take n (commands_of script).commands) (one_back done) ∙ first_are script rest ran.before done ran.read)))
+
+  faulty : (found : ScriptFault) → fault_of (commands_of script) ≡ Some (done + 1, found) → StopsFor boxes (commands_of script) (of_script found) (done + 1)
   faulty fault.BadCommand e = e
   faulty fault.Truncated e = e
 
-  pub came_to_fault : (found : ScriptFault) → command_in rest ≡ Err found → HasCome topo (commands_of script) old new gathered (record { last_rows = length now.rows; stop = Some (record { cause = of_script found; command = done + 1 }) })
+  pub came_to_fault : (found : ScriptFault) → command_in rest ≡ Err found → HasCome topo (commands_of script) boxes old new gathered (record { last_rows = length now.rows; stop = Some (record { cause = of_script found; command = done + 1 }) })
   came_to_fault found e = record {
     stops = faulty found (fault_read script rest ran.before done found ran.read e).1;
+    have = have_so_far;
     lines = ran.lines;
     next = now;
     output = so_far;
@@ -135,11 +161,12 @@ module _ (topo : Topology) (script rest : List ℕ) (done : ℕ) (now : Progress
     said = ran.said;
   }
 
-  pub came_to_end : command_in rest ≡ Ok None → HasCome topo (commands_of script) old new gathered (record { last_rows = length now.rows; stop = None })
+  pub came_to_end : command_in rest ≡ Ok None → HasCome topo (commands_of script) boxes old new gathered (record { last_rows = length now.rows; stop = None })
   came_to_end e =
       let all = all_read script rest ran.before done ran.read e in
       record {
         stops = all.1;
+        have = (left, ran.have ∙ ap (λ cs. watches_of cs ++ left) (sym all.0));
         lines = ran.lines;
         next = now;
         output = subst (λ cs. IsOutput topo start cs ran.lines now) (sym all.0) ran.output;
@@ -147,28 +174,56 @@ module _ (topo : Topology) (script rest : List ℕ) (done : ℕ) (now : Progress
         said = ran.said;
       }
 
-  pub came_to_want : (then : Option (List ℕ)) (left : List ℕ) → then ≡ new → left ≡ gathered → HasCome topo (commands_of script) old then left (record { last_rows = length now.rows; stop = Some (record { cause = cause.Memory; command = done + 1 }) })
-  came_to_want then left same kept =
+  pub came_to_want : (then : Option (List ℕ)) (kept : List ℕ) → then ≡ new → kept ≡ gathered → HasCome topo (commands_of script) boxes old then kept (record { last_rows = length now.rows; stop = Some (record { cause = cause.Memory; command = done + 1 }) })
+  came_to_want then kept same stays =
       let few = few_are script rest ran.before done ran.read in
       record {
         stops = (omega arith, omega (arith, few));
+        have = have_so_far;
         lines = ran.lines;
         next = now;
         output = so_far;
         rows = refl;
-        said = subst (λ l. IsSaid old then l ran.lines) (sym kept) (subst (λ o. IsSaid old o gathered ran.lines) (sym same) ran.said);
+        said = subst (λ l. IsSaid old then l ran.lines) (sym stays) (subst (λ o. IsSaid old o gathered ran.lines) (sym same) ran.said);
       }
+
+  -- the command that lacks its monitor
+  unboxed : (c : Command) (taken : ℕ) → command_in rest ≡ Ok (Some (c, taken)) → LacksBox left (asked c) → IsUnboxed boxes (commands_of script) (done + 1)
+  unboxed c taken e lacks =
+      let read = one_read script rest ran.before done c taken ran.read e in
+      let whole : (commands_of script).commands ≡ (ran.before ++ c ∷ []) ++ (commands_of (drop taken rest)).commands = ap (λ (s : Script). s.commands) read.splits in
+      record {
+        some = omega arith;
+        it = c;
+        at = ap (slice_get (commands_of script).commands) (one_back done) ∙ ap (λ cs. slice_get cs done) whole ∙ got_there ran.before c (commands_of (drop taken rest)).commands done ran.read.counted;
+        left = left;
+        others = have_so_far.1;
+        lacks = lacks;
+      }
+
+  pub came_to_lack : (c : Command) (taken : ℕ) (then : Option (List ℕ)) (kept : List ℕ) → command_in rest ≡ Ok (Some (c, taken)) → LacksBox left (asked c) → then ≡ new → kept ≡ gathered
+      → HasCome topo (commands_of script) boxes old then kept (record { last_rows = length now.rows; stop = Some (record { cause = cause.WrongBox; command = done + 1 }) })
+  came_to_lack c taken then kept e lacks same stays = record {
+    stops = unboxed c taken e lacks;
+    have = have_so_far;
+    lines = ran.lines;
+    next = now;
+    output = so_far;
+    rows = refl;
+    said = subst (λ l. IsSaid old then l ran.lines) (sym stays) (subst (λ o. IsSaid old o gathered ran.lines) (sym same) ran.said);
+  }
 
   pub lawful : (c : Command) (taken : ℕ) → command_in rest ≡ Ok (Some (c, taken)) → IsCommand c
   lawful c taken e = (reads_are_spelled rest c taken e).0
 
-  pub cut_there : (c : Command) (taken : ℕ) (line : List ℕ) (next : Progress) (then : Option (List ℕ)) → command_in rest ≡ Ok (Some (c, taken)) → IsStep topo now (asked c) line next
-      → ((before : List ℕ) → IsSaid old new gathered before → IsFront old then (before ++ line)) → IsCut topo (commands_of script) old then
-  cut_there c taken line next then e step told =
+  pub cut_there : (c : Command) (taken : ℕ) (line : List ℕ) (next : Progress) (after : List Watch) (then : Option (List ℕ)) → command_in rest ≡ Ok (Some (c, taken)) → IsStep topo now (asked c) line next → TakesBox left (asked c) after
+      → ((before : List ℕ) → IsSaid old new gathered before → IsFront old then (before ++ line)) → IsCut topo (commands_of script) boxes old then
+  cut_there c taken line next after then e step takes told =
       let read = one_read script rest ran.before done c taken ran.read e in
       let whole : take (done + 1) (commands_of script).commands ≡ ran.before ++ c ∷ [] = first_are script (drop taken rest) (ran.before ++ c ∷ []) (done + 1) read in
       record {
         count = done + 1;
+        have = (after, have_more boxes left after ran.before c ran.have takes ∙ ap (λ cs. watches_of cs ++ after) (sym whole));
         lines = ran.lines ++ line;
         next = next;
         output = subst (λ cs. IsOutput topo start cs (ran.lines ++ line) next) (sym whole) (output_more topo start ran.before ran.lines now c line next ran.output step);
@@ -178,10 +233,11 @@ module _ (topo : Topology) (script rest : List ℕ) (done : ℕ) (now : Progress
       }
 
 -- Without memory for a run, nothing is said.
-pub came_to_nothing : (topo : Topology) (script gathered : List ℕ) (old : Option (List ℕ)) → gathered ≡ []
-    → HasCome topo (commands_of script) old old gathered (record { last_rows = 0; stop = Some (record { cause = cause.Memory; command = 0 + 1 }) })
-came_to_nothing topo script gathered old empty = record {
+pub came_to_nothing : (topo : Topology) (script gathered : List ℕ) (boxes : List Watch) (old : Option (List ℕ)) → gathered ≡ []
+    → HasCome topo (commands_of script) boxes old old gathered (record { last_rows = 0; stop = Some (record { cause = cause.Memory; command = 0 + 1 }) })
+came_to_nothing topo script gathered boxes old empty = record {
   stops = (omega arith, omega arith);
+  have = (boxes, refl);
   lines = [];
   next = start;
   output = (refl, refl);
@@ -195,15 +251,17 @@ by_fault : (commands : ℕ) (found : Option ScriptFault) (command : ℕ) (why : 
 by_fault commands None command why e = absurd cc
 by_fault commands (Some f) command why e = let n : commands + 1 ≡ command = ap (λ (p : ℕ × ScriptFault). p.0) (same_Some _ _ e) in omega (arith, n)
 
-numbered_from_1 : (script : Script) (why : StopCause) (command : ℕ) → StopsFor script why command → 0 < command
-numbered_from_1 script cause.Memory command h = h.0
-numbered_from_1 script cause.BadCommand command h = by_fault (length script.commands) script.fault command fault.BadCommand h
-numbered_from_1 script cause.Truncated command h = by_fault (length script.commands) script.fault command fault.Truncated h
+numbered_from_1 : (boxes : List Watch) (script : Script) (why : StopCause) (command : ℕ) → StopsFor boxes script why command → 0 < command
+numbered_from_1 boxes script cause.Memory command h = h.0
+numbered_from_1 boxes script cause.BadCommand command h = by_fault (length script.commands) script.fault command fault.BadCommand h
+numbered_from_1 boxes script cause.Truncated command h = by_fault (length script.commands) script.fault command fault.Truncated h
+numbered_from_1 boxes script cause.WrongBox command h = h.some
 
-module _ (topo : Topology) (script : Script) (old : Option (List ℕ)) (lines : List ℕ) (next : Progress) where
-  cut_by : (then : Option (List ℕ)) (stop : Option Stop) → Stops script stop → IsOutput topo start (commands_before script stop) lines next → IsFront old then (lines ++ last_text stop) → IsCut topo script old then
-  cut_by then None stops output front = record {
+module _ (topo : Topology) (script : Script) (boxes : List Watch) (old : Option (List ℕ)) (lines : List ℕ) (next : Progress) where
+  cut_by : (then : Option (List ℕ)) (stop : Option Stop) → Stops boxes script stop → HaveBoxes boxes (commands_before script stop) → IsOutput topo start (commands_before script stop) lines next → IsFront old then (lines ++ last_text stop) → IsCut topo script boxes old then
+  cut_by then None stops have output front = record {
     count = length script.commands;
+    have = subst (HaveBoxes boxes) (sym (take-length script.commands)) have;
     lines = lines;
     next = next;
     output = subst (λ cs. IsOutput topo start cs lines next) (sym (take-length script.commands)) output;
@@ -211,25 +269,26 @@ module _ (topo : Topology) (script : Script) (old : Option (List ℕ)) (lines : 
     stops = tt;
     front = front;
   }
-  cut_by then (Some stop) stops output front = record {
+  cut_by then (Some stop) stops have output front = record {
     count = stop.command - 1;
+    have = have;
     lines = lines;
     next = next;
     output = output;
     stop = Some stop;
-    stops = (stops, (let some = numbered_from_1 script stop.cause stop.command stops in omega (arith, some)));
+    stops = (stops, (let some = numbered_from_1 boxes script stop.cause stop.command stops in omega (arith, some)));
     front = front;
   }
 
-pub end_cut : (topo : Topology) (script : Script) (old now then : Option (List ℕ)) (gathered : List ℕ) (outcome : Outcome) → HasCome topo script old now gathered outcome
-    → ((lines : List ℕ) → IsSaid old now gathered lines → IsFront old then (lines ++ last_text outcome.stop)) → IsCut topo script old then
-end_cut topo script old now then gathered outcome come told = cut_by topo script old come.lines come.next then outcome.stop come.stops come.output (told come.lines come.said)
+pub end_cut : (topo : Topology) (script : Script) (boxes : List Watch) (old now then : Option (List ℕ)) (gathered : List ℕ) (outcome : Outcome) → HasCome topo script boxes old now gathered outcome
+    → ((lines : List ℕ) → IsSaid old now gathered lines → IsFront old then (lines ++ last_text outcome.stop)) → IsCut topo script boxes old then
+end_cut topo script boxes old now then gathered outcome come told = cut_by topo script boxes old come.lines come.next then outcome.stop come.stops come.have come.output (told come.lines come.said)
 
-pub end_written : (topo : Topology) (script : List ℕ) (old now then : Option (List ℕ)) (gathered : List ℕ) (outcome : Outcome) → HasCome topo (commands_of script) old now gathered outcome
+pub end_written : (topo : Topology) (script : List ℕ) (boxes : List Watch) (old now then : Option (List ℕ)) (gathered : List ℕ) (outcome : Outcome) → HasCome topo (commands_of script) boxes old now gathered outcome
     → ((lines : List ℕ) → IsSaid old now gathered lines → Appends old then (lines ++ last_text outcome.stop))
-    → (text : List ℕ) × IsOutcome topo script outcome text × Appends old then text
-end_written topo script old now then gathered outcome come told =
-    (come.lines ++ last_text outcome.stop, (come.next, record { stops = come.stops; lines = come.lines; output = come.output; text_is = refl }, come.rows), told come.lines come.said)
+    → (text : List ℕ) × IsOutcome topo script boxes outcome text × Appends old then text
+end_written topo script boxes old now then gathered outcome come told =
+    (come.lines ++ last_text outcome.stop, (come.next, record { stops = come.stops; have = come.have; lines = come.lines; output = come.output; text_is = refl }, come.rows), told come.lines come.said)
 
 -- ---- the edits of a script
 

@@ -1,10 +1,12 @@
 -- What each command of a script asks for.
-use Rattle.std.specs.Prelude.{Result, Ok, Err}
+use Rattle.std.specs.Prelude.{List, [], ◌∷◌, Result, Ok, Err}
+use Rattle.std.specs.List.{flat_map}
 use Rattle.tl_text.specs.Words.{lines_of}
 use Rattle.tl_beats.specs.Fragments.{Frag}
 use Rattle.tl_beats.specs.Reading.{whole_fragment_in}
 use Rattle.tl_beats.specs.declared.fault.FragmentFault.{FragmentFault}
-use Rattle.tl_inputs.specs.Edits.{AnEdit, plain, add, replace, withdraw, clear_link, set_region, remove_region, attach, retune, detach}
+use Rattle.tl_beats.specs.declared.watch.Watch.{Watch}
+use Rattle.tl_inputs.specs.Edits.{AnEdit, plain_change, add, replace, withdraw, clear_link, set_region, remove_region, attach, retune, detach}
 use Rattle.tl_script.specs.declared.command.Command.{Command}
 use Rattle.tl_script.specs.declared.command.Command.TheVariants as command
 use Rattle.tl_run.specs.declared.asked.Asked.{Asked}
@@ -39,6 +41,24 @@ asked (command.Detach number) = an_edit (detach number)
 asked command.Publish = a_report
 
 abbrev pub asking : Asked → Asking
-asking (asks.Edit e) = an_edit (plain e)
+asking (asks.Change change) = an_edit (plain_change change)
+asking (asks.Attach number watch) = an_edit (attach number watch)
 asking (asks.NoFragment fault) = no_fragment fault
 asking asks.Report = a_report
+
+-- ---- the monitors that commands attach
+
+-- the watch of the monitor that comes with an edit, if one does
+abbrev pub attached_in : AnEdit → List Watch
+attached_in (attach number watch) = watch ∷ []
+attached_in _ = []
+
+-- the same of what is asked for
+abbrev pub attached_by : Asking → List Watch
+attached_by (an_edit e) = attached_in e
+attached_by (no_fragment fault) = []
+attached_by a_report = []
+
+-- The watches of the monitors that commands attach, in their order.
+abbrev pub watches_of : List Command → List Watch
+watches_of commands = flat_map (λ c. attached_by (asked c)) commands

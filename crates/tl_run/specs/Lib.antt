@@ -1,3 +1,4 @@
+pub mod Boxes
 pub mod Commands
 pub mod Output
 pub mod Stops

@@ -5,15 +5,17 @@ use Rattle.std.specs.Option.{option_map_or}
 use Rattle.tl_topology.specs.Topology.{Topology}
 use Rattle.tl_beats.specs.Faults as fragment
 use Rattle.tl_beats.specs.declared.Row.{Row}
+use Rattle.tl_beats.specs.declared.watch.Watch.{Watch}
 use Rattle.tl_definitions.specs.Report.{IsReport}
 use Rattle.tl_inputs.specs.Edits.{AnEdit, code_of, number_of}
 use Rattle.tl_inputs.specs.Inputs.{refusal}
 use Rattle.tl_inputs.specs.Log.{inputs_after}
 use Rattle.tl_inputs.specs.declared.fault.EditFault.{EditFault}
 use Rattle.tl_plain.specs.Captured.{captures_after}
-use Rattle.tl_report.specs.Output.{joined, newline, report_bytes}
+use Rattle.tl_report.specs.Output.{ReportData, joined, newline, report_bytes}
 use Rattle.tl_script.specs.declared.command.Command.{Command}
-use Rattle.tl_run.specs.Commands.{Asking, an_edit, no_fragment, a_report, asked}
+use Rattle.tl_desk.specs.Core.{Core, log_of, latest_of, most_versions}
+use Rattle.tl_run.specs.Commands.{Asking, an_edit, no_fragment, a_report, asked, attached_by}
 
 -- What a run has come to: the edits that were accepted, how many reports were published, and the rows of the last one.
 pub record Progress : Type 0 where
@@ -21,17 +23,18 @@ pub record Progress : Type 0 where
   pub reports : ℕ
   pub rows : List Row
 
--- a run on its topology
+-- a run on its topology, and the watches of the monitors that no command has attached yet
 pub record RunData : Type 0 where
   pub topo : Topology
   pub now : Progress
+  pub boxes : List Watch
 
 abbrev pub start : Progress
 start = record { edits = []; reports = 0; rows = [] }
 
--- As many reports as are published in all.
-abbrev pub most_reports : ℕ
-most_reports = 65536
+-- what a run has come to whose desk is this
+abbrev pub progress_of : Core → Progress
+progress_of core = record { edits = (log_of core).edits; reports = length core.reports; rows = option_map_or (λ (r : ReportData). r.rows) (latest_of core.reports) [] }
 
 -- the edit's number
 unfoldable pub edit_text : ℕ → List ℕ
@@ -64,11 +67,19 @@ IsPublish topo now false line next = (line ≡ refused_text 32 None) × (next �
 unfoldable pub IsStep : Topology → Progress → Asking → List ℕ → Progress → Type 0
 IsStep topo now (an_edit e) line next = IsEdit now e (refusal (length now.edits) (inputs_after topo now.edits) e) line next
 IsStep topo now (no_fragment fault) line next = (line ≡ refused_text (fragment.code_of fault) (fragment.number_of fault)) × (next ≡ now)
-IsStep topo now a_report line next = IsPublish topo now (nat_lt now.reports most_reports) line next
+IsStep topo now a_report line next = IsPublish topo now (nat_lt now.reports most_versions) line next
 
--- One command has lines of which this is true.
-abbrev pub Advances : Topology → Progress → Command → Progress → (List ℕ → Type 0) → Type 0
-Advances topo now c next IsTold = (line : List ℕ) × IsStep topo now (asked c) line next × IsTold line
+-- The next of the monitors is the one that is attached, if one is, and these are left.
+abbrev pub TakesBox : List Watch → Asking → List Watch → Type 0
+TakesBox boxes asking left = boxes ≡ attached_by asking ++ left
+
+-- There is no next monitor, or it watches something else than the one that is to be attached.
+abbrev pub LacksBox : List Watch → Asking → Type 0
+LacksBox boxes asking = (left : List Watch) → TakesBox boxes asking left → ⊥
+
+-- One command takes its monitor, if it attaches one, and has lines of which this is true.
+abbrev pub Advances : RunData → Command → RunData → (List ℕ → Type 0) → Type 0
+Advances old c new IsTold = (line : List ℕ) × IsStep old.topo old.now (asked c) line new.now × TakesBox old.boxes (asked c) new.boxes × IsTold line
 
 -- Commands, one behind the other.
 abbrev pub IsOutput : Topology → Progress → List Command → List ℕ → Progress → Type 0

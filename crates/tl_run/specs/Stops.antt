@@ -1,33 +1,46 @@
 -- Where the run of a script stops, and all that it writes.
-use Rattle.std.specs.Prelude.{ℕ, ◌≡◌, ◌+◌, ◌-◌, ◌<◌, ◌≤◌, List, [], ◌++◌, length, take, codes, Option, Some, None}
+use Rattle.std.specs.Prelude.{ℕ, ◌≡◌, ◌+◌, ◌-◌, ◌<◌, ◌≤◌, List, [], ◌++◌, length, take, codes, Option, Some, None, slice_get}
 use Rattle.std.specs.Option.{option_map_or}
 use Rattle.std.specs.Io.KnownBytes.{Appends}
 use Rattle.tl_text.specs.Numbers.{numeral}
 use Rattle.tl_text.specs.Words.{ended}
 use Rattle.tl_topology.specs.Topology.{Topology}
+use Rattle.tl_beats.specs.declared.watch.Watch.{Watch}
 use Rattle.tl_script.specs.Scripts.{Script, commands_of, fault_of}
 use Rattle.tl_script.specs.declared.command.Command.{Command}
 use Rattle.tl_script.specs.declared.fault.ScriptFault.{ScriptFault}
 use Rattle.tl_script.specs.declared.fault.ScriptFault.TheVariants as fault
+use Rattle.tl_run.specs.declared.lines.LineFault.{LineFault}
+use Rattle.tl_run.specs.declared.lines.LineFault.TheVariants as line
+use Rattle.tl_run.specs.declared.session.CommandFault.{CommandFault}
+use Rattle.tl_run.specs.declared.session.CommandFault.TheVariants as command
 use Rattle.tl_run.specs.declared.stop.Outcome.{Outcome}
 use Rattle.tl_run.specs.declared.stop.Stop.{Stop}
 use Rattle.tl_run.specs.declared.stop.StopCause.{StopCause}
 use Rattle.tl_run.specs.declared.stop.StopCause.TheVariants as cause
-use Rattle.tl_run.specs.Output.{Progress, start, IsOutput}
+use Rattle.tl_run.specs.Commands.{asked, watches_of}
+use Rattle.tl_run.specs.Output.{Progress, start, IsOutput, LacksBox}
 
 abbrev pub code_of : StopCause → ℕ
 code_of cause.Memory = 20
 code_of cause.BadCommand = 41
 code_of cause.Truncated = 42
+code_of cause.WrongBox = 36
 
 abbrev pub of_script : ScriptFault → StopCause
 of_script fault.BadCommand = cause.BadCommand
 of_script fault.Truncated = cause.Truncated
 
+-- why a command has no lines
+abbrev pub of_command : CommandFault → LineFault
+of_command command.WrongBox = line.WrongBox
+of_command command.Memory = line.Memory
+
 abbrev pub stop_front : StopCause → List ℕ
 stop_front cause.Memory = codes "stopped 20 at "
 stop_front cause.BadCommand = codes "stopped 41 at "
 stop_front cause.Truncated = codes "stopped 42 at "
+stop_front cause.WrongBox = codes "stopped 36 at "
 
 -- the last line of a run that stops: the number of the refusal, and the command
 abbrev pub stop_text : Stop → List ℕ
@@ -36,38 +49,54 @@ stop_text stop = stop_front stop.cause ++ ended (numeral 10 stop.command)
 abbrev pub last_text : Option Stop → List ℕ
 last_text stop = option_map_or stop_text stop []
 
--- A run stops at the fault of its script, or at a command, or behind the last, for want of memory.
-abbrev pub StopsFor : Script → StopCause → ℕ → Type 0
-StopsFor script cause.Memory command = (0 < command) × (command ≤ length script.commands + 1)
-StopsFor script cause.BadCommand command = fault_of script ≡ Some (command, fault.BadCommand)
-StopsFor script cause.Truncated command = fault_of script ≡ Some (command, fault.Truncated)
+-- The first of the monitors are those that these commands attach, in their order.
+abbrev pub HaveBoxes : List Watch → List Command → Type 0
+HaveBoxes boxes commands = (left : List Watch) × (boxes ≡ watches_of commands ++ left)
 
-abbrev pub Stops : Script → Option Stop → Type 0
-Stops script None = script.fault ≡ None
-Stops script (Some stop) = StopsFor script stop.cause stop.command
+-- The command of this number attaches what the next of the monitors does not watch, or there is none.
+pub record IsUnboxed (boxes : List Watch) (script : Script) (command : ℕ) : Type 0 where
+  pub some : 0 < command
+  pub it : Command
+  pub at : slice_get script.commands (command - 1) ≡ Some it
+  pub left : List Watch
+  pub others : boxes ≡ watches_of (take (command - 1) script.commands) ++ left
+  pub lacks : LacksBox left (asked it)
+
+-- A run stops at the fault of its script, at a command that lacks its monitor, or at a command, or behind the last, for want of memory.
+abbrev pub StopsFor : List Watch → Script → StopCause → ℕ → Type 0
+StopsFor boxes script cause.Memory command = (0 < command) × (command ≤ length script.commands + 1)
+StopsFor boxes script cause.BadCommand command = fault_of script ≡ Some (command, fault.BadCommand)
+StopsFor boxes script cause.Truncated command = fault_of script ≡ Some (command, fault.Truncated)
+StopsFor boxes script cause.WrongBox command = IsUnboxed boxes script command
+
+abbrev pub Stops : List Watch → Script → Option Stop → Type 0
+Stops boxes script None = script.fault ≡ None
+Stops boxes script (Some stop) = StopsFor boxes script stop.cause stop.command
 
 -- the commands whose lines are written: those before the stop, or all
 abbrev pub commands_before : Script → Option Stop → List Command
 commands_before script None = script.commands
 commands_before script (Some stop) = take (stop.command - 1) script.commands
 
--- What a run writes, and what it comes to: the lines of its commands up to its end or its stop, and the line of the stop.
-pub record IsRun (topo : Topology) (script : Script) (stop : Option Stop) (text : List ℕ) (next : Progress) : Type 0 where
-  pub stops : Stops script stop
+-- What a run with these monitors writes, and what it comes to: the lines of its commands up to its end or its stop, and the line of the stop.
+pub record IsRun (topo : Topology) (script : Script) (boxes : List Watch) (stop : Option Stop) (text : List ℕ) (next : Progress) : Type 0 where
+  pub stops : Stops boxes script stop
+  pub have : HaveBoxes boxes (commands_before script stop)
   pub lines : List ℕ
   pub output : IsOutput topo start (commands_before script stop) lines next
   pub text_is : text ≡ lines ++ last_text stop
 
-abbrev pub IsOutcome : Topology → List ℕ → Outcome → List ℕ → Type 0
-IsOutcome topo bytes outcome text = (next : Progress) × IsRun topo (commands_of bytes) outcome.stop text next × (outcome.last_rows ≡ length next.rows)
+abbrev pub IsOutcome : Topology → List ℕ → List Watch → Outcome → List ℕ → Type 0
+IsOutcome topo bytes boxes outcome text = (next : Progress) × IsRun topo (commands_of bytes) boxes outcome.stop text next × (outcome.last_rows ≡ length next.rows)
 
 -- What was written and what is gathered behind it are these lines.
 abbrev pub IsSaid : Option (List ℕ) → Option (List ℕ) → List ℕ → List ℕ → Type 0
 IsSaid old now gathered lines = (written : List ℕ) × Appends old now written × (lines ≡ written ++ gathered)
 
 -- A run came to its end or its stop: its lines were written or are gathered.
-pub record HasCome (topo : Topology) (script : Script) (old now : Option (List ℕ)) (gathered : List ℕ) (outcome : Outcome) : Type 0 where
-  pub stops : Stops script outcome.stop
+pub record HasCome (topo : Topology) (script : Script) (boxes : List Watch) (old now : Option (List ℕ)) (gathered : List ℕ) (outcome : Outcome) : Type 0 where
+  pub stops : Stops boxes script outcome.stop
+  pub have : HaveBoxes boxes (commands_before script outcome.stop)
   pub lines : List ℕ
   pub next : Progress
   pub output : IsOutput topo start (commands_before script outcome.stop) lines next
@@ -79,16 +108,17 @@ abbrev pub IsFront : Option (List ℕ) → Option (List ℕ) → List ℕ → Ty
 IsFront old now lines = (n : ℕ) × (n ≤ length lines) × Appends old now (take n lines)
 
 -- the stop, if the run came to one, is behind so many commands
-abbrev pub IsBehind : Script → ℕ → Option Stop → Type 0
-IsBehind script count None = Unit {0}
-IsBehind script count (Some stop) = StopsFor script stop.cause stop.command × (stop.command ≡ count + 1)
+abbrev pub IsBehind : List Watch → Script → ℕ → Option Stop → Type 0
+IsBehind boxes script count None = Unit {0}
+IsBehind boxes script count (Some stop) = StopsFor boxes script stop.cause stop.command × (stop.command ≡ count + 1)
 
 -- A front of what a run writes was written: of the lines of so many commands, with the line of its stop or without.
-pub record IsCut (topo : Topology) (script : Script) (old new : Option (List ℕ)) : Type 0 where
+pub record IsCut (topo : Topology) (script : Script) (boxes : List Watch) (old new : Option (List ℕ)) : Type 0 where
   pub count : ℕ
+  pub have : HaveBoxes boxes (take count script.commands)
   pub lines : List ℕ
   pub next : Progress
   pub output : IsOutput topo start (take count script.commands) lines next
   pub stop : Option Stop
-  pub stops : IsBehind script count stop
+  pub stops : IsBehind boxes script count stop
   pub front : IsFront old new (lines ++ last_text stop)

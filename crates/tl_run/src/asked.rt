@@ -9,15 +9,17 @@ ghost use Rattle.tl_run.specs.Commands.{asked, asking, read_as};
 
 use std::alloc::{AllocError, Global};
 use std::sync::Arc;
-use tl_beats::{Fragment, FragmentFault, parse_whole_fragment};
-use tl_inputs::{Change, Edit};
+use tl_beats::{Fragment, FragmentFault, Watch, parse_whole_fragment};
+use tl_inputs::Change;
 use tl_script::{Command, Text};
 
 /// What a command asks for.
 #[derive(Drop)]
 pub enum Asked {
-    /// An edit.
-    Edit(Edit),
+    /// An edit that brings no monitor.
+    Change(Change),
+    /// The attachment of a monitor of this number and watch.
+    Attach(u32, Watch),
     /// An edit with a fragment, whose text is none.
     NoFragment(FragmentFault),
     /// A report.
@@ -65,9 +67,9 @@ pub fn asked_by(alloc: Global, command: &Command<'_>) -> Result<Asked, AllocErro
         Command::Retune { number, limit } => Change::Retune(*number, *limit),
         Command::Detach { number } => Change::Detach(*number),
         Command::Attach { number, watch } => {
-            return Ok(Asked::Edit(Edit::Attach(*number, *watch)));
+            return Ok(Asked::Attach(*number, *watch));
         }
         Command::Publish => return Ok(Asked::Report),
     };
-    Ok(Asked::Edit(Edit::Change(change)))
+    Ok(Asked::Change(change))
 }

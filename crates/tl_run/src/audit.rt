@@ -19,7 +19,7 @@ use crate::run::behind;
 use crate::stop::Stop;
 use std::alloc::{AllocError, Global};
 use thiserror::Error;
-use tl_inputs::{EditFault, Log, PastFault};
+use tl_inputs::{Edit, EditFault, Log, PastFault};
 use tl_plain::audit;
 use tl_report::audit_text;
 use tl_script::{Command, ScriptFault, read_command};
@@ -136,12 +136,15 @@ fn push_asked(alloc: Global, log: &mut Log, command: &Command<'_>) -> Result<(),
     ensures topo { log.new.topo ≡ log.old.topo }
     ensures edits { OnOk result (log.new.edits ≡ edits_with log.old.topo log.old.edits (asked command.now)) }
 {
-    if let Asked::Edit(edit) = asked_by(alloc, command)? {
-        if let Err(EditFault::Memory) = log.push(edit) {
-            return Err(AllocError);
-        }
+    let edit = match asked_by(alloc, command)? {
+        Asked::Change(change) => Edit::Change(change),
+        Asked::Attach(number, watch) => Edit::Attach(number, watch),
+        Asked::NoFragment(_) | Asked::Report => return Ok(()),
+    };
+    match log.push(edit) {
+        Err(EditFault::Memory) => Err(AllocError),
+        Ok(_) | Err(_) => Ok(()),
     }
-    Ok(())
 }
 
 /// Applies the edits of a script, checks what the first so many of them that were accepted leave from the beginning, and writes

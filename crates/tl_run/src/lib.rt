@@ -6,11 +6,12 @@ mod audit;
 pub mod laws;
 mod lines;
 mod run;
+mod same_watch;
 mod session;
 mod stop;
 
 pub use asked::{Asked, asked_by};
 pub use audit::{AuditFault, audit_script, log_of};
 pub use run::{read_script, run_script};
-pub use session::Session;
+pub use session::{CommandFault, Session};
 pub use stop::{Outcome, Stop, StopCause};

@@ -4,9 +4,10 @@ ghost use Rattle.std.specs.Prelude.{◌≡◌, ◌+◌, ◌<◌, ◌^◌, ◌++�
 ghost use Rattle.std.specs.Io.KnownBytes.{Appends};
 ghost use Rattle.tl_text.specs.Written.{Writes};
 ghost use Rattle.std.specs.Result.{IsErrOf};
-ghost use Rattle.tl_run.specs.Stops.{IsSaid, IsFront, stop_front, stop_text, last_text};
+ghost use Rattle.tl_run.specs.Stops.{IsSaid, IsFront, of_command, stop_front, stop_text, last_text};
 ghost use Rattle.tl_run.specs.declared.lines.LineFault.TheVariants.{Memory, WriteFault as Unwritten};
 
+use crate::session::CommandFault;
 use crate::stop::{Stop, StopCause};
 use std::alloc::AllocError;
 use tl_text::{ByteOut, Word, WriteFault, write_all, write_words};
@@ -21,6 +22,8 @@ pub(crate) enum LineFault {
     Memory,
     /// A write failed.
     WriteFault,
+    /// The next monitor is missing, or has another watch.
+    WrongBox,
 }
 
 impl From<AllocError> for LineFault {
@@ -28,6 +31,17 @@ impl From<AllocError> for LineFault {
 
     fn from(_error: AllocError) -> LineFault {
         LineFault::Memory
+    }
+}
+
+impl From<CommandFault> for LineFault {
+    ghost from_gives = { λ found fault. fault ≡ of_command found };
+
+    fn from(found: CommandFault) -> LineFault {
+        match found {
+            CommandFault::WrongBox => LineFault::WrongBox,
+            CommandFault::Memory => LineFault::Memory,
+        }
     }
 }
 
@@ -68,6 +82,7 @@ pub(crate) fn put_lines<O: ByteOut>(
     ensures quiet { OnOk result (O.failure_count out.new ≡ O.failure_count out.old) }
     ensures said { OnOk result ((old : Option (List ℕ)) (before : List ℕ) → IsSaid old (O.contents out.old) (string_bytes gathered.old) before
         → IsSaid old (O.contents out.new) (string_bytes gathered.new) (before ++ lines.now)) }
+    ensures boxes { IsErrOf result LineFault.WrongBox → ⊥ }
     ensures memory { IsErrOf result LineFault.Memory → (out.new ≡ out.old) × (string_bytes gathered.new ≡ string_bytes gathered.old) }
     ensures failed { IsErrOf result LineFault.WriteFault → (O.failure_count out.new ≡ O.failure_count out.old + 1)
         × ((old : Option (List ℕ)) (before : List ℕ) → IsSaid old (O.contents out.old) (string_bytes gathered.old) before → IsFront old (O.contents out.new) (before ++ lines.now)) }
@@ -87,6 +102,7 @@ fn front_of(cause: StopCause) -> &'static [u8]
         StopCause::Memory => b"stopped 20 at ".as_slice(),
         StopCause::BadCommand => b"stopped 41 at ".as_slice(),
         StopCause::Truncated => b"stopped 42 at ".as_slice(),
+        StopCause::WrongBox => b"stopped 36 at ".as_slice(),
     }
 }
 

@@ -5,7 +5,9 @@ ghost use Rattle.std.specs.Io.KnownBytes.{Appends};
 ghost use Rattle.std.specs.Result.{IsErrOf};
 ghost use Rattle.tl_script.specs.Scripts.{commands_of};
 ghost use Rattle.tl_script.specs.Text.{IsCommand};
-ghost use Rattle.tl_run.specs.Output.{start, Advances};
+ghost use Rattle.tl_run.specs.Boxes.{watches_in};
+ghost use Rattle.tl_run.specs.Commands.{asked};
+ghost use Rattle.tl_run.specs.Output.{start, Advances, LacksBox};
 ghost use Rattle.tl_run.specs.Stops.{IsSaid, IsFront, HasCome, IsOutcome, IsCut};
 
 use crate::asked::asked_by;
@@ -13,6 +15,7 @@ use crate::lines::{LineFault, put_lines, write_end};
 use crate::session::Session;
 use crate::stop::{Outcome, Stop, StopCause};
 use std::alloc::Global;
+use tl_monitor::Monitor;
 use tl_script::{Command, read_command};
 use tl_text::{ByteIn, ByteOut, TextFault, WriteFault, read_text};
 use tl_topology::Topo;
@@ -33,10 +36,10 @@ pub fn read_script<I: ByteIn>(alloc: Global, input: &mut I) -> Result<Vec<u8>, T
     read_text(alloc, input, MOST_SCRIPT)
 }
 
-/// The lines of one command, put behind those that are gathered. Memory writes nothing.
-fn run_command<O: ByteOut>(
+/// The lines of one command, put behind those that are gathered. Memory and WrongBox write nothing.
+fn run_command<M: Monitor, O: ByteOut>(
     alloc: Global,
-    session: &mut Session,
+    session: &mut Session<M>,
     command: &Command<'_>,
     out: &mut O,
     gathered: &mut String,
@@ -45,12 +48,13 @@ fn run_command<O: ByteOut>(
     requires lawful { IsCommand command.now }
     ensures topo { session.new.topo ≡ session.old.topo }
     ensures quiet { OnOk result (O.failure_count out.new ≡ O.failure_count out.old) }
-    ensures step { OnOk result (Advances session.old.topo session.old.now command.now session.new.now
+    ensures step { OnOk result (Advances session.old command.now session.new
         (λ line. (old : Option (List ℕ)) (before : List ℕ) → IsSaid old (O.contents out.old) (string_bytes gathered.old) before
         → IsSaid old (O.contents out.new) (string_bytes gathered.new) (before ++ line))) }
     ensures memory { IsErrOf result LineFault.Memory → (out.new ≡ out.old) × (string_bytes gathered.new ≡ string_bytes gathered.old) }
+    ensures lacks { IsErrOf result LineFault.WrongBox → LacksBox session.old.boxes (asked command.now) × (out.new ≡ out.old) × (string_bytes gathered.new ≡ string_bytes gathered.old) }
     ensures failed { IsErrOf result LineFault.WriteFault → (O.failure_count out.new ≡ O.failure_count out.old + 1)
-        × Advances session.old.topo session.old.now command.now session.new.now
+        × Advances session.old command.now session.new
         (λ line. (old : Option (List ℕ)) (before : List ℕ) → IsSaid old (O.contents out.old) (string_bytes gathered.old) before
         → IsFront old (O.contents out.new) (before ++ line)) }
 {
@@ -83,9 +87,9 @@ fn stopped(last_rows: u64, cause: StopCause, done: u64) -> Outcome
 }
 
 /// Runs the commands of a script up to its end or its stop.
-fn run_commands<O: ByteOut>(
+fn run_commands<M: Monitor, O: ByteOut>(
     alloc: Global,
-    session: &mut Session,
+    session: &mut Session<M>,
     script: &[u8],
     out: &mut O,
     gathered: &mut String,
@@ -94,9 +98,9 @@ fn run_commands<O: ByteOut>(
     requires new { session.old.now ≡ start }
     requires empty { string_bytes gathered.old ≡ [] }
     ensures quiet { OnOk result (O.failure_count out.new ≡ O.failure_count out.old) }
-    ensures come { IfOk result (λ outcome. HasCome session.old.topo (commands_of script.now) (O.contents out.old) (O.contents out.new) (string_bytes gathered.new) outcome) }
+    ensures come { IfOk result (λ outcome. HasCome session.old.topo (commands_of script.now) session.old.boxes (O.contents out.old) (O.contents out.new) (string_bytes gathered.new) outcome) }
     ensures failed { OnErr result ((O.failure_count out.new ≡ O.failure_count out.old + 1)
-        × IsCut session.old.topo (commands_of script.now) (O.contents out.old) (O.contents out.new)) }
+        × IsCut session.old.topo (commands_of script.now) session.old.boxes (O.contents out.old) (O.contents out.new)) }
 {
     let mut rest = script;
     let mut done = 0;
@@ -115,51 +119,58 @@ fn run_commands<O: ByteOut>(
         match run_command(alloc, session, &command, out, gathered) {
             Ok(()) => rest = behind(rest, taken),
             Err(LineFault::Memory) => return Ok(stopped(last_rows, StopCause::Memory, done)),
+            Err(LineFault::WrongBox) => return Ok(stopped(last_rows, StopCause::WrongBox, done)),
             Err(LineFault::WriteFault) => return Err(WriteFault),
         }
         done += 1;
     }
 }
 
-/// Runs a script from its first command on, up to its end or its stop.
-fn run_whole<O: ByteOut>(
+/// Runs a script from its first command on, up to its end or its stop, and ends the monitors.
+fn run_whole<M: Monitor, O: ByteOut>(
     alloc: Global,
     topo: &Topo,
     script: &[u8],
+    boxes: Vec<M>,
     out: &mut O,
     gathered: &mut String,
 ) -> Result<Outcome, WriteFault>
     requires out { O.failure_count out.old < 2 ^ 63 }
     requires empty { string_bytes gathered.old ≡ [] }
     ensures quiet { OnOk result (O.failure_count out.new ≡ O.failure_count out.old) }
-    ensures come { IfOk result (λ outcome. HasCome topo.now (commands_of script.now) (O.contents out.old) (O.contents out.new) (string_bytes gathered.new) outcome) }
+    ensures come { IfOk result (λ outcome. HasCome topo.now (commands_of script.now) (watches_in M.held boxes.items) (O.contents out.old) (O.contents out.new) (string_bytes gathered.new) outcome) }
     ensures failed { OnErr result ((O.failure_count out.new ≡ O.failure_count out.old + 1)
-        × IsCut topo.now (commands_of script.now) (O.contents out.old) (O.contents out.new)) }
+        × IsCut topo.now (commands_of script.now) (watches_in M.held boxes.items) (O.contents out.old) (O.contents out.new)) }
 {
-    let Ok(mut session) = Session::new(alloc, topo) else {
+    let Ok(mut session) = Session::new(alloc, topo, boxes) else {
         return Ok(stopped(0, StopCause::Memory, 0));
     };
-    run_commands(alloc, &mut session, script, out, gathered)
+    let come = run_commands(alloc, &mut session, script, out, gathered);
+    session.finish();
+    come
 }
 
-/// Runs a script on a topology, and writes its lines as it goes, those of a report at once. A run that stops writes the line of
-/// its stop, without taking memory, and nothing behind it: Memory at the command where memory is refused, at the first where there
-/// is none for a run; BadCommand and Truncated at the command that they are of. WriteFault where a write fails; a front of the
-/// text was then written.
-pub fn run_script<O: ByteOut>(
+/// Runs a script on a topology, with the monitors that its commands attach, in their order, and writes its lines as it goes, those
+/// of a report at once. A run that stops writes the line of its stop, without taking memory, and nothing behind it: Memory at the
+/// command where memory is refused, at the first where there is none for a run; WrongBox at a command that attaches a monitor,
+/// where the next one is missing or watches something else; BadCommand and Truncated at the command that they are of. At the end
+/// each monitor that is still attached is closed with the number of the last edit, and all are dropped. WriteFault where a write
+/// fails; a front of the text was then written.
+pub fn run_script<M: Monitor, O: ByteOut>(
     alloc: Global,
     topo: &Topo,
     script: &[u8],
+    boxes: Vec<M>,
     out: &mut O,
 ) -> Result<Outcome, WriteFault>
     requires { O.failure_count out.old < 2 ^ 63 }
-    ensures written { IfOk result (λ outcome. (text : List ℕ) × IsOutcome topo.now script.now outcome text × Appends (O.contents out.old) (O.contents out.new) text) }
+    ensures written { IfOk result (λ outcome. (text : List ℕ) × IsOutcome topo.now script.now (watches_in M.held boxes.items) outcome text × Appends (O.contents out.old) (O.contents out.new) text) }
     ensures quiet { OnOk result (O.failure_count out.new ≡ O.failure_count out.old) }
     ensures failed { OnErr result ((O.failure_count out.new ≡ O.failure_count out.old + 1)
-        × IsCut topo.now (commands_of script.now) (O.contents out.old) (O.contents out.new)) }
+        × IsCut topo.now (commands_of script.now) (watches_in M.held boxes.items) (O.contents out.old) (O.contents out.new)) }
 {
     let mut gathered = String::new(alloc);
-    let outcome = run_whole(alloc, topo, script, out, &mut gathered)?;
+    let outcome = run_whole(alloc, topo, script, boxes, out, &mut gathered)?;
     write_end(out, &mut gathered, outcome.stop)?;
     Ok(outcome)
 }

@@ -1,22 +1,56 @@
 //! What a run has come to, and the lines of one command more.
 
-ghost use Rattle.std.specs.Prelude.{◌≡◌, ◌<◌, ℕ, true, IfOk, length, string_bytes};
-ghost use Rattle.std.specs.List.{All};
-ghost use Rattle.tl_inputs.specs.Edits.{plain};
+ghost use Rattle.std.specs.Prelude.{◌≡◌, ◌∷◌, [], List, IfOk, IfSome, OnOk, OnSome, IsNone, length, string_bytes};
+ghost use Rattle.std.specs.Result.{IsErrOf};
+ghost use Rattle.std.specs.Option.{option_map_or};
+ghost use Rattle.tl_beats.specs.declared.watch.Watch.{Watch as AnyWatch};
+ghost use Rattle.tl_inputs.specs.Edits.{plain_change, attach};
 ghost use Rattle.tl_inputs.specs.Log.{inputs_after};
+ghost use Rattle.tl_desk.specs.Core.{AreLinked};
+ghost use Rattle.tl_run.specs.Boxes.{watches_in};
 ghost use Rattle.tl_run.specs.Commands.{asking, an_edit, a_report};
-ghost use Rattle.tl_run.specs.Output.{start, IsPublish, IsStep, refused_text};
+ghost use Rattle.tl_run.specs.Output.{start, edit_text, refused_text, IsStep, TakesBox, LacksBox};
+ghost use Rattle.tl_run.specs.declared.session.CommandFault.TheVariants.{Memory};
 
 use crate::asked::Asked;
+use crate::same_watch::is_watch;
 use std::alloc::{AllocError, Global};
+use std::collections::VecDeque;
 use std::marker::Model;
-use tl_inputs::{Edit, EditFault, Inputs, Log};
-use tl_plain::scratch;
+use thiserror::Error;
+use tl_beats::Watch;
+use tl_desk::{Desk, PublishFault};
+use tl_inputs::{Change, EditFault, Inputs};
+use tl_monitor::Monitor;
 use tl_report::{Report, report_text};
 use tl_topology::Topo;
 
-/// How many reports are published at most.
-const MOST_REPORTS: u64 = 65_536;
+/// Why a command has no lines.
+#[derive(Clone, Copy, Debug, Drop, Error, PartialEq, Eq)]
+pub enum CommandFault {
+    /// It attaches a monitor, and there is no next one that has its watch.
+    #[error("the next monitor is missing or another")]
+    WrongBox,
+    /// A growth was refused.
+    #[error("out of memory")]
+    Memory,
+}
+
+impl From<AllocError> for CommandFault {
+    ghost from_gives = { λ _ e. e ≡ Memory };
+
+    fn from(_error: AllocError) -> CommandFault {
+        CommandFault::Memory
+    }
+}
+
+/// The line of an edit of this number.
+#[tactic(auto, unfolding(crate::specs::Output::edit_text))]
+fn accepted(alloc: Global, number: u64) -> Result<String, AllocError>
+    ensures { IfOk result (λ line. string_bytes line ≡ edit_text number) }
+{
+    format!(in alloc; "edit {number}\n")
+}
 
 /// The line of a refusal.
 #[tactic(auto, unfolding(crate::specs::Output::refused_text))]
@@ -29,40 +63,33 @@ fn refused(alloc: Global, code: u8, number: Option<u32>) -> Result<String, Alloc
     }
 }
 
-/// The edits that were accepted, and the last report, of version 0 and without rows before the first. It is fresh as long as it
-/// speaks of all the edits.
+/// A desk with the edits that were accepted and the reports that were published, and the monitors that no command has attached
+/// yet, the next one first.
 #[derive(Drop)]
-pub struct Session {
-    log: Log,
-    last: Report,
-    is_fresh: bool,
+pub struct Session<M: Monitor> {
+    desk: Desk<M>,
+    boxes: VecDeque<M>,
 }
 
-impl Model for Session {
-    ghost use Rattle.std.specs.Prelude.{◌≡◌, ◌<◌, true, length};
-    ghost use Rattle.std.specs.List.{All};
-    ghost use Rattle.tl_definitions.specs.Report.{IsReport};
-    ghost use Rattle.tl_inputs.specs.Log.{inputs_after};
-    ghost use Rattle.tl_plain.specs.Captured.{captures_after};
-    ghost use Rattle.tl_run.specs.Output.{RunData};
+impl<M: Monitor> Model for Session<M> {
+    ghost use Rattle.tl_desk.specs.Core.{log_of};
+    ghost use Rattle.tl_run.specs.Boxes.{watches_in};
+    ghost use Rattle.tl_run.specs.Output.{RunData, progress_of};
 
     ghost Value = { RunData };
 
-    ghost view = { λ s. record { topo = s.log.topo; now = record { edits = s.log.edits; reports = s.last.version; rows = s.last.rows } } };
-
-    ghost invariant = { λ s. (All (λ row. row.link < length s.log.topo.links) s.last.rows)
-        × (s.is_fresh ≡ true → (s.last.edit ≡ length s.log.edits) × IsReport (captures_after (inputs_after s.log.topo s.log.edits)) s.last.rows) };
+    ghost view = { λ s. record { topo = (log_of s.desk).topo; now = progress_of s.desk; boxes = watches_in M.held s.boxes.items } };
 }
 
-impl Session {
-    /// One without edits and reports. AllocError where memory is refused.
-    pub fn new(alloc: Global, topo: &Topo) -> Result<Session, AllocError>
-        ensures { IfOk result (λ session. session ≡ record { topo = topo.now; now = start }) }
+impl<M: Monitor> Session<M> {
+    /// One without edits and reports, with the monitors that commands are to attach, in their order. AllocError where memory is
+    /// refused.
+    pub fn new(alloc: Global, topo: &Topo, boxes: Vec<M>) -> Result<Session<M>, AllocError>
+        ensures { IfOk result (λ session. session ≡ record { topo = topo.now; now = start; boxes = watches_in M.held boxes.items }) }
     {
         Ok(Session {
-            log: Log::new(alloc, topo.copy(alloc)?)?,
-            last: Report::new(0, 0, Vec::new(alloc)),
-            is_fresh: false,
+            desk: Desk::new(alloc, topo.copy(alloc)?)?,
+            boxes: VecDeque::from(boxes),
         })
     }
 
@@ -71,81 +98,119 @@ impl Session {
         ensures exact { result.now ≡ inputs_after self.now.topo self.now.now.edits }
         ensures topo { result.now.topo ≡ self.now.topo }
     {
-        self.log.inputs()
+        let _ = &self.boxes;
+        self.desk.log().inputs()
     }
 
-    /// The last report; before the first one of version 0 without rows.
-    pub fn last(&self) -> &Report
-        ensures version { result.now.version ≡ self.now.now.reports }
-        ensures rows { result.now.rows ≡ self.now.now.rows }
-        ensures links { All (λ row. row.link < length self.now.topo.links) result.now.rows }
+    /// The last report, if there is one.
+    pub fn last(&self) -> Option<&Report>
+        ensures rows { self.now.now.rows ≡ option_map_or (λ r. r.now.rows) result [] }
+        ensures links { IfSome result (λ report. AreLinked self.now.topo report.now.rows) }
     {
-        &self.last
+        let _ = &self.boxes;
+        self.desk.latest()
     }
 
-    /// How many rows the last report has.
+    /// How many rows the last report has; 0 without a report.
     pub fn last_rows(&self) -> u64
         ensures { result ≡ length self.now.now.rows }
     {
-        self.last.rows().len() as u64
+        match self.last() {
+            Some(report) => report.rows().len() as u64,
+            None => 0,
+        }
     }
 
-    /// The line of an edit.
-    #[tactic(auto, unfolding(crate::specs::Output::IsStep, crate::specs::Output::edit_text))]
-    fn edit(&mut self, alloc: Global, edit: Edit) -> Result<String, AllocError>
+    /// The line of an edit that brings no monitor.
+    #[tactic(auto, unfolding(crate::specs::Output::IsStep))]
+    fn change(&mut self, alloc: Global, change: Change) -> Result<String, AllocError>
         ensures topo { self.new.topo ≡ self.old.topo }
-        ensures step { IfOk result (λ line. IsStep self.old.topo self.old.now (an_edit (plain edit)) (string_bytes line) self.new.now) }
+        ensures boxes { self.new.boxes ≡ self.old.boxes }
+        ensures step { IfOk result (λ line. IsStep self.old.topo self.old.now (an_edit (plain_change change)) (string_bytes line) self.new.now) }
     {
-        match self.log.push(edit) {
-            Ok(number) => {
-                self.is_fresh = false;
-                format!(in alloc; "edit {number}\n")
-            }
+        let _ = &self.boxes;
+        match self.desk.edit(alloc, change) {
+            Ok(number) => accepted(alloc, number),
             Err(EditFault::Memory) => Err(AllocError),
             Err(fault) => refused(alloc, fault.code(), fault.number()),
         }
     }
 
-    /// The lines of one report more, of all edits.
-    fn report(&mut self, alloc: Global) -> Result<String, AllocError>
-        requires { self.old.now.reports < 65536 }
-        ensures topo { self.new.topo ≡ self.old.topo }
-        ensures made { IfOk result (λ lines. IsPublish self.old.topo self.old.now true (string_bytes lines) self.new.now) }
+    /// The next monitor, if it has this watch.
+    fn next_box(&mut self, watch: &Watch) -> Option<M>
+        ensures desk { (self.new.topo ≡ self.old.topo) × (self.new.now ≡ self.old.now) }
+        ensures found { OnSome result (self.old.boxes ≡ watch.now ∷ self.new.boxes) }
+        ensures same { IfSome result (λ monitor. (M.held monitor).watch ≡ watch.now) }
+        ensures none { IsNone result → (self.new ≡ self.old) × ((left : List AnyWatch) → self.old.boxes ≡ watch.now ∷ left → ⊥) }
     {
-        let version = self.last.version() + 1;
-        if self.is_fresh {
-            self.last.publish_again(version);
+        let _ = &self.desk;
+        let next = self.boxes.front()?.watch();
+        if is_watch(&next, watch) {
+            self.boxes.pop_front()
         } else {
-            let rows = scratch(alloc, self.log.inputs())?;
-            self.last = Report::new(version, self.log.len(), rows);
-            self.is_fresh = true;
+            None
         }
-        report_text(alloc, self.log.inputs().topo(), &self.last)
+    }
+
+    /// The line of the attachment of the next monitor.
+    #[tactic(auto, unfolding(crate::specs::Output::IsStep))]
+    fn attach(&mut self, alloc: Global, number: u32, watch: Watch) -> Result<String, CommandFault>
+        ensures topo { self.new.topo ≡ self.old.topo }
+        ensures boxes { OnOk result (TakesBox self.old.boxes (an_edit (attach number watch)) self.new.boxes) }
+        ensures lacks { IsErrOf result CommandFault.WrongBox → LacksBox self.old.boxes (an_edit (attach number watch)) × (self.new ≡ self.old) }
+        ensures step { IfOk result (λ line. IsStep self.old.topo self.old.now (an_edit (attach number watch)) (string_bytes line) self.new.now) }
+    {
+        let Some(monitor) = self.next_box(&watch) else {
+            return Err(CommandFault::WrongBox);
+        };
+        match self.desk.attach(alloc, number, monitor) {
+            Ok(edit) => Ok(accepted(alloc, edit)?),
+            Err((EditFault::Memory, _)) => Err(CommandFault::Memory),
+            Err((fault, _)) => Ok(refused(alloc, fault.code(), fault.number())?),
+        }
     }
 
     /// The lines of a report of all edits, or of the refusal of one more.
     #[tactic(auto, unfolding(crate::specs::Output::IsStep))]
     fn publish(&mut self, alloc: Global) -> Result<String, AllocError>
         ensures topo { self.new.topo ≡ self.old.topo }
+        ensures boxes { self.new.boxes ≡ self.old.boxes }
         ensures step { IfOk result (λ lines. IsStep self.old.topo self.old.now a_report (string_bytes lines) self.new.now) }
     {
-        if self.last.version() < MOST_REPORTS {
-            self.report(alloc)
-        } else {
-            refused(alloc, 32, None)
+        let _ = &self.boxes;
+        self.desk.recheck_now(alloc)?;
+        match self.desk.publish(alloc) {
+            Ok(version) => {
+                let report = self.desk.report(version).unwrap();
+                report_text(alloc, self.desk.log().inputs().topo(), report)
+            }
+            Err(PublishFault::Memory) => Err(AllocError),
+            Err(fault) => refused(alloc, fault.code(), None),
         }
     }
 
-    /// The lines of one command more. AllocError where memory is refused; the run is then at its end.
+    /// The lines of one command more. WrongBox, with nothing changed, where it attaches a monitor and the next one is missing or
+    /// watches something else; Memory where memory is refused: the run is then at its end. The monitor of an attachment that is
+    /// refused is dropped.
     #[tactic(auto, unfolding(crate::specs::Output::IsStep))]
-    pub fn lines_of(&mut self, alloc: Global, asked: Asked) -> Result<String, AllocError>
+    pub fn lines_of(&mut self, alloc: Global, asked: Asked) -> Result<String, CommandFault>
         ensures topo { self.new.topo ≡ self.old.topo }
+        ensures boxes { OnOk result (TakesBox self.old.boxes (asking asked) self.new.boxes) }
+        ensures lacks { IsErrOf result CommandFault.WrongBox → LacksBox self.old.boxes (asking asked) × (self.new ≡ self.old) }
         ensures step { IfOk result (λ lines. IsStep self.old.topo self.old.now (asking asked) (string_bytes lines) self.new.now) }
     {
         match asked {
-            Asked::Edit(edit) => self.edit(alloc, edit),
-            Asked::NoFragment(fault) => refused(alloc, fault.code(), fault.number()),
-            Asked::Report => self.publish(alloc),
+            Asked::Change(change) => Ok(self.change(alloc, change)?),
+            Asked::Attach(number, watch) => self.attach(alloc, number, watch),
+            Asked::NoFragment(fault) => Ok(refused(alloc, fault.code(), fault.number())?),
+            Asked::Report => Ok(self.publish(alloc)?),
         }
+    }
+
+    /// Ends the run: each monitor that is still attached is closed with the number of the last edit, and all are dropped.
+    pub fn finish(self) {
+        let Session { desk, boxes } = self;
+        drop(desk.finish());
+        drop(boxes);
     }
 }

@@ -14,10 +14,12 @@ pub enum StopCause {
     BadCommand,
     /// The script ends inside the command.
     Truncated,
+    /// The command attaches a monitor, and there is no next one that has its watch.
+    WrongBox,
 }
 
 impl StopCause {
-    /// The number of the refusal: 20, 41 or 42.
+    /// The number of the refusal: 20, 41, 42 or 36.
     pub fn code(&self) -> u8
         ensures { result ≡ code_of self.now }
     {
@@ -25,6 +27,7 @@ impl StopCause {
             StopCause::Memory => 20,
             StopCause::BadCommand => 41,
             StopCause::Truncated => 42,
+            StopCause::WrongBox => 36,
         }
     }
 }

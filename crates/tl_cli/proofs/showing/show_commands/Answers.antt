@@ -1,7 +1,7 @@
 use Rattle.std.proofs.Common.{◌≡◌, Some, Ok, sym, ap, ◌∙◌}
 use Rattle.tl_script.specs.Reading.{command_in}
 use Rattle.tl_script.proofs.CommandTexts.{reads_are_spelled}
-use Rattle.tl_cli.proofs.showing.show_script.Goals as goal
+use Rattle.tl_cli.proofs.showing.show_commands.Goals as goal
 
 pub command_lines-requires : goal.command_lines-requires
 command_lines-requires g c =

@@ -1,0 +1,138 @@
+-- What calls on a desk make of a run.
+use Rattle.std.proofs.Common.{◌≡◌, ℕ, ◌+◌, ◌-◌, ◌<◌, Bool, true, false, List, [], ◌∷◌, ◌++◌, length, length-append, Option, Some, None, refl, sym, ap, ◌∙◌, subst, arith, nat_lt}
+use Rattle.std.specs.Prelude.{slice_get}
+use Rattle.std.specs.Option.{option_map_or}
+use Rattle.std.proofs.lemmas.Bool.Decides.{nat_tests}
+use Rattle.tl_topology.specs.Topology.{Topology}
+use Rattle.tl_beats.specs.declared.Row.{Row}
+use Rattle.tl_beats.specs.declared.watch.Watch.{Watch}
+use Rattle.tl_definitions.specs.Report.{IsReport}
+use Rattle.tl_inputs.specs.Edits.{AnEdit, plain_change, code_of, number_of}
+use Rattle.tl_inputs.specs.Inputs.{refusal}
+use Rattle.tl_inputs.specs.Log.{LogData, inputs_after}
+use Rattle.tl_inputs.specs.declared.edit.Change.{Change}
+use Rattle.tl_inputs.specs.declared.edit.Change.TheVariants as change
+use Rattle.tl_inputs.specs.declared.fault.EditFault.{EditFault}
+use Rattle.tl_plain.specs.Captured.{captures_after}
+use Rattle.tl_report.specs.Output.{ReportData, report_bytes}
+use Rattle.tl_desk.specs.Core.{Core, IsNew, AllSettled, latest_of, log_of, standing, most_versions}
+use Rattle.tl_desk.specs.Steps.{Edits, Publishes, RechecksAll}
+use Rattle.tl_run.specs.Commands.{an_edit, a_report, attached_in}
+use Rattle.tl_run.specs.Output.{Progress, IsEdit, IsPublish, IsRenewed, IsStep, edit_text, progress_of, refused_text, start}
+
+-- ---- a run that begins
+
+pub begins : (topo : Topology) (core : Core) → IsNew topo core → ((log_of core).topo ≡ topo) × (progress_of core ≡ start)
+begins topo core is = (
+  ap (λ (l : LogData). l.topo) is.log,
+  ap (λ (l : LogData). record { edits = l.edits; reports = length core.reports; rows = option_map_or (λ (r : ReportData). r.rows) (latest_of core.reports) [] }) is.log
+      ∙ ap (λ (rs : List ReportData). record { edits = []; reports = length rs; rows = option_map_or (λ (r : ReportData). r.rows) (latest_of rs) [] }) is.reports,
+)
+
+-- ---- edits
+
+-- A change brings no monitor.
+pub changes_attach_nothing : (c : Change) → attached_in (plain_change c) ≡ []
+changes_attach_nothing (change.Add f) = refl
+changes_attach_nothing (change.Replace f) = refl
+changes_attach_nothing (change.Withdraw name n) = refl
+changes_attach_nothing (change.ClearLink name) = refl
+changes_attach_nothing (change.SetRegion name n area) = refl
+changes_attach_nothing (change.RemoveRegion name n) = refl
+changes_attach_nothing (change.Retune m limit) = refl
+changes_attach_nothing (change.Detach m) = refl
+
+module _ (old new : Core) (e : AnEdit) (number : ℕ) (edits : Edits old e number new) where
+  pub same_topology : (log_of new).topo ≡ (log_of old).topo
+  same_topology = ap (λ (l : LogData). l.topo) edits.windows.spans.log
+
+  one_edit_more : progress_of new ≡ record (progress_of old) { edits = (log_of old).edits ++ e ∷ [] }
+  one_edit_more =
+      ap (λ (l : LogData). record { edits = l.edits; reports = length new.reports; rows = option_map_or (λ (r : ReportData). r.rows) (latest_of new.reports) [] }) edits.windows.spans.log
+      ∙ ap (λ (rs : List ReportData). record { edits = (log_of old).edits ++ e ∷ []; reports = length rs; rows = option_map_or (λ (r : ReportData). r.rows) (latest_of rs) [] }) edits.reports
+
+  its_number : number ≡ length (log_of old).edits + 1
+  its_number = edits.last ∙ ap (λ (l : LogData). length l.edits) edits.windows.spans.log ∙ length-append (log_of old).edits (e ∷ [])
+
+  pub edit_step : (line : List ℕ) → line ≡ edit_text number → IsStep (log_of old).topo (progress_of old) (an_edit e) line (progress_of new)
+  unfolding IsStep
+  edit_step line said = subst (λ why. IsEdit (progress_of old) e why line (progress_of new)) (sym edits.accepted) (said ∙ ap edit_text its_number, one_edit_more)
+
+pub refusal_step : (old new : Core) (e : AnEdit) (fault : EditFault) (line : List ℕ) → refusal (length (log_of old).edits) (standing old) e ≡ Some fault → new ≡ old → line ≡ refused_text (code_of fault) (number_of fault)
+    → IsStep (log_of old).topo (progress_of old) (an_edit e) line (progress_of new)
+unfolding IsStep
+refusal_step old new e fault line why same said = subst (λ found. IsEdit (progress_of old) e found line (progress_of new)) (sym why) (said, ap progress_of same)
+
+-- ---- reports
+
+-- the last of reports behind which one more stands
+last_is : (reports : List ReportData) (report : ReportData) → latest_of (reports ++ report ∷ []) ≡ Some report
+last_is reports report = ap (slice_get (reports ++ report ∷ [])) place ∙ go reports
+  where
+    place : length (reports ++ report ∷ []) - 1 ≡ length reports
+    place = let longer = length-append reports (report ∷ []) in omega (arith, longer)
+
+    go : (rs : List ReportData) → slice_get (rs ++ report ∷ []) (length rs) ≡ Some report
+    go [] = refl
+    go (r ∷ rs) = go rs
+
+module _ (old mid : Core) (count : ℕ) (checked : RechecksAll old count mid) where
+  pub all_settled : AllSettled mid
+  all_settled = (checked.managers.settled, checked.monitors.settled)
+
+  pub kept_topology : (log_of mid).topo ≡ (log_of old).topo
+  kept_topology = ap (λ (l : LogData). l.topo) checked.log
+
+  has_room : length mid.reports < most_versions → nat_lt (length old.reports) most_versions ≡ true
+  has_room room = let few : length old.reports < most_versions = subst (λ (rs : List ReportData). length rs < most_versions) checked.reports room in grind (arith, nat_tests)
+
+  is_full : length mid.reports ≡ most_versions → nat_lt (length old.reports) most_versions ≡ false
+  is_full full = let all : length old.reports ≡ most_versions = ap (λ (rs : List ReportData). length rs) (sym checked.reports) ∙ full in grind (arith, nat_tests)
+
+  unchanged : progress_of mid ≡ progress_of old
+  unchanged =
+      ap (λ (l : LogData). record { edits = l.edits; reports = length mid.reports; rows = option_map_or (λ (r : ReportData). r.rows) (latest_of mid.reports) [] }) checked.log
+      ∙ ap (λ (rs : List ReportData). record { edits = (log_of old).edits; reports = length rs; rows = option_map_or (λ (r : ReportData). r.rows) (latest_of rs) [] }) checked.reports
+
+  -- No report more can be published.
+  pub full_step : (new : Core) (line : List ℕ) → length mid.reports ≡ most_versions → new ≡ mid → line ≡ refused_text 32 None → IsStep (log_of old).topo (progress_of old) a_report line (progress_of new)
+  unfolding IsStep
+  full_step new line full same said = subst (λ room. IsPublish (log_of old).topo (progress_of old) room line (progress_of new)) (sym (is_full full)) (said, ap progress_of same ∙ unchanged)
+
+  module _ (new : Core) (version : ℕ) (published : Publishes mid version new) where
+    -- what the run then comes to
+    next : Progress
+    next = record { edits = (log_of old).edits; reports = length old.reports + 1; rows = published.report.rows }
+
+    more : length (mid.reports ++ published.report ∷ []) ≡ length old.reports + 1
+    more = length-append mid.reports (published.report ∷ []) ∙ ap (λ (rs : List ReportData). length rs + 1) checked.reports
+
+    comes_to : progress_of new ≡ next
+    comes_to =
+        ap progress_of published.rest
+        ∙ ap (λ (l : LogData). record { edits = l.edits; reports = length (mid.reports ++ published.report ∷ []); rows = option_map_or (λ (r : ReportData). r.rows) (latest_of (mid.reports ++ published.report ∷ [])) [] }) checked.log
+        ∙ ap (λ n. record { edits = (log_of old).edits; reports = n; rows = option_map_or (λ (r : ReportData). r.rows) (latest_of (mid.reports ++ published.report ∷ [])) [] }) more
+        ∙ ap (λ (o : Option ReportData). record { edits = (log_of old).edits; reports = length old.reports + 1; rows = option_map_or (λ (r : ReportData). r.rows) o [] }) (last_is mid.reports published.report)
+
+    pub last_published : latest_of new.reports ≡ Some published.report
+    last_published = ap (λ (c : Core). latest_of c.reports) published.rest ∙ last_is mid.reports published.report
+
+    pub published_topology : (log_of new).topo ≡ (log_of old).topo
+    published_topology = ap (λ (c : Core). (log_of c).topo) published.rest ∙ kept_topology
+
+    is_named : published.report ≡ record { version = length old.reports + 1; edit = length (log_of old).edits; rows = published.report.rows }
+    is_named =
+        ap (λ n. record { version = n; edit = published.report.edit; rows = published.report.rows }) (published.is ∙ published.next ∙ ap (λ (rs : List ReportData). length rs + 1) checked.reports)
+        ∙ ap (λ n. record { version = length old.reports + 1; edit = n; rows = published.report.rows }) (published.edit ∙ ap (λ (l : LogData). length l.edits) checked.log)
+
+    renews : IsRenewed (log_of old).topo (progress_of old) next
+    renews = (subst (λ (l : LogData). IsReport (captures_after (inputs_after l.topo l.edits)) published.report.rows) checked.log published.rows, refl)
+
+    pub publish_step : (line : List ℕ) (found : ReportData) → latest_of new.reports ≡ Some found → line ≡ report_bytes (log_of new).topo found → IsStep (log_of old).topo (progress_of old) a_report line (progress_of new)
+    unfolding IsStep
+    publish_step line found is said =
+        let same : found ≡ published.report = (let both : Some found ≡ Some published.report = sym is ∙ last_published in cc) in
+        let text : line ≡ report_bytes (log_of old).topo (record { version = length old.reports + 1; edit = length (log_of old).edits; rows = published.report.rows }) =
+            said ∙ ap (λ t. report_bytes t found) published_topology ∙ ap (report_bytes (log_of old).topo) (same ∙ is_named) in
+        subst (λ n. IsStep (log_of old).topo (progress_of old) a_report line n) (sym comes_to)
+        (subst (λ room. IsPublish (log_of old).topo (progress_of old) room line next) (sym (has_room published.room)) (renews, text))

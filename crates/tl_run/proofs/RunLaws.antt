@@ -130,7 +130,7 @@ one_back n = omega arith
 
 -- what stands behind so many others is found at their number
 got_there : {X : Type 0} (before : List X) (x : X) (rest : List X) (count : ℕ) → length before ≡ count → slice_get ((before ++ x ∷ []) ++ rest) count ≡ Some x
-got_there before x rest count counted = ap (slice_get ((before ++ x ∷ []) ++ rest)) (sym counted) ∙ go before
+got_there {X} before x rest count counted = ap (slice_get ((before ++ x ∷ []) ++ rest)) (sym counted) ∙ go before
   where
     go : (xs : List X) → slice_get ((xs ++ x ∷ []) ++ rest) (length xs) ≡ Some x
     go [] = refl
@@ -143,7 +143,7 @@ module _ (topo : Topology) (script rest : List ℕ) (done : ℕ) (boxes left : L
   so_far : IsOutput topo start (take ((done + 1) - 1) (commands_of script).commands) ran.lines now
   so_far = subst (λ cs. IsOutput topo start cs ran.lines now) (sym (ap (λ n. take n (commands_of script).commands) (one_back done) ∙ first_are script rest ran.before done ran.read)) ran.output
 
-  have_so_far : HaveBoxes boxes (take ((done + 1) - 1) (commands_of script).commands)
+  abbrev have_so_far : HaveBoxes boxes (take ((done + 1) - 1) (commands_of script).commands)
   have_so_far = (left, ran.have ∙ ap (λ cs. watches_of cs ++ left) (sym (ap (λ n. take n (commands_of script).commands) (one_back done) ∙ first_are script rest ran.before done ran.read)))
 
   faulty : (found : ScriptFault) → fault_of (commands_of script) ≡ Some (done + 1, found) → StopsFor boxes (commands_of script) (of_script found) (done + 1)

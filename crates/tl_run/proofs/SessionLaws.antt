@@ -101,7 +101,7 @@ module _ (old mid : Core) (count : ℕ) (checked : RechecksAll old count mid) wh
 
   module _ (new : Core) (version : ℕ) (published : Publishes mid version new) where
     -- what the run then comes to
-    next : Progress
+    abbrev next : Progress
     next = record { edits = (log_of old).edits; reports = length old.reports + 1; rows = published.report.rows }
 
     more : length (mid.reports ++ published.report ∷ []) ≡ length old.reports + 1

@@ -1,0 +1,84 @@
+//! The topology and the fragments of the tests.
+
+/// Two managers; the first has two caches and a reader, the second a reader.
+pub(crate) const TOPOLOGY: &str = "topo 1\n\
+manager m0 64\n\
+manager m1 64\n\
+link cpu0 m0 c 8 6 4\n\
+link cpu1 m0 c 8 6 4\n\
+link dma0 m0 ul 8 3 2\n\
+link dma1 m1 ul 8 3 2\n\
+end\n";
+
+/// A Get of dma0 with its reply, in each of the windows 0 to 3.
+pub(crate) const GETS: [&str; 4] = [
+    "fragment dma0 1 0 4095\n\
+10 A 4 0 3 0 1000 ff 0\n\
+10 D 1 0 3 0 0 0 0\n\
+end\n",
+    "fragment dma0 2 4096 8191\n\
+5000 A 4 0 3 0 1000 ff 0\n\
+5000 D 1 0 3 0 0 0 0\n\
+end\n",
+    "fragment dma0 3 8192 12287\n\
+9000 A 4 0 3 0 1000 ff 0\n\
+9000 D 1 0 3 0 0 0 0\n\
+end\n",
+    "fragment dma0 4 12288 16383\n\
+13000 A 4 0 3 0 1000 ff 0\n\
+13000 D 1 0 3 0 0 0 0\n\
+end\n",
+];
+
+/// In place of the second: a Get of another address with its reply.
+pub(crate) const OTHER_GET: &str = "fragment dma0 2 4096 8191\n\
+6000 A 4 0 3 0 2000 ff 0\n\
+6001 D 1 0 3 0 0 0 0\n\
+end\n";
+
+/// In place of the second: a Get without a reply. The next Get uses its source again.
+pub(crate) const OPEN_GET: &str = "fragment dma0 2 4096 8191\n\
+6000 A 4 0 3 0 2000 ff 0\n\
+end\n";
+
+/// In place of the second: two Gets with their replies.
+pub(crate) const TWO_GETS: &str = "fragment dma0 2 4096 8191\n\
+5000 A 4 0 3 0 1000 ff 0\n\
+5000 D 1 0 3 0 0 0 0\n\
+6000 A 4 0 3 0 1000 ff 0\n\
+6000 D 1 0 3 0 0 0 0\n\
+end\n";
+
+/// Gets of dma1 with their replies, in the windows 0 and 1.
+pub(crate) const OTHER_LINK: &str = "fragment dma1 1 0 8191\n\
+10 A 4 0 3 0 1000 ff 0\n\
+10 D 1 0 3 0 0 0 0\n\
+5000 A 4 0 3 0 1000 ff 0\n\
+5000 D 1 0 3 0 0 0 0\n\
+end\n";
+
+/// A Get of cpu0 with its reply, in window 1.
+pub(crate) const NEXT_LINK: &str = "fragment cpu0 7 5000 5999\n\
+5100 A 4 0 3 0 3000 ff 0\n\
+5110 D 1 0 3 0 0 0 0\n\
+end\n";
+
+/// In window 0, cpu0 gets a block to write.
+pub(crate) const FIRST_WRITER: &str = "fragment cpu0 1 0 39\n\
+10 A 6 1 6 0 1000 ff 0\n\
+20 D 4 0 6 0 0 0 0\n\
+30 E 0\n\
+end\n";
+
+/// In window 1, cpu1 gets the same block to write.
+pub(crate) const SECOND_WRITER: &str = "fragment cpu1 1 4096 8191\n\
+5000 A 6 1 6 0 1000 ff 0\n\
+5010 D 4 0 6 0 0 0 0\n\
+5020 E 0\n\
+end\n";
+
+/// Between them, still in window 0, cpu0 is asked to give it up, and does.
+pub(crate) const HANDOVER: &str = "fragment cpu0 2 40 99\n\
+50 B 6 2 6 0 1000 ff 0\n\
+60 C 4 1 6 0 1000 0\n\
+end\n";

@@ -50,11 +50,11 @@ cut_place stop (b ∷ bytes) = place_at (eqb b stop) b bytes (position_or_len (�
 pub found_place : (stop : ℕ) (bytes : List ℕ) (found : Option ℕ) → IsFirstByte (is_byte stop) bytes found → found ≡ position (λ byte. byte == stop) bytes
 found_place stop bytes None none =
     let all : position_or_len (λ byte. byte == stop) bytes ≡ length bytes = position_or_len_is (λ byte. byte == stop) bytes (length bytes) 0 (omega arith)
-        (λ k lt. is_false _ (none k (omega arith) lt)) (λ lt. absurd (omega arith)) in
+    (λ k lt. is_false _ (none k (omega arith) lt)) (λ lt. absurd (omega arith)) in
     rw (all, le-ltb (length bytes) (length bytes) (omega arith)) refl
 found_place stop bytes (Some at) found =
     let here : position_or_len (λ byte. byte == stop) bytes ≡ at = position_or_len_is (λ byte. byte == stop) bytes at 0 (omega (arith, found.0.high))
-        (λ k lt. is_false _ (found.0.before k (omega arith) lt)) (λ lt. found.1) in
+    (λ k lt. is_false _ (found.0.before k (omega arith) lt)) (λ lt. found.1) in
     rw (here, lt-ltb at (length bytes) found.0.high) refl
 
 -- the parts by the place that was found

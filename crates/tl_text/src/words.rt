@@ -6,11 +6,14 @@ ghost use Rattle.tl_text.specs.Words.{before_stop, word_at, line_at, lines_of, f
 
 use memchr::memchr;
 
-/// The place of the first space. A word is short, so its bytes are looked at one by one.
+/// The place of the first space. A word is short, most often one byte, so its bytes are looked at one by one.
 fn space(line: &[u8]) -> Option<usize>
     ensures { result ≡ position (λ byte. byte == 32) line.now }
 {
-    line.iter().position(|byte| *byte == b' ')
+    match line {
+        [first, b' ', ..] if *first != b' ' => Some(1),
+        _ => line.iter().position(|byte| *byte == b' '),
+    }
 }
 
 /// The place of the first newline.

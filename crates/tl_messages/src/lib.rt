@@ -1,10 +1,10 @@
 //! Heads and later beats: which beat of a link begins a message, and which belongs to an earlier one.
 #![tactic(auto)]
 
-ghost use Rattle.std.specs.Prelude.{◌≡◌, ◌-◌, ◌≤◌, ℕ, List, [], ◌∷◌, option_map};
+ghost use Rattle.std.specs.Prelude.{◌≡◌, ◌≤◌, ℕ, List, [], ◌∷◌, option_map};
 ghost use Rattle.tl_topology.specs.Topology.{IsSound};
 ghost use Rattle.tl_beats.specs.Beats.{IsWellFormed};
-ghost use Rattle.tl_definitions.specs.Heads.{beat_count, left};
+ghost use Rattle.tl_definitions.specs.Heads.{beat_count};
 ghost use Rattle.tl_messages.specs.Bursts.{SameBursts};
 
 use tl_beats::Beat;
@@ -77,7 +77,15 @@ impl BurstState {
         match slot {
             Some(burst) if burst.missing > 1 => burst.missing -= 1,
             Some(_) => *slot = None,
-            None => *slot = unfinished(link, beat),
+            None => {
+                let count = beat_count(link, beat);
+                if count > 1 {
+                    *slot = Some(Unfinished {
+                        head: *beat,
+                        missing: count - 1,
+                    });
+                }
+            }
         }
     }
 
@@ -117,20 +125,5 @@ impl Same for BurstState {
 
     fn is_same(&self, other: &Self) -> bool {
         self == other
-    }
-}
-
-/// The burst that begins with a head, where it misses beats then.
-fn unfinished(link: &LinkDecl, head: &Beat) -> Option<Unfinished>
-    requires link { IsSound link.now }
-    requires head { IsWellFormed head.now }
-    ensures { result ≡ left head.now (beat_count link.now head.now - 1) }
-{
-    match beat_count(link, head) {
-        1 => None,
-        count => Some(Unfinished {
-            head: *head,
-            missing: count - 1,
-        }),
     }
 }

@@ -1,9 +1,11 @@
 //! The rules of later beats of a burst.
 
-ghost use Rattle.std.specs.Prelude.{◌≡◌};
+ghost use Rattle.std.specs.Prelude.{◌≡◌, true, [], filter};
+ghost use Rattle.tl_tables.specs.declared.Op.{Op as AnyOp};
+ghost use Rattle.tl_topology.specs.declared.LinkDecl.{LinkDecl as AnyLink};
 ghost use Rattle.tl_topology.specs.Topology.{IsSound};
 ghost use Rattle.tl_beats.specs.Beats.{IsWellFormed};
-ghost use Rattle.tl_definitions.specs.Breaks.{is_alike, breaks_later, later_rules};
+ghost use Rattle.tl_definitions.specs.Breaks.{is_alike, breaks_later, later_order, later_rules};
 
 use crate::fields::{is_denied_data, is_off_lanes};
 use crate::rule_list::RuleList;
@@ -41,6 +43,16 @@ fn breaks(link: &LinkDecl, op: Op, head: &Beat, beat: &Beat, rule: Rule) -> bool
     }
 }
 
+/// Whether a later beat is seen to break no rule, whatever the message of its head is.
+#[tactic(auto, using(crate::proofs::Clean::clean))]
+fn is_clean(head: &Beat, beat: &Beat) -> bool
+    ensures { result ≡ true → (link : AnyLink) (op : AnyOp) → filter (breaks_later link op head.now beat.now) later_order ≡ [] }
+{
+    let has_mask = matches!(head.chan, Chan::A | Chan::B);
+    let is_denied = head.chan == Chan::D && beat.denied && !beat.corrupt;
+    !has_mask && !is_denied && is_alike(head, beat)
+}
+
 /// The rules that a later beat breaks, by the head of its burst, in the order of reports, each once: F5 by the head's
 /// lanes and the beat's mask, F7 by the beat's own bits, U1 where it differs from the head in a field that all beats of a
 /// burst share. [TileLink 1.8: serialization, byte lanes, denied and corrupt]
@@ -50,6 +62,10 @@ pub fn check_later(alloc: Global, link: &LinkDecl, head: &Beat, beat: &Beat) -> 
     ensures { result ≡ later_rules link.now beat.now head.now }
 {
     let mut rules = RuleList::new(alloc);
+    // Most later beats end here, and the message of their head isn't looked up.
+    if is_clean(head, beat) {
+        return rules;
+    }
     let Some(op) = op_of(link.level, head.chan, head.opcode) else {
         return rules;
     };

@@ -1,16 +1,16 @@
 //! Heads and later beats: which beat of a link begins a message, and which belongs to an earlier one.
 #![tactic(auto)]
 
-ghost use Rattle.std.specs.Prelude.{◌≡◌, ◌≤◌, ℕ, List, [], ◌∷◌};
+ghost use Rattle.std.specs.Prelude.{◌≡◌, ◌≤◌, ℕ, List, [], ◌∷◌, option_map};
 ghost use Rattle.tl_topology.specs.Topology.{IsSound};
 ghost use Rattle.tl_beats.specs.Beats.{IsWellFormed};
-ghost use Rattle.tl_definitions.specs.Heads.{beat_count, left};
+ghost use Rattle.tl_definitions.specs.Heads.{beat_count};
 ghost use Rattle.tl_messages.specs.Bursts.{SameBursts};
 
 use tl_beats::Beat;
 use tl_definitions::Unfinished;
 use tl_same::Same;
-use tl_tables::{carries_data, chan_index, op_of};
+use tl_tables::{Chan, carries_data, chan_index, op_of};
 use tl_topology::LinkDecl;
 
 /// Where a beat stands in its message. [TileLink 1.8: serialization]
@@ -56,6 +56,39 @@ impl BurstState {
         BurstState { slots: [None; 5] }
     }
 
+    /// The head of the burst that the next beat of a channel belongs to; None where that beat is a head itself.
+    pub fn head(&self, chan: Chan) -> Option<&Beat>
+        ensures { option_map (λ head. head.now) result ≡ option_map (λ burst. burst.head) (slot_at self.now chan) }
+    {
+        match &self.slots[chan_index(chan)] {
+            Some(burst) => Some(&burst.head),
+            None => None,
+        }
+    }
+
+    /// The state with the next beat of the link, whatever that is.
+    #[tactic(auto, using(crate::proofs::BurstLaws::slot_set))]
+    pub fn pass(&mut self, link: &LinkDecl, beat: &Beat)
+        requires link { IsSound link.now }
+        requires beat { IsWellFormed beat.now }
+        ensures { (chan : AnyChan) → slot_at self.new chan ≡ slots_after link.now beat.now (slot_at self.old) chan }
+    {
+        let slot = &mut self.slots[chan_index(beat.chan)];
+        match slot {
+            Some(burst) if burst.missing > 1 => burst.missing -= 1,
+            Some(_) => *slot = None,
+            None => {
+                let count = beat_count(link, beat);
+                if count > 1 {
+                    *slot = Some(Unfinished {
+                        head: *beat,
+                        missing: count - 1,
+                    });
+                }
+            }
+        }
+    }
+
     /// What the next beat of the link is, a head or a later beat of its head, and the state with it. [TileLink 1.8:
     /// serialization]
     #[tactic(auto, using(crate::proofs::BurstLaws::stands_law, crate::proofs::BurstLaws::place_stands))]
@@ -71,27 +104,18 @@ impl BurstState {
         ensures stands { (number fragment line : ℕ) (before : List Placed) → StandsFor self.old link.now number before
             → StandsFor self.new link.now number (record { link = number; fragment = fragment; line = line; beat = beat.now } ∷ before) }
     {
-        self.advance(link, beat)
+        let place = self.place(beat.chan);
+        self.pass(link, beat);
+        place
     }
 
-    /// The same on what the state shows.
-    #[tactic(auto, using(crate::proofs::BurstLaws::slot_set))]
-    fn advance(&mut self, link: &LinkDecl, beat: &Beat) -> Place
-        requires link { IsSound link.now }
-        requires beat { IsWellFormed beat.now }
-        ensures place { result ≡ place_in (slot_at self.old beat.now.chan) }
-        ensures next { (chan : AnyChan) → slot_at self.new chan ≡ slots_after link.now beat.now (slot_at self.old) chan }
+    /// What the next beat of a channel is.
+    fn place(&self, chan: Chan) -> Place
+        ensures { result ≡ place_in (slot_at self.now chan) }
     {
-        let slot = &mut self.slots[chan_index(beat.chan)];
-        match *slot {
-            Some(burst) => {
-                *slot = unfinished(burst.head, burst.missing.saturating_sub(1));
-                Place::Later(burst.head)
-            }
-            None => {
-                *slot = unfinished(*beat, beat_count(link, beat) - 1);
-                Place::Head
-            }
+        match self.head(chan) {
+            Some(head) => Place::Later(*head),
+            None => Place::Head,
         }
     }
 }
@@ -101,16 +125,5 @@ impl Same for BurstState {
 
     fn is_same(&self, other: &Self) -> bool {
         self == other
-    }
-}
-
-/// The burst of a head that misses so many beats, where it misses any.
-fn unfinished(head: Beat, missing: u16) -> Option<Unfinished>
-    ensures { result ≡ left head missing }
-{
-    if missing > 0 {
-        Some(Unfinished { head, missing })
-    } else {
-        None
     }
 }

@@ -1,14 +1,16 @@
--- One link's step, by what its state shows.
-use Rattle.std.proofs.Common.{◌≡◌, Option, None, Some, refl}
+-- What the head that a link's bursts tell says of the next beat of its channel.
+use Rattle.std.proofs.Common.{◌≡◌, Bor, Option, None, Some, refl, sym, ap, ◌∙◌}
+use Rattle.std.specs.Option.{option_map}
+use Rattle.std.proofs.lemmas.Option.{none-some, same_Some}
 use Rattle.tl_beats.specs.declared.Beat.{Beat}
 use Rattle.tl_definitions.specs.declared.Unfinished.{Unfinished}
-use Rattle.tl_messages.specs.declared.Place.TheVariants as place
-use Rattle.tl_messages.specs.Bursts.{place_in}
 
-pub head_is_free : (slot : Option Unfinished) → place.Head ≡ place_in slot → slot ≡ None
-head_is_free None h = refl
-head_is_free (Some burst) h = cc
+pub head_is_free : (found : Option (Bor Beat)) (slot : Option Unfinished) → option_map (λ (head : Bor Beat). head.now) found ≡ option_map (λ (burst : Unfinished). burst.head) slot
+    → found ≡ None → slot ≡ None
+head_is_free found None is none = refl
+head_is_free found (Some burst) is none = absurd (none-some burst.head (sym (ap (option_map (λ (head : Bor Beat). head.now)) none) ∙ is))
 
-pub later_is_taken : (slot : Option Unfinished) (head : Beat) → place.Later head ≡ place_in slot → (burst : Unfinished) × (slot ≡ Some burst) × (burst.head ≡ head)
-later_is_taken None head h = cc
-later_is_taken (Some burst) head h = (burst, refl, cc)
+pub later_is_taken : (found : Option (Bor Beat)) (head : Bor Beat) (slot : Option Unfinished) → option_map (λ (head : Bor Beat). head.now) found ≡ option_map (λ (burst : Unfinished). burst.head) slot
+    → found ≡ Some head → (burst : Unfinished) × (slot ≡ Some burst) × (burst.head ≡ head.now)
+later_is_taken found head None is some = absurd (none-some head.now (sym is ∙ ap (option_map (λ (head : Bor Beat). head.now)) some))
+later_is_taken found head (Some burst) is some = (burst, refl, same_Some burst.head head.now (sym is ∙ ap (option_map (λ (head : Bor Beat). head.now)) some))

@@ -8,18 +8,14 @@ use Rattle.tl_definitions.specs.declared.Unfinished.{Unfinished}
 use Rattle.tl_definitions.specs.Heads.{message_of}
 use Rattle.tl_definitions.specs.Past.{flow_past}
 use Rattle.tl_messages.specs.Bursts.{slot_at, slots_after, SameBursts}
+use Rattle.tl_flow_rules.specs.declared.flow.FlowAnswer.{FlowAnswer}
 use Rattle.tl_flow_rules.specs.Flow as flow
 use Rattle.tl_span.specs.declared.links.LinkState.{LinkState}
-use Rattle.tl_span.specs.declared.links.Found.{Found}
-use Rattle.tl_span.specs.declared.links.Found.TheVariants as found
 
--- What the next beat of a link is, by the burst that its channel leaves unfinished: a head, with what its link's past makes
--- of it, or a later beat of the head of that burst.
-abbrev pub IsFound : LinkDecl → Beat → LinkState → Found → Type 0
-IsFound decl beat old (found.Head answer) = (slot_at old.bursts beat.chan ≡ None)
-    × (answer.rules ≡ flow.rules_in (flow.shown old.flow) beat (message_of decl beat))
-    × (answer.request ≡ flow.answered_in (flow.shown old.flow) beat (message_of decl beat))
-IsFound decl beat old (found.Later head) = (burst : Unfinished) × (slot_at old.bursts beat.chan ≡ Some burst) × (burst.head ≡ head)
+-- What the link's past makes of a head.
+abbrev pub IsAnswer : LinkDecl → Beat → LinkState → FlowAnswer → Type 0
+IsAnswer decl head old answer = (answer.rules ≡ flow.rules_in (flow.shown old.flow) head (message_of decl head))
+    × (answer.request ≡ flow.answered_in (flow.shown old.flow) head (message_of decl head))
 
 -- The link's state after the beat.
 pub record IsNext (decl : LinkDecl) (beat : Beat) (old new : LinkState) : Type 0 where

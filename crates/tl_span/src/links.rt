@@ -1,15 +1,16 @@
 //! One link of a manager, between two of its beats.
 
-ghost use Rattle.std.specs.Prelude.{IfOk, OnOk};
+ghost use Rattle.std.specs.Prelude.{◌≡◌, IfOk, OnOk, None, is_none, false};
 ghost use Rattle.std.specs.Bool.{Decides};
 ghost use Rattle.tl_topology.specs.Topology.{IsSound};
 ghost use Rattle.tl_beats.specs.Beats.{IsWellFormed};
-ghost use Rattle.tl_span.specs.Links.{IsFound, IsNext, IsOpening, SameLink};
+ghost use Rattle.tl_messages.specs.Bursts.{slot_at};
+ghost use Rattle.tl_span.specs.Links.{IsAnswer, IsNext, IsOpening, SameLink};
 
 use std::alloc::{AllocError, Global};
 use tl_beats::Beat;
 use tl_flow_rules::{FlowAnswer, FlowState};
-use tl_messages::{BurstState, Place};
+use tl_messages::BurstState;
 use tl_same::Same;
 use tl_topology::LinkDecl;
 
@@ -18,15 +19,6 @@ use tl_topology::LinkDecl;
 pub struct LinkState {
     pub bursts: BurstState,
     pub flow: FlowState,
-}
-
-/// What the next beat of a link is.
-#[derive(Drop)]
-pub enum Found {
-    /// A head, with the flow rules that it breaks and the request that it answers.
-    Head(FlowAnswer),
-    /// A later beat of this head.
-    Later(Beat),
 }
 
 impl LinkState {
@@ -40,19 +32,32 @@ impl LinkState {
         }
     }
 
-    /// What the next beat of the link is, by what the state shows; the state then shows what is left with it. AllocError where
-    /// memory is refused: then the state may have part of the beat.
-    #[tactic(auto, using(crate::proofs::LinkLaws::head_is_free, crate::proofs::LinkLaws::later_is_taken))]
-    pub fn step(&mut self, alloc: Global, decl: &LinkDecl, beat: &Beat) -> Result<Found, AllocError>
+    /// Takes the next beat of the link, which is a head: the flow rules that it breaks and the request that it answers. AllocError where memory is refused: then the state may have part of
+    /// the head.
+    pub fn begin(
+        &mut self,
+        alloc: Global,
+        decl: &LinkDecl,
+        head: &Beat,
+    ) -> Result<FlowAnswer, AllocError>
+        requires decl { IsSound decl.now }
+        requires beat { IsWellFormed head.now }
+        requires head { slot_at self.old.bursts head.now.chan ≡ None }
+        ensures answer { IfOk result (IsAnswer decl.now head.now self.old) }
+        ensures next { OnOk result (IsNext decl.now head.now self.old self.new) }
+    {
+        self.bursts.pass(decl, head);
+        self.flow.step(alloc, decl, head)
+    }
+
+    /// The state with a later beat.
+    pub fn go_on(&mut self, decl: &LinkDecl, beat: &Beat)
         requires decl { IsSound decl.now }
         requires beat { IsWellFormed beat.now }
-        ensures found { IfOk result (IsFound decl.now beat.now self.old) }
-        ensures next { OnOk result (IsNext decl.now beat.now self.old self.new) }
+        requires later { is_none (slot_at self.old.bursts beat.now.chan) ≡ false }
+        ensures { IsNext decl.now beat.now self.old self.new }
     {
-        match self.bursts.step(decl, beat) {
-            Place::Head => Ok(Found::Head(self.flow.step(alloc, decl, beat)?)),
-            Place::Later(head) => Ok(Found::Later(head)),
-        }
+        self.bursts.pass(decl, beat);
     }
 
     /// A state that shows the same. AllocError where memory is refused.

@@ -14,7 +14,7 @@ ghost use Rattle.tl_same.specs.SameItems.{SameItems};
 ghost use Rattle.tl_span.specs.Links.{SameLink, AreOpening};
 ghost use Rattle.tl_span.specs.States.{shown, HasLink, IsOf, StandsFor, SameSpan, AreFormed, Serves};
 
-use crate::links::{Found, LinkState};
+use crate::links::LinkState;
 use crate::rows::add_rows;
 use std::alloc::{AllocError, Global};
 use tl_beats::{Placed, Row};
@@ -91,18 +91,21 @@ impl SpanState {
             → OnOk result (IsOf m self.new × (shown self.new ≡ judged_next m (shown self.old) at.now)) }
     {
         let place = self.clients.place(at.link).unwrap();
-        match self.links[place].step(alloc, decl, &at.beat)? {
-            Found::Head(answer) => {
+        let link = &mut self.links[place];
+        match link.bursts.head(at.beat.chan) {
+            Some(head) => {
+                let later = check_later(alloc, decl, head, &at.beat);
+                link.go_on(decl, &at.beat);
+                add_rows(rows, at, &later)
+            }
+            None => {
+                let answer = link.begin(alloc, decl, &at.beat)?;
                 let format = check_head(alloc, decl, exponent, regions, &at.beat);
                 let request = answer.request.as_ref();
                 let clients = self.clients.step(alloc, at.link, decl, &at.beat, request)?;
                 add_rows(rows, at, &format)?;
                 add_rows(rows, at, &answer.rules)?;
                 add_rows(rows, at, &clients)
-            }
-            Found::Later(head) => {
-                let later = check_later(alloc, decl, &head, &at.beat);
-                add_rows(rows, at, &later)
             }
         }
     }

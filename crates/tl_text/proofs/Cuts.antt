@@ -3,12 +3,18 @@ use Rattle.std.proofs.Common.{◌≡◌, ℕ, suc, ◌+◌, Bool, true, false, c
 use Rattle.std.specs.Prelude.{◌==◌, option_map, IfSome}
 use Rattle.std.specs.List.{position, position_or_len, list_all, onto_first}
 use Rattle.std.proofs.lemmas.Bool.{eqb-true, eq-eqb, cases_lt, lt-ltb, le-ltb, and_parts, not-true}
+use Rattle.std.proofs.lemmas.List.Sums.{position_or_len_is}
 use Rattle.std.proofs.lemmas.Option.{none-some, same_Some}
+use Rattle.memchr.specs.Find.{IsFirstByte, is_byte}
 use Rattle.tl_text.specs.Words.{cut, before_stop, word_at, lines_of, first_line, IsBehind}
 
 -- a line and those behind it
 abbrev pub Line : Type 0
 Line = List ℕ × List (List ℕ)
+
+is_false : (b : Bool) → ((b ≡ true) → ⊥) → b ≡ false
+is_false true h = absurd (h refl)
+is_false false h = refl
 
 pub first_is : (lines : List (List ℕ)) (line : List ℕ) (after : List (List ℕ)) (x next : List ℕ) → first_line (x ∷ next ∷ lines) ≡ Some (line, after) → ◌≡◌ {A = Line} (x, next ∷ lines) (line, after)
 first_is lines line after x next e = same_Some _ _ e
@@ -39,6 +45,22 @@ place_at false b bytes n c e = ap (onto b) e ∙ sym (one_more b bytes n)
 pub cut_place : (stop : ℕ) (bytes : List ℕ) → cut stop bytes ≡ cut_by bytes (position (λ byte. byte == stop) bytes)
 cut_place stop [] = refl
 cut_place stop (b ∷ bytes) = place_at (eqb b stop) b bytes (position_or_len (λ byte. byte == stop) bytes) (cut stop bytes) (cut_place stop bytes)
+
+-- the first place that a search finds
+pub found_place : (stop : ℕ) (bytes : List ℕ) (found : Option ℕ) → IsFirstByte (is_byte stop) bytes found → found ≡ position (λ byte. byte == stop) bytes
+found_place stop bytes None none =
+    let all : position_or_len (λ byte. byte == stop) bytes ≡ length bytes = position_or_len_is (λ byte. byte == stop) bytes (length bytes) 0 (omega arith)
+    (λ k lt. is_false _ (none k (omega arith) lt)) (λ lt. absurd (omega arith)) in
+    rw (all, le-ltb (length bytes) (length bytes) (omega arith)) refl
+found_place stop bytes (Some at) found =
+    let here : position_or_len (λ byte. byte == stop) bytes ≡ at = position_or_len_is (λ byte. byte == stop) bytes at 0 (omega (arith, found.0.high))
+    (λ k lt. is_false _ (found.0.before k (omega arith) lt)) (λ lt. found.1) in
+    rw (here, lt-ltb at (length bytes) found.0.high) refl
+
+-- the parts by the place that was found
+pub cut_found : (stop : ℕ) (bytes : List ℕ) (place : Option ℕ) → place ≡ position (λ byte. byte == stop) bytes
+    → before_stop stop bytes ≡ option_map (λ rest. ((cut_by bytes place).0, rest)) (cut_by bytes place).1
+cut_found stop bytes place e = ap (λ (c : List ℕ × Option (List ℕ)). option_map (λ rest. (c.0, rest)) c.1) (cut_place stop bytes ∙ ap (cut_by bytes) (sym e))
 
 -- ---- laws
 

@@ -203,13 +203,22 @@ at_end : (base v i : ℕ) (word : List ℕ) → length word ≤ i → value_afte
 unfolding value_after
 at_end base v i word le inv = sym inv ∙ rw (drop_all i word le) refl
 
-pub ends_within : (base most v i : ℕ) (word : List ℕ) → length word ≤ i → is_led word ≡ true → v ≤ most → value_after base v (drop i word) ≡ value_after base 0 word → number_at base most word ≡ Some v
+pub ends_at : (base most v i : ℕ) (word : List ℕ) → length word ≤ i → is_led word ≡ true → value_after base v (drop i word) ≡ value_after base 0 word
+    → number_at base most word ≡ cond (leb v most) (Some v) None
 unfolding number_at
-ends_within base most v i word le led small inv = rw (led, at_end base v i word le inv, le-leb v most small) refl
+ends_at base most v i word le led inv = rw (led, at_end base v i word le inv) refl
 
-pub ends_past : (base most v i : ℕ) (word : List ℕ) → length word ≤ i → is_led word ≡ true → most < v → value_after base v (drop i word) ≡ value_after base 0 word → number_at base most word ≡ None
-unfolding number_at
-ends_past base most v i word le led large inv = rw (led, at_end base v i word le inv, lt-leb v most large) refl
+-- ---- one byte alone
+
+digit_within : (base most : ℕ) (d : Option ℕ) → ((d >>= λ n. Some (0 * base + n)) >>= λ n. cond (leb n most) (Some n) None) ≡ (d >>= λ n. cond (leb n most) (Some n) None)
+digit_within base most None = refl
+digit_within base most (Some n) = let same : 0 * base + n ≡ n = omega arith in rw same refl
+
+pub one_byte : (base most : ℕ) (word : List ℕ) → 1 ≤ length word → length word < 2 → number_at base most word ≡ (digit base (get_or word 0 0) >>= λ n. cond (leb n most) (Some n) None)
+unfolding number_at value_after
+one_byte base most [] some few = absurd (omega arith)
+one_byte base most (b ∷ []) some few = digit_within base most (digit base b)
+one_byte base most (b ∷ c ∷ bytes) some few = absurd (omega arith)
 
 -- ---- what stands in no number
 

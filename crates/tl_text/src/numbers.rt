@@ -1,6 +1,6 @@
 //! Numbers, in decimal and hexadecimal.
 
-ghost use Rattle.std.specs.Prelude.{◌≡◌, ◌≤◌, ◌^◌, ◌-◌, ◌<◌, ℕ, Some, IfSome};
+ghost use Rattle.std.specs.Prelude.{◌≡◌, ◌≤◌, ◌^◌, ◌-◌, ◌<◌, ℕ, Some, None, IfSome, nat_le, if◌then◌else◌};
 ghost use Rattle.tl_text.specs.Numbers.{digit, number_at, is_led, numeral};
 
 #[tactic(auto, unfolding(crate::specs::Numbers::digit))]
@@ -8,10 +8,14 @@ fn digit(byte: u8, base: u64) -> Option<u64>
     requires { base ≤ 16 }
     ensures { result ≡ digit base byte }
 {
-    let value = match byte {
-        b'0'..=b'9' => byte - b'0',
-        b'a'..=b'f' => byte - b'a' + 10,
-        _ => return None,
+    let decimal = byte.wrapping_sub(b'0');
+    let letter = byte.wrapping_sub(b'a');
+    let value = if decimal < 10 {
+        decimal
+    } else if letter < 6 {
+        letter + 10
+    } else {
+        return None;
     };
     let value = u64::from(value);
     if value < base { Some(value) } else { None }
@@ -28,8 +32,16 @@ fn is_led(word: &[u8]) -> bool
     }
 }
 
+/// A number, where it is at most `most`.
+fn at_most(value: u64, most: u64) -> Option<u64>
+    ensures { result ≡ (if nat_le value most then Some value else None) }
+{
+    if value <= most { Some(value) } else { None }
+}
+
+/// The number that two digits or more spell.
 #[tactic(auto, unfolding(crate::specs::Numbers::number_at))]
-fn number(word: &[u8], base: u64, most: u64) -> Option<u64>
+fn long_number(word: &[u8], base: u64, most: u64) -> Option<u64>
     requires low { 2 ≤ base }
     requires high { base ≤ 16 }
     ensures exact { result ≡ number_at base most word.now }
@@ -43,7 +55,21 @@ fn number(word: &[u8], base: u64, most: u64) -> Option<u64>
         let digit = digit(*byte, base)?;
         value = value.checked_mul(base)?.checked_add(digit)?;
     }
-    if value <= most { Some(value) } else { None }
+    at_most(value, most)
+}
+
+/// The number that a word spells in this base, where it is at most `most`. Most words have one digit.
+#[tactic(auto, unfolding(crate::specs::Numbers::number_at))]
+fn number(word: &[u8], base: u64, most: u64) -> Option<u64>
+    requires low { 2 ≤ base }
+    requires high { base ≤ 16 }
+    ensures exact { result ≡ number_at base most word.now }
+    ensures within { IfSome result (λ n. n ≤ most) }
+{
+    match word {
+        [byte] => at_most(digit(*byte, base)?, most),
+        _ => long_number(word, base, most),
+    }
 }
 
 /// The number of at most `most` that a word spells in decimal with no leading zero; None where it spells none.

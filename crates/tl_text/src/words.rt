@@ -1,21 +1,36 @@
 //! Lines and words.
 
-ghost use Rattle.std.specs.Prelude.{◌≡◌, ◌==◌, ◌∷◌, ◌++◌, IfSome, option_map};
+ghost use Rattle.std.specs.Prelude.{◌≡◌, ◌==◌, ◌<◌, ◌∷◌, ◌++◌, ℕ, length, IfSome, option_map};
 ghost use Rattle.std.specs.List.{position};
 ghost use Rattle.tl_text.specs.Words.{before_stop, word_at, line_at, lines_of, first_line};
 
-fn place(bytes: &[u8], stop: u8) -> Option<usize>
-    ensures { result ≡ position (λ byte. byte == stop) bytes.now }
+use memchr::memchr;
+
+/// The place of the first space. A word is short, most often one byte, so its bytes are looked at one by one.
+fn space(line: &[u8]) -> Option<usize>
+    ensures { result ≡ position (λ byte. byte == 32) line.now }
 {
-    bytes.iter().position(|byte| *byte == stop)
+    match line {
+        [first, b' ', ..] if *first != b' ' => Some(1),
+        _ => line.iter().position(|byte| *byte == b' '),
+    }
 }
 
-/// The bytes before the first `stop` and those after it, or None where there is no stop.
-#[tactic(auto, using(crate::proofs::Cuts::cut_place))]
-fn cut(bytes: &[u8], stop: u8) -> Option<(&[u8], &[u8])>
-    ensures { option_map (λ x. (x.0.now, x.1.now)) result ≡ before_stop stop bytes.now }
+/// The place of the first newline.
+#[tactic(auto, using(crate::proofs::Cuts::found_place))]
+fn newline(bytes: &[u8]) -> Option<usize>
+    ensures { result ≡ position (λ byte. byte == 10) bytes.now }
 {
-    match place(bytes, stop) {
+    memchr(b'\n', bytes)
+}
+
+/// The bytes before the first stop, which stands at this place, and those after it; None where there is none.
+fn cut(bytes: &[u8], place: Option<usize>) -> Option<(&[u8], &[u8])>
+    requires { IfSome place (λ at. at < length bytes.now) }
+    ensures { (stop : ℕ) → place ≡ position (λ byte. byte == stop) bytes.now
+        → option_map (λ x. (x.0.now, x.1.now)) result ≡ before_stop stop bytes.now }
+{
+    match place {
         Some(at) => Some((&bytes[..at], &bytes[at + 1..])),
         None => None,
     }
@@ -28,7 +43,7 @@ pub fn word(line: &[u8]) -> Option<(&[u8], &[u8])>
     ensures exact { option_map (λ x. (x.0.now, x.1.now)) result ≡ word_at line.now }
     ensures joins { IfSome result (λ x. line.now ≡ x.0.now ++ 32 ∷ x.1.now) }
 {
-    cut(line, b' ')
+    cut(line, space(line))
 }
 
 /// The first line of a text, without its newline (byte 10), and what follows, or None where no newline follows.
@@ -39,5 +54,5 @@ pub fn line(bytes: &[u8]) -> Option<(&[u8], &[u8])>
     // The same on the text as its lines.
     ensures lines { option_map (λ x. (x.0.now, lines_of x.1.now)) result ≡ first_line (lines_of bytes.now) }
 {
-    cut(bytes, b'\n')
+    cut(bytes, newline(bytes))
 }

@@ -45,10 +45,7 @@ fn settlement_line(alloc: Global, number: u32, told: &Settlement) -> Result<Stri
 }
 
 /// What these monitors told at their end, a line each.
-pub(crate) fn settlement_lines(
-    alloc: Global,
-    attached: &[Attached],
-) -> Result<String, AllocError> {
+pub(crate) fn settlement_lines(alloc: Global, attached: &[Attached]) -> Result<String, AllocError> {
     let mut text = String::new(alloc);
     for monitor in attached {
         if let Some(told) = monitor.cell.get() {

@@ -10,9 +10,7 @@ use tl_beats::Fragment;
 use tl_monitor::Monitor;
 use tl_plain::scratch;
 use tl_report::{OnceFault, Report, all_added};
-use tl_run::{
-    AuditFault, CommandFault, Outcome, Session, Stop, StopCause, asked_by, log_of,
-};
+use tl_run::{AuditFault, CommandFault, Outcome, Session, Stop, StopCause, asked_by, log_of};
 use tl_script::{Command, read_command};
 use tl_show::{shown_audit, shown_report};
 use tl_text::{ByteOut, Word, WriteFault, write_all, write_words};

@@ -70,10 +70,15 @@ fn each_monitor_tells_the_edit_that_closed_it(rt: HostRuntime) -> Result<(), Fai
     let detached = Arc::new(rt.alloc(), OnceLock::new())?;
     let last = Arc::new(rt.alloc(), OnceLock::new())?;
     let first = budget("dma9", 0, &refused)?;
-    let boxes = vec![in rt.alloc(); first, budget("dma0", 2, &detached)?, budget("dma0", 3, &last)?]?;
+    let boxes = vec![in rt.alloc();
+        first,
+        budget("dma0", 2, &detached)?,
+        budget("dma0", 3, &last)?,
+    ]?;
     let mut written = Vec::new(rt.alloc());
     let mut out = CountedWriter::new(&mut written);
-    let script = b"attach 5 budget dma9 A 4 0\nattach 5 budget dma0 A 4 2\nattach 6 budget dma0 A 4 3\ndetach 5\nretune 6 8\n";
+    let script =
+        b"attach 5 budget dma9 A 4 0\nattach 5 budget dma0 A 4 2\nattach 6 budget dma0 A 4 3\ndetach 5\nretune 6 8\n";
     run_script(rt.alloc(), &topo, script, boxes, &mut out)?;
     assert!(rt; written.as_slice() == b"refused 21\nedit 1\nedit 2\nedit 3\nedit 4\n".as_slice());
     assert!(rt; closed_at(&refused) == Some(0) && closed_at(&detached) == Some(3));

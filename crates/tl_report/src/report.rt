@@ -31,12 +31,7 @@ impl Model for Report {
 
 impl Report {
     /// The report with these parts. AllocError where memory is refused.
-    pub fn new(
-        alloc: Global,
-        version: u64,
-        edit: u64,
-        rows: Vec<Row>,
-    ) -> Result<Report, AllocError>
+    pub fn new(alloc: Global, version: u64, edit: u64, rows: Vec<Row>) -> Result<Report, AllocError>
         ensures { IfOk result (λ report. report ≡ record { version = version; edit = edit; rows = rows.items }) }
     {
         Ok(Report {

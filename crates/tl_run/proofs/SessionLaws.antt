@@ -133,6 +133,6 @@ module _ (old mid : Core) (count : ℕ) (checked : RechecksAll old count mid) wh
     publish_step line found is said =
         let same : found ≡ published.report = (let both : Some found ≡ Some published.report = sym is ∙ last_published in cc) in
         let text : line ≡ report_bytes (log_of old).topo (record { version = length old.reports + 1; edit = length (log_of old).edits; rows = published.report.rows }) =
-            said ∙ ap (λ t. report_bytes t found) published_topology ∙ ap (report_bytes (log_of old).topo) (same ∙ is_named) in
+        said ∙ ap (λ t. report_bytes t found) published_topology ∙ ap (report_bytes (log_of old).topo) (same ∙ is_named) in
         subst (λ n. IsStep (log_of old).topo (progress_of old) a_report line n) (sym comes_to)
         (subst (λ room. IsPublish (log_of old).topo (progress_of old) room line next) (sym (has_room published.room)) (renews, text))

@@ -1,10 +1,9 @@
 -- What the state of one link shows.
-use Rattle.std.specs.Prelude.{◌≡◌, List, [], None, Some, is_none, if◌then◌else◌}
+use Rattle.std.specs.Prelude.{◌≡◌, List, [], None, is_none, if◌then◌else◌}
 use Rattle.std.specs.List.{AllByRecursion}
 use Rattle.tl_tables.specs.declared.Chan.{Chan}
 use Rattle.tl_topology.specs.declared.LinkDecl.{LinkDecl}
 use Rattle.tl_beats.specs.declared.Beat.{Beat}
-use Rattle.tl_definitions.specs.declared.Unfinished.{Unfinished}
 use Rattle.tl_definitions.specs.Heads.{message_of}
 use Rattle.tl_definitions.specs.Past.{flow_past}
 use Rattle.tl_messages.specs.Bursts.{slot_at, slots_after, SameBursts}

@@ -1,4 +1,4 @@
-use Rattle.std.proofs.Common.{arith, Some, None, length, sym, ap, ◌∙◌}
+use Rattle.std.proofs.Common.{arith, None, sym, ◌∙◌}
 use Rattle.std.proofs.lemmas.List.{take_all}
 use Rattle.std.proofs.lemmas.Grind.{common_steps}
 use Rattle.tl_text.proofs.Cuts.{cut_found}

@@ -58,13 +58,13 @@ pub(crate) struct Bench {
 }
 
 /// The fragment with a text.
-fn fragment(alloc: Global, text: &str) -> Result<Arc<Fragment>, Fail> {
+pub(crate) fn fragment(alloc: Global, text: &str) -> Result<Arc<Fragment>, Fail> {
     let fragment = parse_whole_fragment(alloc, text.as_bytes())?;
     Ok(Arc::new(alloc, fragment)?)
 }
 
 /// A name.
-fn name(word: &str) -> Result<Name, Fail> {
+pub(crate) fn name(word: &str) -> Result<Name, Fail> {
     Ok(Name::new(word.as_bytes()).ok_or("a name")?)
 }
 
@@ -233,10 +233,12 @@ impl Bench {
 
     /// Finishes the desk: what all its monitors told, and how often these were called.
     fn finish(self, alloc: Global) -> Result<String, Fail> {
-        let Bench { desk, calls, text } = self;
-        drop(text);
-        let (log, told) = desk.finish();
-        drop(log);
+        let Bench {
+            desk,
+            calls,
+            text: _,
+        } = self;
+        let (_, told) = desk.finish();
         let told = ends_text(alloc, &told)?;
         let ends = calls.ends.load(Ordering::SeqCst);
         Ok(format!(in alloc; "{told}ends {ends}\n")?)

@@ -39,7 +39,9 @@ fn an_open_get_reaches_the_next_window_alone(rt: HostRuntime) -> Result<(), Fail
     let told = answers(rt.alloc(), &steps)?;
     assert!(rt;
         told.as_str()
-            == "edit 1\nedit 2\nedit 3\nedit 4\nchecked 4\nedit 5\nchecked 2\nversion 1\nreport 1 5\ndma0 3 2 S1 0\n"
+            == "edit 1\nedit 2\nedit 3\nedit 4\nchecked 4\n\
+                edit 5\nchecked 2\n\
+                version 1\nreport 1 5\ndma0 3 2 S1 0\n"
     );
     Ok(())
 }
@@ -84,7 +86,10 @@ fn a_region_reaches_the_windows_of_its_manager(rt: HostRuntime) -> Result<(), Fa
     let told = answers(rt.alloc(), &steps)?;
     assert!(rt;
         told.as_str()
-            == "edit 1\nedit 2\nedit 3\nedit 4\nchecked 5\nedit 5\nchecked 3\nedit 6\nchecked 2\nedit 7\nchecked 3\n"
+            == "edit 1\nedit 2\nedit 3\nedit 4\nchecked 5\n\
+                edit 5\nchecked 3\n\
+                edit 6\nchecked 2\n\
+                edit 7\nchecked 3\n"
     );
     Ok(())
 }
@@ -107,7 +112,10 @@ fn a_monitor_comes_with_its_windows(rt: HostRuntime) -> Result<(), Fail> {
     let told = answers(rt.alloc(), &steps)?;
     assert!(rt;
         told.as_str()
-            == "edit 1\nedit 2\nedit 3\nedit 4\nchecked 5\nedit 5\nchecked 3\nedit 6\nchecked 2\nedit 7\nchecked 0\n"
+            == "edit 1\nedit 2\nedit 3\nedit 4\nchecked 5\n\
+                edit 5\nchecked 3\n\
+                edit 6\nchecked 2\n\
+                edit 7\nchecked 0\n"
     );
     Ok(())
 }
@@ -129,7 +137,9 @@ fn a_monitor_is_given_each_beat_once(rt: HostRuntime) -> Result<(), Fail> {
     let told = answers(rt.alloc(), &steps)?;
     assert!(rt;
         told.as_str()
-            == "edit 1\nedit 2\nedit 3\nedit 4\nbeats 0\nends 0\nchecked 6\nversion 1\nreport 1 4\ndma0 2 2 X1 5\ndma0 3 2 X1 5\nchecked 0\nbeats 6\nends 0\n"
+            == "edit 1\nedit 2\nedit 3\nedit 4\nbeats 0\nends 0\n\
+                checked 6\n\
+                version 1\nreport 1 4\ndma0 2 2 X1 5\ndma0 3 2 X1 5\nchecked 0\nbeats 6\nends 0\n"
     );
     Ok(())
 }
@@ -152,7 +162,10 @@ fn edits_elsewhere_give_a_monitor_nothing(rt: HostRuntime) -> Result<(), Fail> {
     let told = answers(rt.alloc(), &steps)?;
     assert!(rt;
         told.as_str()
-            == "edit 1\nedit 2\nedit 3\nchecked 4\nedit 4\nchecked 2\nedit 5\nchecked 1\nedit 6\nchecked 2\nbeats 4\nends 0\n"
+            == "edit 1\nedit 2\nedit 3\nchecked 4\n\
+                edit 4\nchecked 2\n\
+                edit 5\nchecked 1\n\
+                edit 6\nchecked 2\nbeats 4\nends 0\n"
     );
     Ok(())
 }
@@ -174,7 +187,9 @@ fn a_retune_gives_a_monitor_all_again(rt: HostRuntime) -> Result<(), Fail> {
     let told = answers(rt.alloc(), &steps)?;
     assert!(rt;
         told.as_str()
-            == "edit 1\nedit 2\nedit 3\nedit 4\nchecked 6\nedit 5\nchecked 3\nversion 1\nreport 1 5\ndma0 3 2 X1 5\nbeats 12\nends 0\n"
+            == "edit 1\nedit 2\nedit 3\nedit 4\nchecked 6\n\
+                edit 5\nchecked 3\n\
+                version 1\nreport 1 5\ndma0 3 2 X1 5\nbeats 12\nends 0\n"
     );
     Ok(())
 }
@@ -198,7 +213,9 @@ fn a_tally_reaches_later_windows_where_it_changes(rt: HostRuntime) -> Result<(),
     let told = answers(rt.alloc(), &steps)?;
     assert!(rt;
         told.as_str()
-            == "edit 1\nedit 2\nedit 3\nedit 4\nchecked 6\nedit 5\nchecked 2\nbeats 8\nends 0\nedit 6\nchecked 3\nbeats 14\nends 0\n"
+            == "edit 1\nedit 2\nedit 3\nedit 4\nchecked 6\n\
+                edit 5\nchecked 2\nbeats 8\nends 0\n\
+                edit 6\nchecked 3\nbeats 14\nends 0\n"
     );
     Ok(())
 }

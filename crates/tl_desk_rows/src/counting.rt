@@ -9,7 +9,7 @@ use tl_tables::Chan;
 use tl_topology::Name;
 
 /// Gets.
-const GET: Class = Class {
+pub(crate) const GET: Class = Class {
     chan: Chan::A,
     opcode: 4,
 };

@@ -76,7 +76,9 @@ fn a_refused_monitor_comes_back_and_nothing_changes(rt: HostRuntime) -> Result<(
     let told = answers(rt.alloc(), &steps)?;
     assert!(rt;
         told.as_str()
-            == "edit 1\nedit 2\nchecked 2\nback 8\nrefused 27\nback 2\nrefused 21\nbeats 2\nends 0\nversion 1\nreport 1 2\n"
+            == "edit 1\nedit 2\nchecked 2\n\
+                back 8\nrefused 27\nback 2\nrefused 21\nbeats 2\nends 0\n\
+                version 1\nreport 1 2\n"
     );
     Ok(())
 }

@@ -42,7 +42,9 @@ fn an_older_report_keeps_its_rows(rt: HostRuntime) -> Result<(), Fail> {
     let told = answers(rt.alloc(), &steps)?;
     assert!(rt;
         told.as_str()
-            == "edit 1\nedit 2\nchecked 1\nversion 1\nedit 3\nreport 1 2\ndma0 1 2 F10 0\nchecked 1\nversion 2\nreport 2 3\nreport 1 2\ndma0 1 2 F10 0\n"
+            == "edit 1\nedit 2\nchecked 1\n\
+                version 1\nedit 3\nreport 1 2\ndma0 1 2 F10 0\nchecked 1\n\
+                version 2\nreport 2 3\nreport 1 2\ndma0 1 2 F10 0\n"
     );
     Ok(())
 }
@@ -85,7 +87,9 @@ fn fragments_come_and_go(rt: HostRuntime) -> Result<(), Fail> {
     let told = answers(rt.alloc(), &steps)?;
     assert!(rt;
         told.as_str()
-            == "edit 1\nedit 2\nedit 3\nedit 4\nchecked 3\nversion 1\nreport 1 4\ndma0 3 2 S1 0\nedit 5\nchecked 1\nversion 2\nreport 2 5\n"
+            == "edit 1\nedit 2\nedit 3\nedit 4\nchecked 3\n\
+                version 1\nreport 1 4\ndma0 3 2 S1 0\nedit 5\nchecked 1\n\
+                version 2\nreport 2 5\n"
     );
     Ok(())
 }
@@ -107,7 +111,34 @@ fn a_cleared_link_has_no_windows(rt: HostRuntime) -> Result<(), Fail> {
     let told = answers(rt.alloc(), &steps)?;
     assert!(rt;
         told.as_str()
-            == "edit 1\nedit 2\nchecked 2\nversion 1\nedit 3\nchecked 0\nversion 2\nreport 2 3\nreport 1 2\ndma0 3 2 S1 0\nrefused 23\n"
+            == "edit 1\nedit 2\nchecked 2\n\
+                version 1\nedit 3\nchecked 0\n\
+                version 2\nreport 2 3\nreport 1 2\ndma0 3 2 S1 0\nrefused 23\n"
+    );
+    Ok(())
+}
+
+#[test]
+fn a_monitor_adds_its_own_rows_alone(rt: HostRuntime) -> Result<(), Fail> {
+    let steps = [
+        Step::Add(GETS[0]),
+        Step::Add(OPEN_GET),
+        Step::Add(GETS[2]),
+        Step::Attach(5, "dma0", 2),
+        Step::Recheck,
+        Step::Publish,
+        Step::Latest,
+        Step::Detach(5),
+        Step::Recheck,
+        Step::Publish,
+        Step::Latest,
+    ];
+    let told = answers(rt.alloc(), &steps)?;
+    assert!(rt;
+        told.as_str()
+            == "edit 1\nedit 2\nedit 3\nedit 4\nchecked 6\n\
+                version 1\nreport 1 4\ndma0 3 2 S1 0\ndma0 3 2 X1 5\nedit 5\nchecked 0\n\
+                version 2\nreport 2 5\ndma0 3 2 S1 0\n"
     );
     Ok(())
 }
@@ -130,7 +161,9 @@ fn a_handover_clears_the_second_writer(rt: HostRuntime) -> Result<(), Fail> {
     let told = answers(rt.alloc(), &steps)?;
     assert!(rt;
         told.as_str()
-            == "edit 1\nedit 2\nchecked 2\nversion 1\nreport 1 2\ncpu1 1 3 M1 0\nedit 3\nrefused 31\nchecked 2\nversion 2\nreport 2 3\n"
+            == "edit 1\nedit 2\nchecked 2\n\
+                version 1\nreport 1 2\ncpu1 1 3 M1 0\nedit 3\nrefused 31\nchecked 2\n\
+                version 2\nreport 2 3\n"
     );
     Ok(())
 }

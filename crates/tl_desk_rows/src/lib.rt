@@ -4,6 +4,8 @@
 #[cfg(test)]
 mod bench;
 #[cfg(test)]
+mod boxes;
+#[cfg(test)]
 mod checks;
 #[cfg(test)]
 mod counting;

@@ -1,5 +1,5 @@
 -- What a report is the report of, as plain data, and what one edit makes of it.
-use Rattle.std.specs.Prelude.{ℕ, ◌==◌, Bool, List, [], ◌∷◌, map, length, Option, Some, None, is_some, option_map, if◌then◌else◌, nat_le, slice_index_or, slice_set}
+use Rattle.std.specs.Prelude.{ℕ, ◌≡◌, ◌<◌, Bool, true, List, [], ◌∷◌, map, Option, Some, None, is_some, option_map, if◌then◌else◌, nat_le, slice_index_or, slice_set}
 use Rattle.std.specs.Option.{option_map_or}
 use Rattle.std.specs.Ordering.{nat_cmp}
 use Rattle.std.specs.BTreeMap.{insert_entry, is_at}
@@ -31,6 +31,10 @@ blank topo = record { topo = topo; fragments = []; regions = map (λ manager. []
 -- the regions of a manager
 abbrev pub regions_at : ℕ → List (List (ℕ × Area)) → List (ℕ × Area)
 regions_at manager regions = slice_index_or regions manager []
+
+-- Numbers of regions are below 256.
+abbrev pub AreNumbered : List (List (ℕ × Area)) → Type 0
+AreNumbered regions = (manager number : ℕ) → is_some (area_at number (regions_at manager regions)) ≡ true → number < 256
 
 -- whether a monitor was ever attached, and its watch where it is attached now
 abbrev pub was_attached : ℕ → List (ℕ × Option Watch) → Bool

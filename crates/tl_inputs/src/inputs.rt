@@ -7,7 +7,7 @@ ghost use Rattle.std.specs.List.Sorted.{IsStrictlySortedBy};
 ghost use Rattle.std.specs.Option.{option_copied};
 ghost use Rattle.std.specs.Ordering.{nat_cmp};
 ghost use Rattle.tl_definitions.specs.Watching.{IsWatch};
-ghost use Rattle.tl_inputs.specs.Inputs.{InputData, blank, watch_at, was_attached, attached};
+ghost use Rattle.tl_inputs.specs.Inputs.{InputData, AreNumbered, blank, watch_at, was_attached, attached};
 
 use std::alloc::{AllocError, Global};
 use std::collections::BTreeMap;
@@ -31,13 +31,13 @@ pub struct Inputs {
 impl Model for Inputs {
     ghost use Rattle.std.specs.Prelude.{◌≡◌, length};
     ghost use Rattle.std.specs.Arc.{arc_value};
-    ghost use Rattle.tl_inputs.specs.Inputs.{InputData};
+    ghost use Rattle.tl_inputs.specs.Inputs.{InputData, AreNumbered};
 
     ghost Value = { InputData };
 
     ghost view = { λ i. record { topo = arc_value i.topo; fragments = i.present; regions = i.regions.items; monitors = i.monitors.entries } };
 
-    ghost invariant = { λ i. length i.regions.items ≡ length (arc_value i.topo).managers };
+    ghost invariant = { λ i. (length i.regions.items ≡ length (arc_value i.topo).managers) × AreNumbered i.regions.items };
 }
 
 impl Inputs {
@@ -64,6 +64,13 @@ impl Inputs {
         &self.topo
     }
 
+    /// The topology, shared.
+    pub fn shared_topo(&self) -> &Arc<Topo>
+        ensures { arc_value result.now ≡ self.now.topo }
+    {
+        &self.topo
+    }
+
     /// The fragments that stand on its links.
     pub fn present(&self) -> &Present
         ensures { result.now ≡ self.now.fragments }
@@ -75,6 +82,8 @@ impl Inputs {
     pub fn regions(&self) -> &[RegionMap]
         ensures exact { result.now ≡ self.now.regions }
         ensures all { length result.now ≡ length self.now.topo.managers }
+        // The numbers of regions are below 256.
+        ensures numbers { AreNumbered self.now.regions }
     {
         self.regions.as_slice()
     }

@@ -1,6 +1,5 @@
-use Rattle.std.proofs.Common.{◌≡◌, List, [], map, take}
+use Rattle.std.proofs.Common.{◌≡◌, [], map, take}
 use Rattle.std.specs.Arc.{arc_value}
-use Rattle.tl_topology.specs.Regions.{Area}
 use Rattle.tl_inputs.proofs.inputs.Inputs.new.Given as goal
 
 -- one map for each manager so far

@@ -1,4 +1,4 @@
-use Rattle.std.proofs.Common.{rules, ◌≡◌, take}
+use Rattle.std.proofs.Common.{rules, take}
 use Rattle.tl_inputs.specs.Edits.{plain}
 use Rattle.tl_inputs.proofs.LogLaws.{next_is_free, next_is_made, all_is_made, inputs_topo}
 use Rattle.tl_inputs.proofs.log.Log.inputs_at.Goals as goal

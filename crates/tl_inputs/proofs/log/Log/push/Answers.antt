@@ -1,4 +1,4 @@
-use Rattle.std.proofs.Common.{rules, ◌≡◌}
+use Rattle.std.proofs.Common.{rules}
 use Rattle.tl_inputs.specs.Edits.{plain}
 use Rattle.tl_inputs.proofs.LogLaws.{kept_with}
 use Rattle.tl_inputs.proofs.log.Log.push.Goals as goal

@@ -1,0 +1,2 @@
+mod TaskLemmas
+mod CurrentLemmas

@@ -1,0 +1,75 @@
+//! Whether what a task was made of stands.
+
+ghost use Rattle.std.specs.Prelude.{◌≡◌, option_map};
+ghost use Rattle.std.specs.Bool.{Decides};
+ghost use Rattle.tl_definitions.specs.Managers.{declared_links};
+ghost use Rattle.tl_tasks.specs.Tasks.{HasNumbers};
+
+use tl_topology::{LinkDecl, Region, RegionMap, Topo};
+
+/// Whether two links are declared alike.
+fn is_link(own: &LinkDecl, other: &LinkDecl) -> bool
+    ensures { Decides result (own.now ≡ other.now) }
+{
+    own.name == other.name
+        && own.manager == other.manager
+        && own.level == other.level
+        && own.width == other.width
+        && own.max_size == other.max_size
+        && own.sources == other.sources
+        && own.strict == other.strict
+}
+
+/// Whether two topologies declare the same links.
+fn have_same_links(own: &Topo, other: &Topo) -> bool
+    ensures { Decides result (declared_links own.now ≡ declared_links other.now) }
+{
+    if own.link_count() != other.link_count() {
+        return false;
+    }
+    for number in 0..own.link_count() {
+        let link = own.link(number as u16).unwrap();
+        if !is_link(link, other.link(number as u16).unwrap()) {
+            return false;
+        }
+    }
+    true
+}
+
+/// Whether two regions are one, or none is there.
+fn is_region(own: Option<&Region>, other: Option<&Region>) -> bool
+    ensures { Decides result (option_map (λ r. r.now) own.entry ≡ option_map (λ r. r.now) other.entry) }
+{
+    match (own, other) {
+        (None, None) => true,
+        (Some(own), Some(other)) => {
+            let here = own.permits();
+            let there = other.permits();
+            own.first() == other.first()
+                && own.last() == other.last()
+                && here.get == there.get
+                && here.put == there.put
+                && here.atomic == there.atomic
+                && here.hint == there.hint
+                && here.cache == there.cache
+        }
+        _ => false,
+    }
+}
+
+/// Whether two managers have the same regions.
+fn are_regions(own: &RegionMap, other: &RegionMap) -> bool
+    requires own { HasNumbers own.now }
+    requires other { HasNumbers other.now }
+    ensures { Decides result (own.now ≡ other.now) }
+{
+    if own.is_empty() && other.is_empty() {
+        return true;
+    }
+    for number in 0..=255u8 {
+        if !is_region(own.get(number), other.get(number)) {
+            return false;
+        }
+    }
+    true
+}

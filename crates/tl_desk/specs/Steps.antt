@@ -66,8 +66,8 @@ pub record KeepsBoxes (old new : BoxesData) : Type 0 where
   pub ended : new.ended ≡ old.ended
   pub live : (number : ℕ) → option_map without_tally (held_at number new.live) ≡ option_map without_tally (held_at number old.live)
 
--- Exactly the windows that had no result, or one that did not begin with what stands before it, are checked, and all are settled. They
--- are counted, up to the greatest 64-bit number.
+-- Exactly the windows that had no result, or one that did not begin with what stands before it, are checked, and their tickets end; all
+-- are settled. They are counted, up to the greatest 64-bit number.
 pub record RechecksAll (old : Core) (count : ℕ) (new : Core) : Type 0 where
   pub log : log_of new ≡ log_of old
   pub of_managers : ℕ
@@ -78,7 +78,8 @@ pub record RechecksAll (old : Core) (count : ℕ) (new : Core) : Type 0 where
   pub boxes : KeepsBoxes old.boxes new.boxes
   pub reports : new.reports ≡ old.reports
 
--- Some of the windows that had no result, or one that did not begin with what stands before it, are checked; all else stays.
+-- Some of the windows that had no result, or one that did not begin with what stands before it, are checked, and their tickets end; all
+-- else stays.
 pub record RechecksSome (old new : Core) : Type 0 where
   pub log : log_of new ≡ log_of old
   pub managers : ChecksSome SameSpan old.windows.spans.board new.windows.spans.board

@@ -17,8 +17,8 @@ use tl_monitor::Monitor;
 use tl_watches::Watches;
 
 /// Checks every window of a monitor that is wanted, each once, with its monitor and from what its windows before it leave, until
-/// all of monitors are settled, and answers how many those were. AllocError where memory is refused: then some of these windows
-/// have their results.
+/// all of monitors are settled, and answers how many those were. The tickets of these windows end. AllocError where memory is
+/// refused: then some of these windows have their results, and no tickets.
 fn check_watches<M: Monitor>(
     alloc: Global,
     windows: &mut Watches,
@@ -44,8 +44,9 @@ fn check_watches<M: Monitor>(
 impl<M: Monitor> Desk<M> {
     /// Checks every window that is wanted, each once and from what stands before it, until all are settled, and answers how many
     /// those were, up to the greatest 64-bit number: the windows that had no result, or one that did not begin with what is left
-    /// by the beats before them. Every other result stays. AllocError where memory is refused: then some of these windows have
-    /// their results, and all else is as it was, but for the tallies of monitors.
+    /// by the beats before them. The tickets of these windows end; every other result and ticket stays. AllocError where memory is
+    /// refused: then some of these windows have their results, and no tickets, and all else is as it was, but for the tallies of
+    /// monitors.
     pub fn recheck_now(&mut self, alloc: Global) -> Result<u64, AllocError>
         ensures step { IfOk result (λ count. Step self.old (call.Recheck count) self.new) }
         ensures err { OnErr result (RechecksSome self.old self.new) }

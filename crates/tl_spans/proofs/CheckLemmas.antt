@@ -24,11 +24,12 @@ use Rattle.tl_definitions.proofs.Lists.{contains_here, contains_there, contains_
 use Rattle.tl_inputs.specs.Inputs.{InputData}
 use Rattle.tl_pieces.specs.declared.key.PieceKey.{PieceKey}
 use Rattle.tl_pieces.specs.Keys.{key_cmp, value_at, before, change}
-use Rattle.tl_pieces.specs.Pieces.{Piece, Board, Pass, IsBoard, opening_of, piece_at, result_of, exit_of, last_exit, left_by, IsFirst, entry_for, with_pieces, with_result}
+use Rattle.tl_pieces.specs.Pieces.{Piece, Board, Pass, IsBoard, opening_of, piece_at, result_of, exit_of, last_exit, left_by, IsFirst, entry_for, with_pieces}
 use Rattle.tl_pieces.proofs.OrderLemmas.{key_exact, key_self}
 use Rattle.tl_span.specs.declared.state.SpanState.{SpanState}
 use Rattle.tl_spans.specs.Spans.{SpansData, standing, manager_in, ShowsOf, opening_in, IsSpanOf, AreSpans, IsSound, ChecksWindow}
 use Rattle.tl_spans.specs.Covers.{Covers}
+use Rattle.tl_spans.specs.Windows.{with_checked}
 use Rattle.tl_spans.proofs.CoverLemmas.{found_at, at_found, some_of}
 
 -- ---- a change under a key
@@ -54,6 +55,14 @@ module _ {V : Type 0} (k : PieceKey) (f : V → V) (q : PieceKey) where
           ap (λ c. cond c (Some e.1) (value_at q (change k f es))) away ∙ later ∙ ap (λ c. cond c (option_map f (value_at q es)) (value_at q es)) own
           ∙ sym (ap (λ c. option_map f (cond c (Some e.1) (value_at q es))) away)
       go later false own false here = ap (λ found. cond (is_at (key_cmp q) e.0) (Some e.1) found) (later ∙ ap (λ c. cond c (option_map f (value_at q es)) (value_at q es)) own)
+
+-- Two changes under a key are one.
+pub change_twice : {V : Type 0} (k : PieceKey) (f g : V → V) (es : List (PieceKey × V)) → change k g (change k f es) ≡ change k (λ v. g (f v)) es
+change_twice k f g [] = refl
+change_twice k f g (e ∷ es) = elim (is_at (key_cmp k) e.0) as (λ b. is_at (key_cmp k) e.0 ≡ b → change k g (cond b ((e.0, f e.1) ∷ es) (e ∷ change k f es)) ≡ cond b ((e.0, g (f e.1)) ∷ es) (e ∷ change k (λ v. g (f v)) es)) [
+  | true ↦ λ at. ap (λ b. cond b ((e.0, g (f e.1)) ∷ es) ((e.0, f e.1) ∷ change k g es)) at
+  | false ↦ λ at. ap (λ b. cond b ((e.0, g e.1) ∷ change k f es) (e ∷ change k g (change k f es))) at ∙ ap (λ t. e ∷ t) (change_twice k f g es)
+] refl
 
 -- ---- what a check is to start from
 
@@ -120,34 +129,34 @@ module _ (now : InputData) (board : Board SpanState (List Row)) (covers : AreSpa
   pub entry_shows : (state : SpanState) → entry_for key board ≡ Some state → (x : Snapshot) × ShowsOf now key.owner state x
   entry_shows = shown_entry (ShowsOf now) (λ m. judging (manager_in now m)) (λ m. manager_beats now.topo now.fragments m) (opening_in now) board covers is key
 
--- ---- the board with one more result
+-- ---- the board with one more result, whose ticket has ended
 
 module _ {S R : Type 0} (P : PieceKey → Pass S R → Type 0) (old new : Board S R) (key : PieceKey) (result : Pass S R)
-    (is : new ≡ with_pieces old (change key (with_result result) old.pieces)) where
-  found : (q : PieceKey) → piece_at q new ≡ cond (is_at (key_cmp q) key) (option_map (with_result result) (piece_at q old)) (piece_at q old)
-  found q = ap (λ (b : Board S R). piece_at q b) is ∙ lookup_change key (with_result result) q old.pieces
+    (is : new ≡ with_pieces old (change key (with_checked result) old.pieces)) where
+  found : (q : PieceKey) → piece_at q new ≡ cond (is_at (key_cmp q) key) (option_map (with_checked result) (piece_at q old)) (piece_at q old)
+  found q = ap (λ (b : Board S R). piece_at q b) is ∙ lookup_change key (with_checked result) q old.pieces
 
   pub same_openings : new.openings ≡ old.openings
   same_openings = ap (λ (b : Board S R). b.openings) is
 
-  mapped_there : (x : Option (Piece S R)) → is_some (option_map (with_result result) x) ≡ is_some x
+  mapped_there : (x : Option (Piece S R)) → is_some (option_map (with_checked result) x) ≡ is_some x
   mapped_there None = refl
   mapped_there (Some x) = refl
 
   pub still_there : (q : PieceKey) → is_some (piece_at q new) ≡ is_some (piece_at q old)
-  still_there q = ap is_some (found q) ∙ elim (is_at (key_cmp q) key) as (λ b. is_some (cond b (option_map (with_result result) (piece_at q old)) (piece_at q old)) ≡ is_some (piece_at q old)) [
+  still_there q = ap is_some (found q) ∙ elim (is_at (key_cmp q) key) as (λ b. is_some (cond b (option_map (with_checked result) (piece_at q old)) (piece_at q old)) ≡ is_some (piece_at q old)) [
     | true ↦ mapped_there (piece_at q old)
     | false ↦ refl
   ]
 
-  changed_one : P key result → (x : Option (Piece S R)) (r : Pass S R) → result_of (option_map (with_result result) x) ≡ Some r → P key r
+  changed_one : P key result → (x : Option (Piece S R)) (r : Pass S R) → result_of (option_map (with_checked result) x) ≡ Some r → P key r
   changed_one holds None r h = cc
   changed_one holds (Some x) r h = subst (P key) (let same : result ≡ r = cc in same) holds
 
   pub results_after : P key result → ((q : PieceKey) (r : Pass S R) → result_of (piece_at q old) ≡ Some r → P q r) → (q : PieceKey) (r : Pass S R) → result_of (piece_at q new) ≡ Some r → P q r
   results_after holds earlier q r some = go (is_at (key_cmp q) key) refl (ap result_of (sym (found q)) ∙ some)
     where
-      go : (b : Bool) → is_at (key_cmp q) key ≡ b → result_of (cond b (option_map (with_result result) (piece_at q old)) (piece_at q old)) ≡ Some r → P q r
+      go : (b : Bool) → is_at (key_cmp q) key ≡ b → result_of (cond b (option_map (with_checked result) (piece_at q old)) (piece_at q old)) ≡ Some r → P q r
       go true at h = subst (λ (k : PieceKey). P k r) (sym (key_exact q key at)) (changed_one holds (piece_at q old) r h)
       go false at h = earlier q r h
 
@@ -155,7 +164,7 @@ abbrev IsSpanAt : InputData → PieceKey → Pass SpanState (List Row) → Type 
 IsSpanAt now key result = IsSpanOf now key.owner key.window result
 
 pub still_sound : (old : SpansData) → IsSound old → (key : PieceKey) (result : Pass SpanState (List Row)) → IsSpanOf (standing old) key.owner key.window result → (board : Board SpanState (List Row))
-    → board ≡ with_pieces old.board (change key (with_result result) old.board.pieces) → IsSound (record { log = old.log; board = board })
+    → board ≡ with_pieces old.board (change key (with_checked result) old.board.pieces) → IsSound (record { log = old.log; board = board })
 still_sound old sound key result of_window board is = record {
   managers = record {
     owners = λ number. ap (λ os. is_some (opening_of number os)) openings ∙ sound.managers.owners number;
@@ -234,13 +243,13 @@ first_there {S} {R} P l (e ∷ es) key h = elim h [
     either there false = there
 
 pub checks : (old now : SpansData) (mid board : Board SpanState (List Row)) (key : PieceKey) (result : Pass SpanState (List Row)) → mid ≡ old.board → old ≡ now → IsSpanOf (standing old) key.owner key.window result
-    → entry_for key mid ≡ Some result.entry → board ≡ with_pieces mid (change key (with_result result) mid.pieces) → ChecksWindow now key (record { log = old.log; board = board })
+    → entry_for key mid ≡ Some result.entry → board ≡ with_pieces mid (change key (with_checked result) mid.pieces) → ChecksWindow now key (record { log = old.log; board = board })
 checks old now mid board key result same view of_window entry is =
     subst (λ (n : SpansData). ChecksWindow n key (record { log = old.log; board = board })) view (record {
       result = result;
       of_window = of_window;
       entry = ap (entry_for key) (sym same) ∙ entry;
-      rest = ap (λ (b : Board SpanState (List Row)). record { log = old.log; board = b }) (is ∙ ap (λ (m : Board SpanState (List Row)). with_pieces m (change key (with_result result) m.pieces)) same);
+      rest = ap (λ (b : Board SpanState (List Row)). record { log = old.log; board = b }) (is ∙ ap (λ (m : Board SpanState (List Row)). with_pieces m (change key (with_checked result) m.pieces)) same);
     })
 
 -- A state that is the same may stand for the one that a window leaves.

@@ -24,6 +24,7 @@ use Rattle.tl_span.proofs.StateLaws.{shown_same}
 use Rattle.tl_span.specs.States.{SameSpan}
 use Rattle.tl_spans.specs.Recheck.{IsStale, ChecksThese, Rechecks}
 use Rattle.tl_spans.specs.Spans.{SpansData, standing, manager_in, ChecksFirst}
+use Rattle.tl_spans.specs.Windows.{with_checked}
 use Rattle.tl_spans.proofs.CheckLemmas.{lookup_change, first_there}
 use Rattle.tl_spans.proofs.CoverLemmas.{some_of, at_found}
 
@@ -202,6 +203,17 @@ module _ {S R : Type 0} where
           gt : key_cmp k e.0 ≡ Greater
           gt = key_total.antisymm k e.0 ∙ ap ordering_reverse (first_among (IsWanted same os) (λ y. key_cmp e.0 y ≡ Less) (left_by e.0 e.1) es k (sorted_head key_cmp e.0 (keys_of es) s) first.1)
 
+      -- A ticket that stays or ends makes no other piece the first that is wanted.
+      wanted_alike : (k : PieceKey) (r : Pass S R) (l : Option (ℕ × Option S)) (es : List (PieceKey × Piece S R)) (found : Option PieceKey) → IsFirst (IsWanted same os) l (change k (with_checked r) es) found
+          → IsFirst (IsWanted same os) l (change k (with_result r) es) found
+      wanted_alike k r l [] found h = h
+      wanted_alike k r l (e ∷ es) found h =
+          elim (is_at (key_cmp k) e.0) as (λ b. IsFirst (IsWanted same os) l (cond b ((e.0, with_checked r e.1) ∷ es) (e ∷ change k (with_checked r) es)) found
+          → IsFirst (IsWanted same os) l (cond b ((e.0, with_result r e.1) ∷ es) (e ∷ change k (with_result r) es)) found) [
+            | true ↦ λ own. own
+            | false ↦ λ other. elim other [ inl here ↦ inl here | inr later ↦ inr (later.0, wanted_alike k r (left_by e.0 e.1) es found later.1) ]
+          ] h
+
       -- Where all stand in a chain, each begins with what a job for it is to start from.
       each_follows : (k : PieceKey) (l : Option (ℕ × Option S)) (es : List (PieceKey × Piece S R)) → Rises es → IsPast l es → ChainsFrom same os l es → is_some (value_at k es) ≡ true
           → Follows same (entry_from os k l es) (result_of (value_at k es))
@@ -245,7 +257,7 @@ module _ {S R : Type 0} (same : S → S → Type 0) where
     checked = record {
       openings = refl;
       there = λ key. refl;
-      tickets = λ key. refl;
+      tickets = λ key h. absurd (contains_none key h);
       rise = tt;
       stale = λ key h. absurd (contains_none key h);
       begins = λ key h. absurd (contains_none key h);
@@ -258,33 +270,33 @@ module _ {S R : Type 0} (same : S → S → Type 0) where
   -- ---- one more
 
   module _ (keys : List PieceKey) (old now new : Board S R) (way : IsUnderWay keys old now) (k : PieceKey) (r : Pass S R) (alike : same r.entry r.entry) (first : IsFirstWanted same now (Some k))
-      (entry : entry_for k now ≡ Some r.entry) (is : new ≡ with_pieces now (change k (with_result r) now.pieces)) where
+      (entry : entry_for k now ≡ Some r.entry) (is : new ≡ with_pieces now (change k (with_checked r) now.pieces)) where
     openings : new.openings ≡ now.openings
     openings = ap (λ (b : Board S R). b.openings) is
 
-    found : (q : PieceKey) → piece_at q new ≡ cond (is_at (key_cmp q) k) (option_map (with_result r) (piece_at q now)) (piece_at q now)
-    found q = ap (λ (b : Board S R). piece_at q b) is ∙ lookup_change k (with_result r) q now.pieces
+    found : (q : PieceKey) → piece_at q new ≡ cond (is_at (key_cmp q) k) (option_map (with_checked r) (piece_at q now)) (piece_at q now)
+    found q = ap (λ (b : Board S R). piece_at q b) is ∙ lookup_change k (with_checked r) q now.pieces
 
     other : (q : PieceKey) → (q ≡ k → ⊥) → piece_at q new ≡ piece_at q now
-    other q differ = found q ∙ ap (λ b. cond b (option_map (with_result r) (piece_at q now)) (piece_at q now)) (apart q k differ)
+    other q differ = found q ∙ ap (λ b. cond b (option_map (with_checked r) (piece_at q now)) (piece_at q now)) (apart q k differ)
 
-    here : piece_at k new ≡ option_map (with_result r) (piece_at k now)
-    here = found k ∙ ap (λ b. cond b (option_map (with_result r) (piece_at k now)) (piece_at k now)) (ap is_eq (key_self k))
+    here : piece_at k new ≡ option_map (with_checked r) (piece_at k now)
+    here = found k ∙ ap (λ b. cond b (option_map (with_checked r) (piece_at k now)) (piece_at k now)) (ap is_eq (key_self k))
 
-    as_before : {A : Type 0} (f : Option (Piece S R) → A) → ((x : Option (Piece S R)) → f (option_map (with_result r) x) ≡ f x) → (q : PieceKey) → f (piece_at q new) ≡ f (piece_at q now)
-    as_before f kept q = ap f (found q) ∙ elim (is_at (key_cmp q) k) as (λ b. f (cond b (option_map (with_result r) (piece_at q now)) (piece_at q now)) ≡ f (piece_at q now)) [ true ↦ kept (piece_at q now) | false ↦ refl ]
+    as_before : {A : Type 0} (f : Option (Piece S R) → A) → ((x : Option (Piece S R)) → f (option_map (with_checked r) x) ≡ f x) → (q : PieceKey) → f (piece_at q new) ≡ f (piece_at q now)
+    as_before f kept q = ap f (found q) ∙ elim (is_at (key_cmp q) k) as (λ b. f (cond b (option_map (with_checked r) (piece_at q now)) (piece_at q now)) ≡ f (piece_at q now)) [ true ↦ kept (piece_at q now) | false ↦ refl ]
 
-    still_some : (x : Option (Piece S R)) → is_some (option_map (with_result r) x) ≡ is_some x
+    still_some : (x : Option (Piece S R)) → is_some (option_map (with_checked r) x) ≡ is_some x
     still_some None = refl
     still_some (Some x) = refl
 
-    still_live : (x : Option (Piece S R)) → live_of (option_map (with_result r) x) ≡ live_of x
-    still_live None = refl
-    still_live (Some x) = refl
+    no_ticket : (x : Option (Piece S R)) → live_of (option_map (with_checked r) x) ≡ None
+    no_ticket None = refl
+    no_ticket (Some x) = refl
 
     -- what stands before the piece or an earlier one
     same_entry : (q : PieceKey) → IsNotBefore q k → entry_for q new ≡ entry_for q now
-    same_entry q le = ap (entry_for q) is ∙ ap (λ t. option_or (last_exit q.owner t) (opening_of q.owner now.openings)) (before_changed q k (with_result r) now.pieces le)
+    same_entry q le = ap (entry_for q) is ∙ ap (λ t. option_or (last_exit q.owner t) (opening_of q.owner now.openings)) (before_changed q k (with_checked r) now.pieces le)
 
     below : (q : PieceKey) → Contains keys q → key_cmp q k ≡ Less
     below q h = way.passed q k h first
@@ -309,20 +321,20 @@ module _ {S R : Type 0} (same : S → S → Type 0) where
         subst (λ b. Follows same b (result_of (piece_at k new))) (sym (same_entry k (ap is_le (key_self k)) ∙ entry))
         (subst (λ x. Follows same (Some r.entry) (result_of x)) (sym here) (go (piece_at k now) there))
       where
-        go : (x : Option (Piece S R)) → is_some x ≡ true → Follows same (Some r.entry) (result_of (option_map (with_result r) x))
+        go : (x : Option (Piece S R)) → is_some x ≡ true → Follows same (Some r.entry) (result_of (option_map (with_checked r) x))
         go None some = cc
         go (Some x) some = alike
 
-    change_keys : (es : List (PieceKey × Piece S R)) → keys_of (change k (with_result r) es) ≡ keys_of es
+    change_keys : (es : List (PieceKey × Piece S R)) → keys_of (change k (with_checked r) es) ≡ keys_of es
     change_keys [] = refl
-    change_keys (e ∷ es) = elim (is_at (key_cmp k) e.0) as (λ b. keys_of (cond b ((e.0, with_result r e.1) ∷ es) (e ∷ change k (with_result r) es)) ≡ keys_of (e ∷ es)) [
+    change_keys (e ∷ es) = elim (is_at (key_cmp k) e.0) as (λ b. keys_of (cond b ((e.0, with_checked r e.1) ∷ es) (e ∷ change k (with_checked r) es)) ≡ keys_of (e ∷ es)) [
       | true ↦ refl
       | false ↦ ap (λ ks. e.0 ∷ ks) (change_keys es)
     ]
 
-    change_all : (P : PieceKey → Type 0) (es : List (PieceKey × Piece S R)) → AllByRecursion (λ e. P e.0) es → AllByRecursion (λ e. P e.0) (change k (with_result r) es)
+    change_all : (P : PieceKey → Type 0) (es : List (PieceKey × Piece S R)) → AllByRecursion (λ e. P e.0) es → AllByRecursion (λ e. P e.0) (change k (with_checked r) es)
     change_all P [] a = tt
-    change_all P (e ∷ es) a = elim (is_at (key_cmp k) e.0) as (λ b. AllByRecursion (λ x. P x.0) (cond b ((e.0, with_result r e.1) ∷ es) (e ∷ change k (with_result r) es))) [
+    change_all P (e ∷ es) a = elim (is_at (key_cmp k) e.0) as (λ b. AllByRecursion (λ x. P x.0) (cond b ((e.0, with_checked r e.1) ∷ es) (e ∷ change k (with_checked r) es))) [
       | true ↦ a
       | false ↦ (a.0, change_all P es a.1)
     ]
@@ -335,7 +347,9 @@ module _ {S R : Type 0} (same : S → S → Type 0) where
     })
 
     further : (next : PieceKey) → IsFirstWanted same new (Some next) → key_cmp k next ≡ Less
-    further next wanted = moves same now.openings k next r r.entry alike None now.pieces way.board.keys tt entry first (subst (λ (b : Board S R). IsFirstWanted same b (Some next)) is wanted)
+    further next wanted =
+        moves same now.openings k next r r.entry alike None now.pieces way.board.keys tt entry first
+        (wanted_alike same now.openings k r None now.pieces (Some next) (subst (λ (b : Board S R). IsFirstWanted same b (Some next)) is wanted))
 
     -- The last of the keys, or one of those before it.
     among : (P : PieceKey → Type 0) → ((q : PieceKey) → Contains keys q → P q) → P k → (q : PieceKey) → Contains (keys ++ k ∷ []) q → P q
@@ -349,7 +363,8 @@ module _ {S R : Type 0} (same : S → S → Type 0) where
       checked = record {
         openings = openings ∙ way.checked.openings;
         there = λ q. as_before is_some still_some q ∙ way.checked.there q;
-        tickets = λ q. as_before live_of still_live q ∙ way.checked.tickets q;
+        tickets = among (λ q. live_of (piece_at q new) ≡ None) (λ q h. ap live_of (other q (unequal q k (below q h))) ∙ way.checked.tickets q h)
+            (ap live_of here ∙ no_ticket (piece_at k now));
         rise = pushed keys k way.checked.rise (all_by (λ q. key_cmp q k ≡ Less) keys below);
         stale = among (IsStale same old new) (λ q h. (let known = way.checked.stale q h in record {
           there = known.there;

@@ -1,5 +1,5 @@
 -- What checking again makes of a board: which windows are checked, and that all else stays.
-use Rattle.std.specs.Prelude.{◌≡◌, ℕ, List, length, is_some, true}
+use Rattle.std.specs.Prelude.{◌≡◌, ℕ, List, None, length, is_some, true}
 use Rattle.std.specs.List.{Contains}
 use Rattle.std.specs.List.Sorted.{IsStrictlySortedBy}
 use Rattle.tl_pieces.specs.declared.key.PieceKey.{PieceKey}
@@ -12,11 +12,12 @@ module _ {S R : Type 0} (same : S → S → Type 0) where
     pub there : is_some (piece_at key old) ≡ true
     pub parted : Follows same (entry_for key new) (result_of (piece_at key old)) → ⊥
 
-  -- Each of these windows was stale, and has a result that begins with what stands before it. Tickets stay, and so does all else.
+  -- Each of these windows was stale, and has a result that begins with what stands before it, and no ticket. All else stays, and so do the
+  -- tickets of all other windows.
   pub record ChecksThese (keys : List PieceKey) (old new : Board S R) : Type 0 where
     pub openings : new.openings ≡ old.openings
     pub there : (key : PieceKey) → is_some (piece_at key new) ≡ is_some (piece_at key old)
-    pub tickets : (key : PieceKey) → live_of (piece_at key new) ≡ live_of (piece_at key old)
+    pub tickets : (key : PieceKey) → Contains keys key → live_of (piece_at key new) ≡ None
     pub rise : IsStrictlySortedBy key_cmp keys
     pub stale : (key : PieceKey) → Contains keys key → IsStale old new key
     pub begins : (key : PieceKey) → Contains keys key → Follows same (entry_for key new) (result_of (piece_at key new))

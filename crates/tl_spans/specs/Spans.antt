@@ -11,11 +11,12 @@ use Rattle.tl_inputs.specs.Inputs.{InputData}
 use Rattle.tl_inputs.specs.Log.{LogData, inputs_after}
 use Rattle.tl_pieces.specs.declared.key.PieceKey.{PieceKey}
 use Rattle.tl_pieces.specs.Keys.{change}
-use Rattle.tl_pieces.specs.Pieces.{Board, Pass, opening_of, entry_for, with_pieces, with_result}
+use Rattle.tl_pieces.specs.Pieces.{Board, Pass, opening_of, entry_for, with_pieces}
 use Rattle.tl_plain.specs.Captured.{areas_at}
 use Rattle.tl_span.specs.States.{shown, IsOf, StandsFor}
 use Rattle.tl_span.specs.declared.state.SpanState.{SpanState}
 use Rattle.tl_spans.specs.Covers.{Covers, IsOfWindow}
+use Rattle.tl_spans.specs.Windows.{with_checked}
 
 -- The log of edits, and the pieces: the windows of each manager, who is the owner with its number.
 pub record SpansData : Type 0 where
@@ -55,12 +56,12 @@ pub record IsSound (spans : SpansData) : Type 0 where
   pub managers : HasManagers spans.log.topo (length spans.log.topo.managers) spans.board
   pub covered : AreSpans (standing spans) spans.board
 
--- A window gets its result: the pass of its present beats from what it is to start from. All else stays.
+-- A window gets its result: the pass of its present beats from what it is to start from. Its ticket ends. All else stays.
 pub record ChecksWindow (old : SpansData) (key : PieceKey) (new : SpansData) : Type 0 where
   pub result : Pass SpanState (List Row)
   pub of_window : IsSpanOf (standing old) key.owner key.window result
   pub entry : entry_for key old.board ≡ Some result.entry
-  pub rest : new ≡ record old { board = with_pieces old.board (change key (with_result result) old.board.pieces) }
+  pub rest : new ≡ record old { board = with_pieces old.board (change key (with_checked result) old.board.pieces) }
 
 abbrev pub ChecksFirst : SpansData → Option PieceKey → SpansData → Type 0
 ChecksFirst old None new = new ≡ old

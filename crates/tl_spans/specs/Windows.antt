@@ -1,10 +1,10 @@
--- Pieces of some keys that come, go, or lose their results.
+-- Pieces of some keys that come, go, lose their results, or get them.
 use Rattle.std.specs.Prelude.{◌≡◌, ◌⊎◌, ◌↔◌, ℕ, List, Option, None, Some, is_some, true, cond}
 use Rattle.std.specs.List.{Contains}
 use Rattle.tl_pieces.specs.declared.key.PieceKey.{PieceKey}
 use Rattle.std.specs.BTreeMap.{is_at}
 use Rattle.tl_pieces.specs.Keys.{key_cmp}
-use Rattle.tl_pieces.specs.Pieces.{Board, Piece, empty, piece_at}
+use Rattle.tl_pieces.specs.Pieces.{Board, Pass, Piece, empty, piece_at}
 
 abbrev pub key_of : ℕ → ℕ → PieceKey
 key_of owner window = record { owner = owner; window = window }
@@ -45,3 +45,7 @@ module _ {S R : Type 0} where
     pub each : (key : PieceKey) → (piece_at key new ≡ piece_at key old) ⊎ (piece_at key new ≡ blank (piece_at key old))
     pub stays : (key : PieceKey) → (Contains keys key → ⊥) → piece_at key new ≡ piece_at key old
     pub these : (key : PieceKey) → Contains keys key → piece_at key new ≡ blank (piece_at key old)
+
+  -- A piece that was checked has this result and no ticket.
+  abbrev pub with_checked : Pass S R → Piece S R → Piece S R
+  with_checked r p = record { result = Some r; live = None }

@@ -9,6 +9,7 @@ ghost use Rattle.tl_spans.specs.Spans.{standing, IsSpanOf, ChecksFirst};
 
 use crate::rows::Rows;
 use crate::spans::Spans;
+use crate::windows::keep;
 use std::alloc::{AllocError, Global};
 use std::sync::Arc;
 use tl_manager_rules::clients_of;
@@ -16,8 +17,9 @@ use tl_pieces::{PieceKey, Stored};
 use tl_span::{SpanJob, SpanState, span_check};
 
 impl Spans {
-    /// Checks the first window that is wanted, from what the windows of its manager before it leave, and answers which it was;
-    /// None where none is wanted, and then nothing has changed. AllocError where memory is refused: then nothing has changed.
+    /// Checks the first window that is wanted, from what the windows of its manager before it leave, and answers which it was; its
+    /// ticket ends. None where none is wanted, and then nothing has changed. AllocError where memory is refused: then nothing has
+    /// changed.
     pub fn check_first(&mut self, alloc: Global) -> Result<Option<PieceKey>, AllocError>
         ensures first { IfOk result (IsFirstWanted SameSpan self.old.board) }
         ensures checked { IfOk result (λ found. ChecksFirst self.old found self.new) }
@@ -28,7 +30,7 @@ impl Spans {
             return Ok(None);
         };
         let stored = self.checked(alloc, key)?;
-        self.pieces.store(key, stored);
+        keep(&mut self.pieces, key, stored);
         Ok(Some(key))
     }
 

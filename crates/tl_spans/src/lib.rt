@@ -12,4 +12,4 @@ mod windows;
 pub use rows::Rows;
 pub use spans::{Spans, gathered};
 pub use touched::{Touched, touches_of};
-pub use windows::{grow, keys_of, prune, touch_each};
+pub use windows::{grow, keep, keys_of, prune, touch_each};

@@ -1,15 +1,17 @@
-//! Pieces of some windows of managers or monitors that come, go, or lose their results.
+//! Pieces of some windows of managers or monitors that come, go, lose their results, or get them.
 
 ghost use Rattle.std.specs.Prelude.{◌≡◌, ◌++◌, IfOk, OnOk, is_some, map, true};
 ghost use Rattle.std.specs.List.{Contains};
 ghost use Rattle.tl_pieces.specs.declared.key.PieceKey.{PieceKey as AnyKey};
-ghost use Rattle.tl_pieces.specs.Pieces.{opening_of};
-ghost use Rattle.tl_spans.specs.Windows.{key_of, AreKeysOf, IsGrown, HasAll, IsTaken, IsPruned, AreBlank};
+ghost use Rattle.tl_pieces.specs.Keys.{change};
+ghost use Rattle.tl_pieces.specs.Marks.{pass_of};
+ghost use Rattle.tl_pieces.specs.Pieces.{opening_of, piece_at, with_pieces};
+ghost use Rattle.tl_spans.specs.Windows.{key_of, with_checked, AreKeysOf, IsGrown, HasAll, IsTaken, IsPruned, AreBlank};
 ghost use Rattle.tl_windows.specs.Windows.{HasBeat};
 ghost use Rattle.tl_definitions.specs.Positions.{beats_of_all};
 
 use std::alloc::{AllocError, Global};
-use tl_pieces::{PieceKey, PieceMap};
+use tl_pieces::{PieceKey, PieceMap, Stored};
 use tl_same::Same;
 use tl_windows::Present;
 
@@ -64,6 +66,19 @@ pub fn touch_each<S: Same + Drop, R: Drop>(pieces: &mut PieceMap<S, R>, keys: &[
             pieces.touch(*key);
         }
     }
+}
+
+/// A piece that was checked keeps its result, and its live ticket ends.
+pub fn keep<S: Same + Drop, R: Drop>(
+    pieces: &mut PieceMap<S, R>,
+    key: PieceKey,
+    stored: Stored<S, R>,
+)
+    requires { is_some (piece_at key pieces.old) ≡ true }
+    ensures { pieces.new ≡ with_pieces pieces.old (change key (with_checked (pass_of stored)) pieces.old.pieces) }
+{
+    pieces.store(key, stored);
+    pieces.set_live(key, None);
 }
 
 /// Takes out a piece, if it is there.

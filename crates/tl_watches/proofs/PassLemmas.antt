@@ -13,10 +13,11 @@ use Rattle.tl_definitions.proofs.Lists.{kept_from}
 use Rattle.tl_inputs.specs.Inputs.{InputData, watch_at}
 use Rattle.tl_pieces.specs.declared.key.PieceKey.{PieceKey}
 use Rattle.tl_pieces.specs.Keys.{change}
-use Rattle.tl_pieces.specs.Pieces.{Board, Pass, opening_of, piece_at, with_pieces, with_result}
+use Rattle.tl_pieces.specs.Pieces.{Board, Pass, opening_of, piece_at, with_pieces}
 use Rattle.tl_plain.specs.Captured.{watched_beats}
 use Rattle.tl_plain.proofs.CaptureLaws.{of_one_link}
 use Rattle.tl_windows.specs.Windows.{lies_in, beats_in}
+use Rattle.tl_spans.specs.Windows.{with_checked}
 use Rattle.tl_spans.proofs.CheckLemmas.{same_openings, still_there, results_after}
 use Rattle.tl_watches.specs.declared.tally.Tally.{Tally}
 use Rattle.tl_watches.specs.Watches.{beats_for, idle, judge_for, ShowsTally, IsOfWatch, AreWatches}
@@ -53,12 +54,12 @@ pass_is_watch now owner window w at entry exit rows beats are x shown pass kept 
 pub window_of_one_link : (window link : ℕ) (fs : List Recorded) → AreOfOneLink (beats_in window (beats_of link fs))
 window_of_one_link window link fs p q h g = of_one_link link fs p q (kept_from (lies_in window) (beats_of link fs) p h).0 (kept_from (lies_in window) (beats_of link fs) q g).0
 
--- With one result more all is as it was.
+-- With one result more and one ticket less all is as it was.
 abbrev IsWatchAt : InputData → PieceKey → Pass Tally (List Row) → Type 0
 IsWatchAt now key result = IsOfWatch now key.owner key.window result
 
 pub still_watched : (now : InputData) (old new : Board Tally (List Row)) → AreWatches now old → (key : PieceKey) (result : Pass Tally (List Row)) → IsOfWatch now key.owner key.window result
-    → new ≡ with_pieces old (change key (with_result result) old.pieces) → AreWatches now new
+    → new ≡ with_pieces old (change key (with_checked result) old.pieces) → AreWatches now new
 still_watched now old new are key result of_window is = record {
   owners = λ number. ap (λ os. is_some (opening_of number os)) openings ∙ are.owners number;
   fits = are.fits;

@@ -10,10 +10,11 @@ use Rattle.tl_definitions.specs.Watching.{IsWatch}
 use Rattle.tl_inputs.specs.Inputs.{InputData, watch_at}
 use Rattle.tl_pieces.specs.declared.key.PieceKey.{PieceKey}
 use Rattle.tl_pieces.specs.Keys.{change}
-use Rattle.tl_pieces.specs.Pieces.{Board, Pass, opening_of, entry_for, with_pieces, with_result}
+use Rattle.tl_pieces.specs.Pieces.{Board, Pass, opening_of, entry_for, with_pieces}
 use Rattle.tl_plain.specs.Captured.{watched_beats}
 use Rattle.tl_spans.specs.Covers.{Covers, IsOfWindow}
 use Rattle.tl_spans.specs.Spans.{SpansData, standing}
+use Rattle.tl_spans.specs.Windows.{with_checked}
 use Rattle.tl_watches.specs.declared.tally.Tally.{Tally}
 
 -- The log with the windows of managers, and the windows of each monitor that is attached, who is the owner with its number.
@@ -52,9 +53,9 @@ pub record AreWatches (now : InputData) (board : Board Tally (List Row)) : Type 
   pub fits : (number : ℕ) (w : Watch) → watch_at number now.monitors ≡ Some w → IsWatch w
   pub covered : Covers (ShowsTally now) (judge_for now) (beats_for now) no_tally board
 
--- A window of a monitor gets its result: the pass of its present beats from what it is to start from. All else stays.
+-- A window of a monitor gets its result: the pass of its present beats from what it is to start from. Its ticket ends. All else stays.
 pub record ChecksWatch (old : WatchesData) (key : PieceKey) (new : WatchesData) : Type 0 where
   pub result : Pass Tally (List Row)
   pub of_window : IsOfWatch (standing old.spans) key.owner key.window result
   pub entry : entry_for key old.board ≡ Some result.entry
-  pub rest : new ≡ record old { board = with_pieces old.board (change key (with_result result) old.board.pieces) }
+  pub rest : new ≡ record old { board = with_pieces old.board (change key (with_checked result) old.board.pieces) }

@@ -26,7 +26,7 @@ use tl_inputs::Inputs;
 use tl_monitor::{Monitor, Watched, monitor_check};
 use tl_pieces::{PieceKey, Stored};
 use tl_span::sort_rows;
-use tl_spans::{Rows, gathered};
+use tl_spans::{Rows, gathered, keep};
 
 /// The beats of a window of the link that a watch names; none where the topology has no such link.
 fn watched(
@@ -50,8 +50,8 @@ fn watched(
 
 impl Watches {
     /// Checks the first window of a manager that is wanted, from what the windows of its manager before it leave, and answers
-    /// which it was; None where none is wanted, and then nothing has changed. AllocError where memory is refused: then nothing
-    /// has changed.
+    /// which it was; its ticket ends. None where none is wanted, and then nothing has changed. AllocError where memory is refused:
+    /// then nothing has changed.
     pub fn check_span(&mut self, alloc: Global) -> Result<Option<PieceKey>, AllocError>
         ensures first { IfOk result (IsFirstWanted SameSpan self.old.spans.board) }
         ensures checked { IfOk result (λ found. ChecksFirst self.old.spans found self.new.spans) }
@@ -63,8 +63,8 @@ impl Watches {
         Ok(found)
     }
 
-    /// Checks a window of a monitor, which is given, from what the windows of the monitor before it leave. AllocError where memory
-    /// is refused: then no window has changed. The monitor keeps its watch, and its tally may be any.
+    /// Checks a window of a monitor, which is given, from what the windows of the monitor before it leave; the window's ticket
+    /// ends. AllocError where memory is refused: then no window has changed. The monitor keeps its watch, and its tally may be any.
     pub fn check_watch<M: Monitor>(
         &mut self,
         alloc: Global,
@@ -80,7 +80,7 @@ impl Watches {
     {
         let _ = &self.spans;
         let stored = self.judged(alloc, key, monitor)?;
-        self.pieces.store(key, stored);
+        keep(&mut self.pieces, key, stored);
         Ok(())
     }
 

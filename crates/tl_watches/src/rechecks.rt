@@ -10,8 +10,8 @@ use tl_inputs::Log;
 
 impl Watches {
     /// Checks every window of a manager that is wanted, each once and from what the windows of its manager before it leave, until
-    /// all of managers are settled, and answers how many those were. Every other result stays. AllocError where memory is refused:
-    /// then some of these windows have their results.
+    /// all of managers are settled, and answers how many those were. The tickets of these windows end; every other result and
+    /// ticket stays. AllocError where memory is refused: then some of these windows have their results, and no tickets.
     pub fn recheck_spans(&mut self, alloc: Global) -> Result<u64, AllocError>
         ensures log { self.new.spans.log ≡ self.old.spans.log }
         ensures ok { IfOk result (λ count. Rechecks SameSpan self.old.spans.board self.new.spans.board count) }

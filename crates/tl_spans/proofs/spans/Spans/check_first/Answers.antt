@@ -14,8 +14,8 @@ checked-requires c =
     subst (λ (b : Board SpanState (List Row)). is_some (piece_at c.in-Some.key b) ≡ true) (sym c.first_wanted.ensures.same)
     (first_there (IsWanted SameSpan c.self.inside.pieces.openings) None c.self.inside.pieces.pieces c.in-Some.key (subst (IsFirstWanted SameSpan c.self.inside.pieces) c.in-Some.is c.first_wanted.ensures.first))
 
-pub store-requires : goal.store-requires
-store-requires c =
+pub keep-requires : goal.keep-requires
+keep-requires c =
     subst (λ (b : Board SpanState (List Row)). is_some (piece_at c.in-Some.key b) ≡ true) (sym c.first_wanted.ensures.same)
     (first_there (IsWanted SameSpan c.self.inside.pieces.openings) None c.self.inside.pieces.pieces c.in-Some.key (subst (IsFirstWanted SameSpan c.self.inside.pieces) c.in-Some.is c.first_wanted.ensures.first))
 
@@ -23,9 +23,9 @@ pub invariant_of-self-3 : goal.invariant_of-self-3
 invariant_of-self-3 c =
     still_sound (record { log = c.self.inside.log; board = c.first_wanted.new.self })
     (subst (λ (b : Board SpanState (List Row)). IsSound (record { log = c.self.inside.log; board = b })) (sym c.first_wanted.ensures.same) c.self.invariant)
-    c.in-Some.key (pass_of c.in_ok-stored.stored) c.in_ok-stored.ensures.span c.store.new.self c.store.ensures
+    c.in-Some.key (pass_of c.in_ok-stored.stored) c.in_ok-stored.ensures.span c.keep.new.pieces c.keep.ensures
 
 pub returns-clause-checked : goal.returns-clause-checked
 returns-clause-checked c =
-    checks (record { log = c.self.inside.log; board = c.self.inside.pieces }) c.args.self.now c.first_wanted.new.self c.store.new.self c.in-Some.key (pass_of c.in_ok-stored.stored)
-    c.first_wanted.ensures.same c.self.view_is c.in_ok-stored.ensures.span c.in_ok-stored.ensures.entry c.store.ensures
+    checks (record { log = c.self.inside.log; board = c.self.inside.pieces }) c.args.self.now c.first_wanted.new.self c.keep.new.pieces c.in-Some.key (pass_of c.in_ok-stored.stored)
+    c.first_wanted.ensures.same c.self.view_is c.in_ok-stored.ensures.span c.in_ok-stored.ensures.entry c.keep.ensures

@@ -7,5 +7,5 @@ use Rattle.tl_watches.proofs.watches.Watches.check_watch.Goals as goal
 
 pub invariant_of-self : goal.invariant_of-self
 invariant_of-self g c =
-    still_watched (standing c.self.inside.spans) c.self.inside.pieces c.store.new.self c.self.invariant c.args.key (pass_of c.in_ok-stored.stored)
-    (subst (λ (w : WatchesData). IsOfWatch (standing w.spans) c.args.key.owner c.args.key.window (pass_of c.in_ok-stored.stored)) (sym c.self.view_is) c.in_ok-stored.ensures.of_window) c.store.ensures
+    still_watched (standing c.self.inside.spans) c.self.inside.pieces c.keep.new.pieces c.self.invariant c.args.key (pass_of c.in_ok-stored.stored)
+    (subst (λ (w : WatchesData). IsOfWatch (standing w.spans) c.args.key.owner c.args.key.window (pass_of c.in_ok-stored.stored)) (sym c.self.view_is) c.in_ok-stored.ensures.of_window) c.keep.ensures

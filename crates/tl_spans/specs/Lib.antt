@@ -6,3 +6,4 @@ pub mod Touched
 pub mod Windows
 pub mod Edits
 pub mod Recheck
+pub mod Tickets

@@ -7,14 +7,12 @@ ghost use Rattle.tl_pieces.specs.Pieces.{piece_at, entry_for, IsFirstWanted};
 ghost use Rattle.tl_span.specs.States.{SameSpan};
 ghost use Rattle.tl_spans.specs.Spans.{standing, IsSpanOf, ChecksFirst};
 
-use crate::rows::Rows;
 use crate::spans::Spans;
 use crate::windows::keep;
 use std::alloc::{AllocError, Global};
-use std::sync::Arc;
-use tl_manager_rules::clients_of;
 use tl_pieces::{PieceKey, Stored};
-use tl_span::{SpanJob, SpanState, span_check};
+use tl_span::SpanState;
+use tl_tasks::Rows;
 
 impl Spans {
     /// Checks the first window that is wanted, from what the windows of its manager before it leave, and answers which it was; its
@@ -41,26 +39,7 @@ impl Spans {
         ensures span { IfOk result (λ stored. IsSpanOf (standing self.now) key.owner key.window (pass_of stored)) }
         ensures entry { IfOk result (λ stored. entry_for key self.now.board ≡ Some (arc_value stored.entry)) }
     {
-        let _ = self.pieces.len();
-        let inputs = self.log.inputs();
-        let topo = inputs.topo();
-        let _ = topo.manager_count();
-        let manager = key.owner as u16;
-        let entry = Arc::try_clone(self.pieces.entry_for(key).unwrap())?;
-        let links = clients_of(alloc, topo, manager)?;
-        let beats = inputs.present().beats_in(alloc, key.window, &links)?;
-        let regions = &inputs.regions()[usize::from(manager)];
-        let copy = entry.copy(alloc)?;
-        let job = SpanJob::new(alloc, topo, manager, regions, beats, copy)?;
-        let Ok(checked) = span_check(alloc, job) else {
-            return Err(AllocError);
-        };
-        let (mut exit, rows) = checked.into_parts();
-        exit.settle()?;
-        Ok(Stored {
-            entry,
-            exit: Arc::new(alloc, exit)?,
-            rows: Rows::new(rows),
-        })
+        let task = self.task(alloc, key)?;
+        task.check(alloc)
     }
 }

@@ -4,12 +4,12 @@
 mod checking;
 mod edits;
 mod recheck;
-mod rows;
 mod spans;
+mod tickets;
 mod touched;
 mod windows;
 
-pub use rows::Rows;
 pub use spans::{Spans, gathered};
+pub use tl_tasks::Rows;
 pub use touched::{Touched, touches_of};
 pub use windows::{grow, keep, keys_of, prune, touch_each};

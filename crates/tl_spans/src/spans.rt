@@ -12,7 +12,6 @@ ghost use Rattle.tl_span.specs.States.{SameSpan};
 ghost use Rattle.tl_spans.specs.Rows.{all_rows};
 ghost use Rattle.tl_spans.specs.Spans.{standing, HasManagers, IsSound};
 
-use crate::rows::Rows;
 use std::alloc::{AllocError, Global};
 use std::marker::Model;
 use std::sync::Arc;
@@ -21,6 +20,7 @@ use tl_inputs::Log;
 use tl_pieces::PieceMap;
 use tl_same::Same;
 use tl_span::SpanState;
+use tl_tasks::Rows;
 use tl_topology::Topo;
 
 /// A log of edits, and the windows of all managers: of each window in which a manager has a beat its result, from when it was

@@ -1,2 +1,2 @@
 mod TaskLemmas
-mod CurrentLemmas
+pub mod CurrentLemmas

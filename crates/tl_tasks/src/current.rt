@@ -1,6 +1,7 @@
 //! Whether what a task was made of stands.
 
-ghost use Rattle.std.specs.Prelude.{◌≡◌, option_map};
+ghost use Rattle.std.specs.Prelude.{◌≡◌};
+ghost use Rattle.std.specs.Option.{option_copied};
 ghost use Rattle.std.specs.Bool.{Decides};
 ghost use Rattle.tl_definitions.specs.Managers.{declared_links};
 ghost use Rattle.tl_tasks.specs.Tasks.{HasNumbers};
@@ -38,7 +39,7 @@ fn have_same_links(own: &Topo, other: &Topo) -> bool
 
 /// Whether two regions are one, or none is there.
 fn is_region(own: Option<&Region>, other: Option<&Region>) -> bool
-    ensures { Decides result (option_map (λ r. r.now) own.entry ≡ option_map (λ r. r.now) other.entry) }
+    ensures { Decides result (option_copied own.entry ≡ option_copied other.entry) }
 {
     match (own, other) {
         (None, None) => true,
@@ -63,10 +64,12 @@ fn are_regions(own: &RegionMap, other: &RegionMap) -> bool
     requires other { HasNumbers other.now }
     ensures { Decides result (own.now ≡ other.now) }
 {
-    if own.is_empty() && other.is_empty() {
+    let none = own.is_empty();
+    if other.is_empty() && none {
         return true;
     }
-    for number in 0..=255u8 {
+    for number in 0..256u16 {
+        let number = number as u8;
         if !is_region(own.get(number), other.get(number)) {
             return false;
         }

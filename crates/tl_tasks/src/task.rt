@@ -8,7 +8,7 @@ ghost use Rattle.tl_definitions.specs.Managers.{manager_at};
 ghost use Rattle.tl_pieces.specs.Marks.{pass_of};
 ghost use Rattle.tl_span.specs.States.{IsOf};
 ghost use Rattle.tl_windows.specs.Windows.{beats_in};
-ghost use Rattle.tl_tasks.specs.Tasks.{IsPassOf};
+ghost use Rattle.tl_tasks.specs.Tasks.{IsPassOf, HasNumbers};
 
 use crate::rows::Rows;
 use std::alloc::{AllocError, Global};
@@ -64,6 +64,7 @@ impl SpanTask {
     ) -> Result<SpanTask, AllocError>
         requires manager { manager < length (arc_value topo.now).managers }
         requires entry { IsOf (manager_at (arc_value topo.now) manager (areas_of regions.now)) (arc_value entry.now) }
+        requires numbers { HasNumbers regions.now }
         ensures { IfOk result (λ task. task ≡ record {
             topo = arc_value topo.now; owner = manager; window = window; regions = regions.now;
             beats = beats_in window (manager_beats (arc_value topo.now) present.now manager); entry = arc_value entry.now }) }

@@ -15,7 +15,8 @@ ghost use Rattle.tl_windows.specs.Windows.{beats_in, beats_within};
 use crate::cut::bounds;
 use crate::present::Present;
 use crate::span::span_of;
-use crate::window_beats::{Part, WindowBeats, count};
+use crate::walks::Part;
+use crate::window_beats::{WindowBeats, count};
 use tl_beats::{Beat, Fragment};
 use tl_same::Exact;
 

@@ -12,8 +12,8 @@ ghost use Rattle.tl_windows.specs.Shares.{windows_of_all};
 ghost use Rattle.tl_windows.specs.Windows.{beats_within};
 
 use crate::walks::{
-    all_of_link, any_in_span, first_number, lowest_other, push_all_windows, push_parts, push_span,
-    span_count, span_less,
+    Part, all_of_link, any_in_span, first_number, lowest_other, push_all_windows, push_parts,
+    push_span, span_count, span_less,
 };
 use std::alloc::{AllocError, Global};
 use std::collections::BTreeMap;
@@ -154,7 +154,7 @@ impl Ranges {
         from: u64,
         to: u64,
         link: u16,
-        parts: &mut Vec<(u16, Arc<Fragment>)>,
+        parts: &mut Vec<Part>,
     ) -> Result<(), AllocError>
         requires { from ≤ to }
         ensures { OnOk result (spanned arc_value from to parts.new.items ≡ spanned arc_value from to parts.old.items ++ beats_within from to (all_placed (of_link link self.now))) }

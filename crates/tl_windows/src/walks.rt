@@ -17,6 +17,9 @@ use tl_beats::{Fragment, Placed};
 /// Fragments by the number of their link and the last cycle of their range.
 type Ends = BTreeMap<(u16, u64), Arc<Fragment>>;
 
+/// A fragment on the link with this number.
+pub(crate) type Part = (u16, Arc<Fragment>);
+
 /// The lowest number of a fragment of a link, but this one, that has a cycle from the first to the last.
 pub(crate) fn lowest_other(
     ends: &Ends,
@@ -81,7 +84,7 @@ pub(crate) fn push_parts(
     from: u64,
     to: u64,
     link: u16,
-    parts: &mut Vec<(u16, Arc<Fragment>)>,
+    parts: &mut Vec<Part>,
 ) -> Result<(), AllocError>
     requires { from ≤ to }
     ensures { OnOk result (spanned arc_value from to parts.new.items ≡ spanned arc_value from to parts.old.items ++ walked arc_value (span_beats from to) (begins_after to) link (from_key arc_value link from ends.now.entries)) }

@@ -13,13 +13,10 @@ use crate::cut::{bounds, push_beats};
 use crate::order::in_order;
 use crate::present::Present;
 use crate::span::{WIDTH, span_of};
+use crate::walks::Part;
 use std::alloc::{AllocError, Global};
 use std::marker::Model;
-use std::sync::Arc;
-use tl_beats::{Fragment, Placed};
-
-/// A fragment on the link with this number.
-pub(crate) type Part = (u16, Arc<Fragment>);
+use tl_beats::Placed;
 
 /// The beats of a window of some links as they lie in shared fragments: none is copied until they are asked for.
 #[derive(Drop)]
@@ -46,7 +43,7 @@ impl Model for WindowBeats {
 }
 
 impl WindowBeats {
-    /// No beats.
+    /// None.
     fn none(alloc: Global) -> WindowBeats
         ensures { result ≡ [] }
     {

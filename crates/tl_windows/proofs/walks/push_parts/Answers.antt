@@ -4,7 +4,7 @@ use Rattle.std.specs.Arc.{arc_value}
 use Rattle.std.specs.List.{list_any}
 use Rattle.tl_windows.specs.Parts.{spanned}
 use Rattle.tl_windows.specs.Present.{recorded}
-use Rattle.tl_windows.specs.Ranges.{from_key, walked, span_beats, begins_after}
+use Rattle.tl_windows.specs.Ranges.{begins_after}
 use Rattle.tl_windows.specs.Spans.{holds}
 use Rattle.tl_windows.proofs.PartLemmas.{part_pushed}
 use Rattle.tl_windows.proofs.SomeLemmas.{some_next}

@@ -1,4 +1,4 @@
-use Rattle.std.proofs.Common.{◌≡◌, ◌<◌, ◌-◌, length, ap, ◌∙◌, arith}
+use Rattle.std.proofs.Common.{◌-◌, ap, arith}
 use Rattle.std.specs.Arc.{arc_value}
 use Rattle.tl_beats.specs.Fragments.{Frag}
 use Rattle.tl_windows.specs.Present.{recorded}

@@ -1,4 +1,4 @@
-use Rattle.std.proofs.Common.{◌≡◌, ◌+◌, ◌<◌, ◌≤◌, eqb-true, eq-eqb, length, get_or, drop, List, ap, arith, subst, length-append, drop_of_length-le, ◌∙◌, sym}
+use Rattle.std.proofs.Common.{◌≡◌, ◌+◌, ◌<◌, ◌≤◌, eqb-true, eq-eqb, length, get_or, drop, List, ap, arith, subst, length-append, drop_of_length-le, ◌∙◌}
 use Rattle.tl_definitions.specs.Positions.{Recorded, all_placed}
 use Rattle.tl_windows.specs.Present.{IsPresent, of_link}
 use Rattle.tl_windows.specs.Windows.{is_within, beats_within}

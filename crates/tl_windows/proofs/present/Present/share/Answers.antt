@@ -5,7 +5,7 @@ use Rattle.std.proofs.lemmas.List.Kept.{IsStrictlySortedBy-filter}
 use Rattle.tl_definitions.specs.Positions.{Recorded, position_order, in_order, beats_of_all}
 use Rattle.tl_windows.specs.Parts.{spanned}
 use Rattle.tl_windows.specs.Present.{IsPresent}
-use Rattle.tl_windows.specs.Windows.{is_within, beats_within}
+use Rattle.tl_windows.specs.Windows.{is_within}
 use Rattle.tl_windows.proofs.GatherLemmas.{pushed}
 use Rattle.tl_windows.proofs.PartLemmas.{ordered_pushed}
 use Rattle.tl_windows.proofs.PresentLemmas.{ranges_of, beats_rise}

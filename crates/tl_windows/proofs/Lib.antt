@@ -11,3 +11,5 @@ pub mod EditLemmas
 pub mod LawLemmas
 pub mod SomeLemmas
 pub mod TouchLemmas
+pub mod PartLemmas
+pub mod MatchLemmas

@@ -67,7 +67,7 @@ module _ {V : Type 0} (value : V → Frag) (from to link : ℕ) (e : Key × V) (
 
 -- ---- of links
 
-next_left : {X : Type 0} (xs : List X) (n : ℕ) (d : X) → n < length xs → drop n xs ≡ get_or xs n d ∷ drop (n + 1) xs
+pub next_left : {X : Type 0} (xs : List X) (n : ℕ) (d : X) → n < length xs → drop n xs ≡ get_or xs n d ∷ drop (n + 1) xs
 next_left xs n d within = drop-cons xs n d within ∙ ap (λ k. get_or xs n d ∷ drop k xs) (let next : suc n ≡ n + 1 = omega arith in next)
 
 pub some_at : (keep : Placed → Bool) (links : List ℕ) (i d : ℕ) (fs : List Recorded) → i < length links → has_some (own keep (get_or links i d) fs) ≡ true

@@ -70,7 +70,7 @@ puts_are_local links f fs window is are none = same_fragments links window (put_
 
 -- ---- one goes
 
-some_of : (link number : ℕ) (fs : List Recorded) (f : Recorded) → IsPresent fs → Contains fs f → is_of link number f ≡ true → numbered link number fs ≡ Some f
+pub some_of : (link number : ℕ) (fs : List Recorded) (f : Recorded) → IsPresent fs → Contains fs f → is_of link number f ≡ true → numbered link number fs ≡ Some f
 some_of link number fs f is has of = elim (numbered link number fs) as (λ o. numbered link number fs ≡ o → o ≡ Some f) [
   | None ↦ λ none. (let no : is_of link number f ≡ false = all_of (λ g. is_of link number g ≡ false) fs (absent_all link number fs none) f has in
       let wrong : true ≡ false = sym of ∙ no in cc)

@@ -4,3 +4,4 @@ pub mod Spans
 pub mod Ranges
 pub mod Shares
 pub mod Touch
+pub mod Parts

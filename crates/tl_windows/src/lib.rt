@@ -5,13 +5,16 @@ mod beats;
 mod cut;
 mod edits;
 pub mod laws;
+mod matching;
 mod order;
 mod present;
 mod ranges;
 mod shares;
 mod span;
 mod walks;
+mod window_beats;
 
 pub use present::Present;
 pub use shares::windows_of;
 pub use span::window_of;
+pub use window_beats::WindowBeats;

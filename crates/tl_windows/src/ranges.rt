@@ -1,17 +1,19 @@
 //! Fragments by link and range.
 
-ghost use Rattle.std.specs.Prelude.{◌≡◌, ◌≤◌, ◌++◌, ◌==◌, length, [], IfOk, OnOk, OnErr, false, map, slice_get};
+ghost use Rattle.std.specs.Prelude.{◌≡◌, ◌≤◌, ◌<◌, ◌+◌, ◌++◌, ◌==◌, length, [], IfOk, OnOk, OnErr, MatchOption, false, map, slice_get};
 ghost use Rattle.std.specs.Arc.{arc_value};
 ghost use Rattle.std.specs.List.{AllByRecursion, find};
 ghost use Rattle.std.specs.Option.{option_map};
 ghost use Rattle.tl_definitions.specs.Positions.{all_placed};
+ghost use Rattle.tl_windows.specs.Parts.{spanned};
 ghost use Rattle.tl_windows.specs.Present.{recorded, of_link, overlapped, put_in, shares};
 ghost use Rattle.tl_windows.specs.Ranges.{has_some, ends_at, without_end};
 ghost use Rattle.tl_windows.specs.Shares.{windows_of_all};
 ghost use Rattle.tl_windows.specs.Windows.{beats_within};
 
 use crate::walks::{
-    all_of_link, any_in_span, first_number, lowest_other, push_all_windows, push_span, span_count,
+    Part, all_of_link, any_in_span, first_number, lowest_other, push_all_windows, push_parts,
+    push_span, span_count, span_less,
 };
 use std::alloc::{AllocError, Global};
 use std::collections::BTreeMap;
@@ -143,6 +145,30 @@ impl Ranges {
         ensures { OnOk result (beats.new.items ≡ beats.old.items ++ beats_within from to (all_placed (of_link link self.now))) }
     {
         push_span(&self.ends, from, to, link, beats)
+    }
+
+    /// Puts the fragments of a link that have a beat in a span behind others, shared and not copied. AllocError where memory is
+    /// refused.
+    pub(crate) fn push_parts(
+        &self,
+        from: u64,
+        to: u64,
+        link: u16,
+        parts: &mut Vec<Part>,
+    ) -> Result<(), AllocError>
+        requires { from ≤ to }
+        ensures { OnOk result (spanned arc_value from to parts.new.items ≡ spanned arc_value from to parts.old.items ++ beats_within from to (all_placed (of_link link self.now))) }
+    {
+        push_parts(&self.ends, from, to, link, parts)
+    }
+
+    /// What is left of a count after the beats of a span of a link; None where they are more.
+    pub(crate) fn less(&self, from: u64, to: u64, link: u16, count: u128) -> Option<u128>
+        requires { from ≤ to }
+        ensures { MatchOption result (count < length (beats_within from to (all_placed (of_link link self.now))))
+            (λ left. left + length (beats_within from to (all_placed (of_link link self.now))) ≡ count) }
+    {
+        span_less(&self.ends, from, to, link, count)
     }
 
     /// Puts the windows in which a fragment of a link has a beat behind others. AllocError where memory is refused.

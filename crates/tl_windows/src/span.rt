@@ -5,7 +5,7 @@ ghost use Rattle.tl_windows.specs.Windows.{window_of};
 ghost use Rattle.tl_windows.specs.Spans.{IsSpan};
 
 /// How many cycles a window has.
-const WIDTH: u64 = 4096;
+pub(crate) const WIDTH: u64 = 4096;
 
 /// The window that holds a cycle: window k holds the 4,096 cycles from 4,096 * k on.
 pub fn window_of(cycle: u64) -> u64

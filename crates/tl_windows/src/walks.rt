@@ -1,8 +1,9 @@
 //! Walks over the fragments of one link, in the order of their ranges.
 
-ghost use Rattle.std.specs.Prelude.{◌≡◌, ◌≤◌, ◌++◌, Some, IfOk, OnOk, map, min, slice_get};
+ghost use Rattle.std.specs.Prelude.{◌≡◌, ◌≤◌, ◌<◌, ◌+◌, ◌++◌, Some, IfOk, OnOk, MatchOption, length, map, min, slice_get};
 ghost use Rattle.std.specs.Arc.{arc_value};
 ghost use Rattle.std.specs.Option.{option_map, option_map_or};
+ghost use Rattle.tl_windows.specs.Parts.{spanned};
 ghost use Rattle.tl_windows.specs.Present.{recorded, least};
 ghost use Rattle.tl_windows.specs.Ranges.{has_some, from_key, walked, span_beats, own_windows, itself, other_number, nowhere, begins_after};
 
@@ -15,6 +16,9 @@ use tl_beats::{Fragment, Placed};
 
 /// Fragments by the number of their link and the last cycle of their range.
 type Ends = BTreeMap<(u16, u64), Arc<Fragment>>;
+
+/// A fragment on the link with this number.
+pub(crate) type Part = (u16, Arc<Fragment>);
 
 /// The lowest number of a fragment of a link, but this one, that has a cycle from the first to the last.
 pub(crate) fn lowest_other(
@@ -72,6 +76,55 @@ pub(crate) fn push_span(
         push_beats(from, to, link, fragment, beats)?;
     }
     Ok(())
+}
+
+/// Puts the fragments of a link that have a beat in a span behind others, shared and not copied.
+pub(crate) fn push_parts(
+    ends: &Ends,
+    from: u64,
+    to: u64,
+    link: u16,
+    parts: &mut Vec<Part>,
+) -> Result<(), AllocError>
+    requires { from ≤ to }
+    ensures { OnOk result (spanned arc_value from to parts.new.items ≡ spanned arc_value from to parts.old.items ++ walked arc_value (span_beats from to) (begins_after to) link (from_key arc_value link from ends.now.entries)) }
+{
+    for ((of, _), fragment) in ends.range((link, from)..) {
+        if *of != link {
+            return Ok(());
+        }
+        if to < fragment.first() {
+            return Ok(());
+        }
+        if has_some(fragment, from, to) {
+            parts.push((link, fragment.clone()?))?;
+        }
+    }
+    Ok(())
+}
+
+/// What is left of a count after the beats of a span of a link; None where they are more.
+pub(crate) fn span_less(ends: &Ends, from: u64, to: u64, link: u16, count: u128) -> Option<u128>
+    requires { from ≤ to }
+    ensures { MatchOption result (count < length (walked arc_value (span_beats from to) (begins_after to) link (from_key arc_value link from ends.now.entries)))
+        (λ left. left + length (walked arc_value (span_beats from to) (begins_after to) link (from_key arc_value link from ends.now.entries)) ≡ count) }
+{
+    let mut left = count;
+    for ((of, _), fragment) in ends.range((link, from)..) {
+        if *of != link {
+            return Some(left);
+        }
+        if to < fragment.first() {
+            return Some(left);
+        }
+        let (start, end) = bounds(fragment, from, to);
+        let own = (end - start) as u128;
+        if left < own {
+            return None;
+        }
+        left -= own;
+    }
+    Some(left)
 }
 
 /// How many beats of a span a link has.

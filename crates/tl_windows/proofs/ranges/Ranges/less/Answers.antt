@@ -1,0 +1,12 @@
+use Rattle.std.proofs.Common.{◌≡◌, ◌+◌, ◌<◌, length, ap, subst, ◌∙◌}
+use Rattle.std.specs.Prelude.{MatchOption}
+use Rattle.std.specs.Arc.{arc_value}
+use Rattle.tl_definitions.specs.Positions.{all_placed}
+use Rattle.tl_windows.specs.Present.{of_link}
+use Rattle.tl_windows.specs.Windows.{beats_within}
+use Rattle.tl_windows.proofs.WalkLemmas.{span_walked}
+use Rattle.tl_windows.proofs.ranges.Ranges.less.Goals as goal
+
+pub returns : goal.returns
+returns c = subst (λ ps. MatchOption c.span_less.result (c.args.count < length ps) (λ left. left + length ps ≡ c.args.count))
+    (span_walked arc_value c.self.inside.ends.entries c.self.invariant c.args.from c.args.to c.args.link ∙ ap (λ fs. beats_within c.args.from c.args.to (all_placed (of_link c.args.link fs))) c.self.view_is) c.span_less.ensures

@@ -4,9 +4,12 @@ ghost use Rattle.std.specs.Prelude.{◌≡◌};
 ghost use Rattle.std.specs.Option.{option_copied};
 ghost use Rattle.std.specs.Bool.{Decides};
 ghost use Rattle.tl_definitions.specs.Managers.{declared_links};
-ghost use Rattle.tl_tasks.specs.Tasks.{HasNumbers};
+ghost use Rattle.tl_tasks.specs.Tasks.{HasNumbers, IsCurrent};
 
+use crate::task::SpanTask;
+use tl_same::Exact;
 use tl_topology::{LinkDecl, Region, RegionMap, Topo};
+use tl_windows::Present;
 
 /// Whether two links are declared alike.
 fn is_link(own: &LinkDecl, other: &LinkDecl) -> bool
@@ -75,4 +78,32 @@ fn are_regions(own: &RegionMap, other: &RegionMap) -> bool
         }
     }
     true
+}
+
+/// Whether two values are one.
+fn equals<T: Exact>(here: &T, there: &T) -> bool
+    ensures { Decides result (here.now ≡ there.now) }
+{
+    *here == *there
+}
+
+impl SpanTask {
+    /// Whether what it was made of is what stands: the links and the block, the regions of its manager, and the beats of its
+    /// window. It takes no memory, and costs a comparison for each link, region and beat.
+    pub fn is_current(&self, topo: &Topo, regions: &RegionMap, present: &Present) -> bool
+        requires { HasNumbers regions.now }
+        ensures { Decides result (IsCurrent topo.now regions.now present.now self.now) }
+    {
+        let _ = &self.entry;
+        if !have_same_links(&self.topo, topo) {
+            return false;
+        }
+        if !equals(&self.topo.block(self.manager), &topo.block(self.manager)) {
+            return false;
+        }
+        if !are_regions(&self.regions, regions) {
+            return false;
+        }
+        present.has_beats(&self.beats, self.window, &self.links)
+    }
 }

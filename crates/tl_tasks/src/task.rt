@@ -14,12 +14,11 @@ use crate::rows::Rows;
 use std::alloc::{AllocError, Global};
 use std::marker::Model;
 use std::sync::Arc;
-use tl_beats::Placed;
 use tl_manager_rules::clients_of;
 use tl_pieces::Stored;
 use tl_span::{SpanJob, SpanState, span_check};
 use tl_topology::{RegionMap, Topo};
-use tl_windows::Present;
+use tl_windows::{Present, WindowBeats};
 
 /// A window of a manager that is to be checked, with all that its check asks: it needs nothing else, and may go to another
 /// thread. The state that it is checked from may be a guess: the result is true of it whatever it is.
@@ -29,13 +28,18 @@ pub struct SpanTask {
     pub(crate) manager: u16,
     pub(crate) window: u64,
     pub(crate) regions: RegionMap,
-    pub(crate) beats: Vec<Placed>,
+    // The links of the manager.
+    pub(crate) links: Vec<u16>,
+    pub(crate) beats: WindowBeats,
     pub(crate) entry: Arc<SpanState>,
 }
 
 impl Model for SpanTask {
     ghost use Rattle.std.specs.Coded.{codes};
     ghost use Rattle.std.specs.Arc.{arc_value};
+    ghost use Rattle.std.specs.Prelude.{◌≡◌};
+    ghost use Rattle.tl_definitions.specs.Managers.{declared_links};
+    ghost use Rattle.tl_definitions.specs.Positions.{clients_of as clients};
     ghost use Rattle.tl_span.specs.contracts.state.SpanState as state;
     ghost use Rattle.tl_tasks.specs.Tasks.{TaskData, IsTask};
 
@@ -43,16 +47,17 @@ impl Model for SpanTask {
 
     ghost coded = { Prim.hlevel (codes, state.the_row.coded) };
 
-    ghost view = { λ t. record { topo = arc_value t.topo; owner = t.manager; window = t.window; regions = t.regions; beats = t.beats.items; entry = arc_value t.entry } };
+    ghost view = { λ t. record { topo = arc_value t.topo; owner = t.manager; window = t.window; regions = t.regions; beats = t.beats; entry = arc_value t.entry } };
 
-    ghost invariant = { λ t. IsTask (record { topo = arc_value t.topo; owner = t.manager; window = t.window; regions = t.regions; beats = t.beats.items; entry = arc_value t.entry }) };
+    ghost invariant = { λ t. IsTask (record { topo = arc_value t.topo; owner = t.manager; window = t.window; regions = t.regions; beats = t.beats; entry = arc_value t.entry })
+        × (t.links.items ≡ clients t.manager (declared_links (arc_value t.topo))) };
 }
 
 impl SpanTask {
     ghost use Rattle.tl_tasks.specs.Tasks.{IsTask};
 
-    /// The window of a manager with the beats that are present there, these regions and this entry, which is a state of the
-    /// manager. AllocError where memory is refused.
+    /// The window of a manager with the beats that are present there, shared and not copied, these regions and this entry, which
+    /// is a state of the manager. AllocError where memory is refused.
     pub fn new(
         alloc: Global,
         topo: &Arc<Topo>,
@@ -75,7 +80,8 @@ impl SpanTask {
             manager,
             window,
             regions: regions.copy()?,
-            beats: present.beats_in(alloc, window, &links)?,
+            beats: present.window_beats(alloc, window, &links)?,
+            links,
             entry: Arc::try_clone(entry)?,
         })
     }
@@ -103,7 +109,7 @@ impl SpanTask {
         ensures entry { IfOk result (λ stored. arc_value stored.entry ≡ self.now.entry) }
     {
         let entry = self.entry.copy(alloc)?;
-        let beats = Vec::from_slice(alloc, &self.beats)?;
+        let beats = self.beats.gathered(alloc)?;
         let job = SpanJob::new(alloc, &self.topo, self.manager, &self.regions, beats, entry)?;
         let Ok(checked) = span_check(alloc, job) else {
             return Err(AllocError);

@@ -18,27 +18,27 @@ use Rattle.tl_tasks.proofs.task.SpanTask.check.Goals as goal
 
 pub new-requires-clause-linked : goal.new-requires-clause-linked
 new-requires-clause-linked c =
-    subst (λ (t : Topology). (k : ℕ) (d : Placed) → k < length c.in_ok-beats.beats.items → Contains (clients_of c.self.inside.manager (declared_links t)) (get_or c.in_ok-beats.beats.items k d).link) (sym c.deref-3.ensures)
-    (subst (λ (ps : List Placed). (k : ℕ) (d : Placed) → k < length ps → Contains (clients_of c.self.inside.manager (declared_links (arc_value c.self.inside.topo))) (get_or ps k d).link) (sym (c.in_ok-beats.ensures.items ∙ c.deref-2.ensures.value))
-    c.self.invariant.beats.linked)
+    subst (λ (t : Topology). (k : ℕ) (d : Placed) → k < length c.in_ok-beats.beats.items → Contains (clients_of c.self.inside.manager (declared_links t)) (get_or c.in_ok-beats.beats.items k d).link) (sym c.deref-2.ensures)
+    (subst (λ (ps : List Placed). (k : ℕ) (d : Placed) → k < length ps → Contains (clients_of c.self.inside.manager (declared_links (arc_value c.self.inside.topo))) (get_or ps k d).link) (sym (c.in_ok-beats.ensures))
+    c.self.invariant.0.beats.linked)
 
 pub new-requires-clause-entry : goal.new-requires-clause-entry
 new-requires-clause-entry c =
-    c.in_ok-entry.ensures.kept (manager_at c.deref-3.result.now c.self.inside.manager (areas_of c.self.inside.regions))
-    (subst (λ (t : Topology). IsOf (manager_at t c.self.inside.manager (areas_of c.self.inside.regions)) c.deref.result.now) (sym c.deref-3.ensures)
-    (subst (λ (s : SpanState). IsOf (manager_at (arc_value c.self.inside.topo) c.self.inside.manager (areas_of c.self.inside.regions)) s) (sym c.deref.ensures) c.self.invariant.entry))
+    c.in_ok-entry.ensures.kept (manager_at c.deref-2.result.now c.self.inside.manager (areas_of c.self.inside.regions))
+    (subst (λ (t : Topology). IsOf (manager_at t c.self.inside.manager (areas_of c.self.inside.regions)) c.deref.result.now) (sym c.deref-2.ensures)
+    (subst (λ (s : SpanState). IsOf (manager_at (arc_value c.self.inside.topo) c.self.inside.manager (areas_of c.self.inside.regions)) s) (sym c.deref.ensures) c.self.invariant.0.entry))
 
 pub returns-clause-pass : goal.returns-clause-pass
 returns-clause-pass c =
-    let task : TaskData = record { topo = arc_value c.self.inside.topo; owner = c.self.inside.manager; window = c.self.inside.window; regions = c.self.inside.regions; beats = c.self.inside.beats.items; entry = arc_value c.self.inside.entry } in
+    let task : TaskData = record { topo = arc_value c.self.inside.topo; owner = c.self.inside.manager; window = c.self.inside.window; regions = c.self.inside.regions; beats = c.self.inside.beats; entry = arc_value c.self.inside.entry } in
     let checked : jobs.Checked = c.in-Ok.checked in
     let manages : jobs.manager_of checked.job ≡ manager_of task =
-    ap jobs.manager_of c.in-Ok.ensures.job ∙ c.in_ok-job.ensures.manager ∙ ap (λ (t : Topology). manager_at t c.self.inside.manager (areas_of c.self.inside.regions)) c.deref-3.ensures in
+    ap jobs.manager_of c.in-Ok.ensures.job ∙ c.in_ok-job.ensures.manager ∙ ap (λ (t : Topology). manager_at t c.self.inside.manager (areas_of c.self.inside.regions)) c.deref-2.ensures in
     let begins : shown checked.job.entry ≡ shown task.entry =
     ap (λ (j : jobs.Job). shown j.entry) c.in-Ok.ensures.job ∙ ap shown c.in_ok-job.ensures.keeps.1 ∙ sym (same_shown c.deref.result.now c.in_ok-entry.entry c.in_ok-entry.ensures.same) ∙ ap shown c.deref.ensures in
     let own : checked.job.beats ≡ task.beats =
-    ap (λ (j : jobs.Job). j.beats) c.in-Ok.ensures.job ∙ c.in_ok-job.ensures.keeps.0 ∙ c.in_ok-beats.ensures.items ∙ c.deref-2.ensures.value in
-    let pass = passed task c.self.invariant checked c.into_parts-exit.ensures.kept manages begins own in
+    ap (λ (j : jobs.Job). j.beats) c.in-Ok.ensures.job ∙ c.in_ok-job.ensures.keeps.0 ∙ c.in_ok-beats.ensures in
+    let pass = passed task c.self.invariant.0 checked c.into_parts-exit.ensures.kept manages begins own in
     let left : SpanState = c.into_parts-exit.result.0 in
     let rest = settled task task.entry left c.settle.new.self checked.rows c.settle.ensures.same (c.settle.ensures.kept (manager_of task))
     (subst (λ x. IsPassOf task (record { entry = task.entry; exit = x; rows = checked.rows })) (sym c.into_parts-exit.ensures.exact.0) pass) in

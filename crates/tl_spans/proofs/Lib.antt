@@ -8,3 +8,4 @@ pub mod TouchLemmas
 pub mod TouchedLemmas
 pub mod EditLemmas
 pub mod RecheckLemmas
+pub mod TicketLemmas

@@ -40,6 +40,7 @@ impl Spans {
         ensures entry { IfOk result (λ stored. entry_for key self.now.board ≡ Some (arc_value stored.entry)) }
     {
         let task = self.task(alloc, key)?;
-        task.check(alloc)
+        let stored = task.check(alloc)?;
+        Ok(stored)
     }
 }

@@ -10,6 +10,7 @@ mod touched;
 mod windows;
 
 pub use spans::{Spans, gathered};
+pub use tickets::window_key;
 pub use tl_tasks::Rows;
 pub use touched::{Touched, touches_of};
 pub use windows::{grow, keep, keys_of, prune, touch_each};

@@ -1,12 +1,15 @@
 //! Windows that go out to be checked, and come back.
 
 ghost use Rattle.std.specs.Prelude.{◌≡◌, IfOk, IfSome, is_some, true};
+ghost use Rattle.std.specs.Bool.{Decides};
 ghost use Rattle.tl_pieces.specs.Keys.{change};
 ghost use Rattle.tl_pieces.specs.Marks.{pass_of};
 ghost use Rattle.tl_pieces.specs.Pieces.{piece_at, live_of, with_live, with_pieces, IsFirstFree};
 ghost use Rattle.tl_span.specs.States.{SameSpan};
-ghost use Rattle.tl_spans.specs.Spans.{standing, IsSpanOf};
-ghost use Rattle.tl_spans.specs.Tickets.{IsTaskFor, HandsIn};
+ghost use Rattle.tl_spans.specs.Spans.{standing};
+ghost use Rattle.tl_spans.specs.Tickets.{IsTaskFor, StandsIn, HandsIn};
+ghost use Rattle.tl_spans.specs.Windows.{key_of};
+ghost use Rattle.tl_tasks.specs.Tasks.{IsPassOf};
 
 use crate::spans::Spans;
 use crate::windows::keep;
@@ -59,18 +62,42 @@ impl Spans {
         self.pieces.set_live(key, live);
     }
 
-    /// A window that was out comes back with a result that is the pass of its present beats: where it is wanted it gets the result.
-    /// Its live ticket ends. It takes no memory.
-    pub fn hand_in(&mut self, key: PieceKey, stored: Stored<SpanState, Rows>)
-        requires there { is_some (piece_at key self.old.board) ≡ true }
-        requires of_window { IsSpanOf (standing self.old) key.owner key.window (pass_of stored) }
-        ensures { HandsIn self.old key (pass_of stored) self.new }
+    /// Whether what a window's task was made of is what stands: the links and the block, the regions of its manager, and the beats
+    /// of the window. It takes no memory.
+    pub fn is_current(&self, task: &SpanTask) -> bool
+        requires { is_some (piece_at (key_of task.now.owner task.now.window) self.now.board) ≡ true }
+        ensures { Decides result (StandsIn (standing self.now) task.now) }
+    {
+        let _ = self.pieces.len();
+        let inputs = self.log.inputs();
+        let regions = &inputs.regions()[usize::from(task.manager())];
+        task.is_current(inputs.topo(), regions, inputs.present())
+    }
+
+    /// A window that was out comes back with the pass of its task, and what that was made of stands: where the window is wanted it
+    /// gets the result. Its live ticket ends. It takes no memory.
+    pub fn hand_in(&mut self, task: &SpanTask, stored: Stored<SpanState, Rows>)
+        requires there { is_some (piece_at (key_of task.now.owner task.now.window) self.old.board) ≡ true }
+        requires current { StandsIn (standing self.old) task.now }
+        requires pass { IsPassOf task.now (pass_of stored) }
+        ensures { HandsIn self.old (key_of task.now.owner task.now.window) (pass_of stored) self.new }
     {
         let _ = &self.log;
+        let key = window_key(task);
         if self.pieces.is_wanted(key) {
             keep(&mut self.pieces, key, stored);
         } else {
             self.pieces.set_live(key, None);
         }
+    }
+}
+
+/// The key of a task's window.
+pub fn window_key(task: &SpanTask) -> PieceKey
+    ensures { result ≡ key_of task.now.owner task.now.window }
+{
+    PieceKey {
+        owner: u32::from(task.manager()),
+        window: task.window(),
     }
 }

@@ -71,8 +71,13 @@ impl SpanTask {
         requires entry { IsOf (manager_at (arc_value topo.now) manager (areas_of regions.now)) (arc_value entry.now) }
         requires numbers { HasNumbers regions.now }
         ensures { IfOk result (λ task. task ≡ record {
-            topo = arc_value topo.now; owner = manager; window = window; regions = regions.now;
-            beats = beats_in window (manager_beats (arc_value topo.now) present.now manager); entry = arc_value entry.now }) }
+          topo = arc_value topo.now;
+          owner = manager;
+          window = window;
+          regions = regions.now;
+          beats = beats_in window (manager_beats (arc_value topo.now) present.now manager);
+          entry = arc_value entry.now;
+        }) }
     {
         let links = clients_of(alloc, topo, manager)?;
         Ok(SpanTask {

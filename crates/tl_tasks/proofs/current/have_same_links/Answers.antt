@@ -7,11 +7,14 @@ use Rattle.tl_tasks.proofs.CurrentLemmas.{one_more, linked, apart, same_of_both}
 use Rattle.tl_tasks.proofs.current.have_same_links.Goals as goal
 
 pub returns-then-not-is_link : goal.returns-then-not-is_link
-returns-then-not-is_link c = (λ h. cc, λ same. (let alike : c.unwrap-link.result.now ≡ c.unwrap.result.now =
-    apart (declared_links c.args.own.now) (declared_links c.args.other.now) c.loop-number.number c.unwrap-link.result.now c.unwrap.result.now
-    (linked (λ p. p.1) c.args.own.now.links c.loop-number.number c.link.result c.unwrap-link.result c.link.ensures.exact c.unwrap-link.ensures)
-    (linked (λ p. p.1) c.args.other.now.links c.loop-number.number c.link-in-loop-number.result c.unwrap.result c.link-in-loop-number.ensures.exact c.unwrap.ensures) same in
-    sym c.if-not-is_link.true ∙ c.is_link.ensures.1 alike))
+returns-then-not-is_link c = (
+  λ h. cc,
+  λ same. (let alike : c.unwrap-link.result.now ≡ c.unwrap.result.now =
+      apart (declared_links c.args.own.now) (declared_links c.args.other.now) c.loop-number.number c.unwrap-link.result.now c.unwrap.result.now
+      (linked (λ p. p.1) c.args.own.now.links c.loop-number.number c.link.result c.unwrap-link.result c.link.ensures.exact c.unwrap-link.ensures)
+      (linked (λ p. p.1) c.args.other.now.links c.loop-number.number c.link-in-loop-number.result c.unwrap.result c.link-in-loop-number.ensures.exact c.unwrap.ensures) same in
+      sym c.if-not-is_link.true ∙ c.is_link.ensures.1 alike),
+)
 
 pub loop-number-preserved : goal.loop-number-preserved
 loop-number-preserved c =

@@ -1,5 +1,4 @@
-use Rattle.std.proofs.Common.{rules, ◌≡◌, ◌<◌, ℕ, refl, arith}
-use Rattle.tl_topology.specs.Regions.{area_at}
+use Rattle.std.proofs.Common.{rules, ◌<◌, refl}
 use Rattle.tl_tasks.proofs.CurrentLemmas.{same_regions}
 use Rattle.tl_tasks.proofs.current.are_regions.Goals as goal
 

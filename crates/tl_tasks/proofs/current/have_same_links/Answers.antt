@@ -1,9 +1,6 @@
-use Rattle.std.proofs.Common.{rules, ◌≡◌, ◌≤◌, Some, map, length, refl, ap, sym, subst, ◌∙◌}
-use Rattle.std.specs.Prelude.{slice_get}
-use Rattle.std.proofs.lemmas.List.{length-map}
-use Rattle.tl_topology.specs.declared.LinkDecl.{LinkDecl}
+use Rattle.std.proofs.Common.{◌≡◌, sym, ◌∙◌}
 use Rattle.tl_definitions.specs.Managers.{declared_links}
-use Rattle.tl_tasks.proofs.CurrentLemmas.{one_more, linked, apart, same_of_both}
+use Rattle.tl_tasks.proofs.CurrentLemmas.{one_more, linked, apart}
 use Rattle.tl_tasks.proofs.current.have_same_links.Goals as goal
 
 pub returns-then-not-is_link : goal.returns-then-not-is_link

@@ -6,7 +6,6 @@ use Rattle.tl_topology.specs.Topology.{Topology}
 use Rattle.tl_beats.specs.declared.Placed.{Placed}
 use Rattle.tl_definitions.specs.Managers.{declared_links, manager_at}
 use Rattle.tl_definitions.specs.Positions.{clients_of}
-use Rattle.tl_definitions.specs.Rules.{Manager}
 use Rattle.tl_pieces.specs.Marks.{pass_of}
 use Rattle.tl_span.specs.Jobs as jobs
 use Rattle.tl_span.specs.States.{shown, IsOf}

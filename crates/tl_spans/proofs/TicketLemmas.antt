@@ -1,7 +1,7 @@
 -- Windows that go out and come back.
-use Rattle.std.proofs.Common.{◌≡◌, ℕ, zero, suc, ◌<◌, true, false, cond, List, [], ◌∷◌, Option, Some, None, refl, sym, ap, subst, ◌∙◌, length, get_or, map}
+use Rattle.std.proofs.Common.{◌≡◌, ℕ, zero, suc, ◌<◌, true, false, cond, List, [], ◌∷◌, Option, Some, None, refl, sym, ap, subst, ◌∙◌, length, get_or, map, arith}
 use Rattle.std.specs.Prelude.{is_some, option_map, slice_get, slice_index_or}
-use Rattle.std.specs.Option.{option_map_or}
+use Rattle.std.specs.Option.{option_map_or, IfSome}
 use Rattle.std.specs.BTreeMap.{is_at}
 use Rattle.tl_topology.specs.Regions.{Area, areas_of}
 use Rattle.tl_topology.specs.Topology.{Topology}
@@ -10,19 +10,19 @@ use Rattle.tl_definitions.specs.Captures.{manager_beats}
 use Rattle.tl_definitions.specs.Judging.{judging}
 use Rattle.tl_definitions.specs.Managers.{manager_at}
 use Rattle.tl_definitions.specs.Passes.{IsPass}
-use Rattle.tl_inputs.specs.Inputs.{InputData, regions_at}
+use Rattle.tl_inputs.specs.Inputs.{InputData, AreNumbered, regions_at}
 use Rattle.tl_pieces.specs.declared.key.PieceKey.{PieceKey}
 use Rattle.tl_pieces.specs.Keys.{key_cmp, change}
-use Rattle.tl_pieces.specs.Pieces.{Piece, Board, Pass, opening_of, piece_at, result_of, with_live, with_pieces}
+use Rattle.tl_pieces.specs.Pieces.{Piece, Board, Pass, opening_of, piece_at, result_of, with_live, with_pieces, IsFree, IsFirstFree}
 use Rattle.tl_plain.specs.Captured.{areas_at}
-use Rattle.tl_span.specs.States.{shown, IsOf}
+use Rattle.tl_span.specs.States.{shown, IsOf, SameSpan}
 use Rattle.tl_span.specs.declared.state.SpanState.{SpanState}
-use Rattle.tl_tasks.specs.Tasks.{TaskData, IsPassOf, IsCurrent, manager_of}
+use Rattle.tl_tasks.specs.Tasks.{TaskData, HasNumbers, IsPassOf, IsCurrent, manager_of}
 use Rattle.tl_tasks.proofs.CurrentLemmas.{same_manager}
 use Rattle.tl_windows.specs.Windows.{beats_in}
 use Rattle.tl_spans.specs.Spans.{SpansData, standing, manager_in, IsSpanOf, IsSound}
 use Rattle.tl_spans.specs.Tickets.{IsTaskFor, StandsIn}
-use Rattle.tl_spans.proofs.CheckLemmas.{lookup_change}
+use Rattle.tl_spans.proofs.CheckLemmas.{lookup_change, first_there}
 
 -- ---- the board with another live ticket
 
@@ -101,3 +101,17 @@ task_manager spans key task is =
     ∙ ap (λ n. manager_at (standing spans).topo n (areas_of task.regions)) is.owner
     ∙ ap (λ rs. manager_at (standing spans).topo key.owner (areas_of rs)) is.regions
     ∙ ap (manager_at (standing spans).topo key.owner) (regions_found (standing spans).regions key.owner)
+
+-- ---- what is read of the map
+
+pub free_there : (b : Board SpanState (List Row)) (r : Option PieceKey) → IsFirstFree SameSpan b r → IfSome r (λ key. is_some (piece_at key b) ≡ true)
+free_there b None h = tt
+free_there b (Some key) h = first_there (IsFree SameSpan b.openings) None b.pieces key h
+
+pub indexed : (regions : List (List (ℕ × Area))) (k : ℕ) (own d : List (ℕ × Area)) → k < length regions → own ≡ get_or regions k d → own ≡ regions_at k regions
+indexed [] k own d lt is = absurd (let none : k < 0 = lt in omega arith)
+indexed (r ∷ regions) zero own d lt is = is
+indexed (r ∷ regions) (suc k) own d lt is = indexed regions k own d (let more : suc k < suc (length regions) = lt in omega arith) is
+
+pub numbered : (regions : List (List (ℕ × Area))) (k : ℕ) (own : List (ℕ × Area)) → own ≡ regions_at k regions → AreNumbered regions → HasNumbers own
+numbered regions k own is all = subst HasNumbers (sym is) (all k)

@@ -1,5 +1,5 @@
 -- Windows of managers that go out to be checked, and come back.
-use Rattle.std.specs.Prelude.{◌≡◌, ◌⊎◌, ⊥, None, Some, List}
+use Rattle.std.specs.Prelude.{◌≡◌, ◌⊎◌, None, Some, List}
 use Rattle.tl_beats.specs.declared.Row.{Row}
 use Rattle.tl_definitions.specs.Captures.{manager_beats}
 use Rattle.tl_inputs.specs.Inputs.{InputData, regions_at}

@@ -40,6 +40,13 @@ fn two() -> [u16; 2]
     [0, 1]
 }
 
+/// One of them.
+fn one() -> [u16; 1]
+    ensures { IsStrictlySortedBy nat_cmp result }
+{
+    [0]
+}
+
 #[test]
 fn beats_of_a_link_stand_by_range(rt: HostRuntime) -> Result<(), Fail> {
     let alloc = rt.alloc();
@@ -77,7 +84,7 @@ fn shared_beats_are_compared(rt: HostRuntime) -> Result<(), Fail> {
     assert!(rt; first.as_slice() == [(0, 2, 2), (1, 1, 2), (1, 1, 3), (0, 2, 3)].as_slice());
     assert!(rt; present.has_beats(&shared, 0, &links));
     assert!(rt; !present.has_beats(&shared, 1, &links));
-    assert!(rt; !present.has_beats(&shared, 0, &[0]));
+    assert!(rt; !present.has_beats(&shared, 0, &one()));
     present.take(0, 1);
     assert!(rt; present.has_beats(&shared, 0, &links));
     present.take(0, 2);

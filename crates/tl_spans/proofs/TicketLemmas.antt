@@ -1,10 +1,9 @@
 -- Windows that go out and come back.
-use Rattle.std.proofs.Common.{◌≡◌, ℕ, zero, suc, ◌<◌, true, false, cond, List, [], ◌∷◌, Option, Some, None, refl, sym, ap, subst, ◌∙◌, length, get_or, map, arith}
-use Rattle.std.specs.Prelude.{is_some, option_map, slice_get, slice_index_or}
-use Rattle.std.specs.Option.{option_map_or, IfSome}
+use Rattle.std.proofs.Common.{◌≡◌, ℕ, zero, suc, ◌<◌, true, false, cond, List, [], ◌∷◌, Option, Some, None, refl, sym, ap, subst, ◌∙◌, length, get_or, arith}
+use Rattle.std.specs.Prelude.{is_some, option_map}
+use Rattle.std.specs.Option.{IfSome}
 use Rattle.std.specs.BTreeMap.{is_at}
 use Rattle.tl_topology.specs.Regions.{Area, areas_of}
-use Rattle.tl_topology.specs.Topology.{Topology}
 use Rattle.tl_beats.specs.declared.Row.{Row}
 use Rattle.tl_definitions.specs.Captures.{manager_beats}
 use Rattle.tl_definitions.specs.Judging.{judging}
@@ -15,9 +14,9 @@ use Rattle.tl_pieces.specs.declared.key.PieceKey.{PieceKey}
 use Rattle.tl_pieces.specs.Keys.{key_cmp, change}
 use Rattle.tl_pieces.specs.Pieces.{Piece, Board, Pass, opening_of, piece_at, result_of, with_live, with_pieces, IsFree, IsFirstFree}
 use Rattle.tl_plain.specs.Captured.{areas_at}
-use Rattle.tl_span.specs.States.{shown, IsOf, SameSpan}
+use Rattle.tl_span.specs.States.{IsOf, SameSpan}
 use Rattle.tl_span.specs.declared.state.SpanState.{SpanState}
-use Rattle.tl_tasks.specs.Tasks.{TaskData, HasNumbers, IsPassOf, IsCurrent, manager_of}
+use Rattle.tl_tasks.specs.Tasks.{TaskData, HasNumbers, IsPassOf, manager_of}
 use Rattle.tl_tasks.proofs.CurrentLemmas.{same_manager}
 use Rattle.tl_windows.specs.Windows.{beats_in}
 use Rattle.tl_spans.specs.Spans.{SpansData, standing, manager_in, IsSpanOf, IsSound}

@@ -1,7 +1,6 @@
-use Rattle.std.proofs.Common.{◌≡◌, Some, List, sym, ap, subst, ◌∙◌}
-use Rattle.std.specs.Arc.{arc_value}
+use Rattle.std.proofs.Common.{Some, sym, ap, ◌∙◌}
 use Rattle.tl_pieces.specs.Marks.{pass_of}
-use Rattle.tl_spans.specs.Spans.{SpansData, standing, IsSpanOf}
+use Rattle.tl_spans.specs.Spans.{standing}
 use Rattle.tl_spans.proofs.TicketLemmas.{passed_now, task_manager}
 use Rattle.tl_spans.proofs.spans.Spans.checked.Goals as goal
 

@@ -1,5 +1,4 @@
-use Rattle.std.proofs.Common.{◌≡◌, None, List, sym, subst}
-use Rattle.tl_beats.specs.declared.Row.{Row}
+use Rattle.std.proofs.Common.{None, sym, subst}
 use Rattle.tl_pieces.specs.declared.key.PieceKey.{PieceKey}
 use Rattle.tl_pieces.specs.Marks.{pass_of}
 use Rattle.tl_spans.specs.Spans.{SpansData, standing, IsSpanOf}

@@ -6,6 +6,7 @@ mod checking;
 mod edits;
 mod rechecks;
 mod tally;
+mod tickets;
 mod touched;
 mod watches;
 

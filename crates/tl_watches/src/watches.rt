@@ -8,6 +8,7 @@ ghost use Rattle.tl_span.specs.States.{SameSpan};
 ghost use Rattle.tl_watches.specs.Tally.{SameTally};
 ghost use Rattle.tl_watches.specs.Watches.{AreWatches};
 ghost use Rattle.tl_spans.specs.Spans.{standing};
+ghost use Rattle.tl_windows.specs.Present.{IsPresent};
 
 use crate::tally::Tally;
 use std::alloc::{AllocError, Global};
@@ -15,6 +16,7 @@ use std::marker::Model;
 use tl_pieces::{PieceKey, PieceMap};
 use tl_spans::{Rows, Spans};
 use tl_topology::Topo;
+use tl_windows::Present;
 
 /// A log of edits with the windows of all managers, and the windows of the monitors that are attached: of each window in which a
 /// monitor's link has a beat its result, from when it was checked until an edit touches it. The owner of a monitor's windows is
@@ -63,6 +65,17 @@ impl Watches {
     {
         let _ = self.pieces.len();
         &self.spans
+    }
+
+    /// The fragments that stand. They are such as may stand beside each other.
+    pub fn present(&self) -> &Present
+        ensures exact { result.now ≡ (standing self.now.spans).fragments }
+        ensures kept { IsPresent (standing self.now.spans).fragments }
+    {
+        let _ = &self.pieces;
+        let present = self.spans.log().inputs().present();
+        let _ = present.is_empty();
+        present
     }
 
     /// Whether every window, of managers and of monitors, has a result, and each begins with what the one before it ended with.

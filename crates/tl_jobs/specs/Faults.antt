@@ -1,0 +1,8 @@
+-- The refusals of a take by number.
+use Rattle.std.specs.Prelude.{ℕ}
+use Rattle.tl_jobs.specs.declared.fault.TakeFault.{TakeFault}
+use Rattle.tl_jobs.specs.declared.fault.TakeFault.TheVariants as fault
+
+abbrev pub take_code : TakeFault → ℕ
+take_code fault.TicketsSpent = 34
+take_code fault.Memory = 20

@@ -30,7 +30,7 @@ use Rattle.tl_desk.specs.Boxes.{BoxesData, held_at, without_tally, retuned_at, t
 use Rattle.tl_desk.specs.Core.{AreAttached}
 use Rattle.tl_desk.specs.Steps.{boxes_after, KeepsBoxes}
 
-nat_exact : (x y : ℕ) → nat_cmp x y ≡ Equal → x ≡ y
+pub nat_exact : (x y : ℕ) → nat_cmp x y ≡ Equal → x ≡ y
 nat_exact x y h = grind (arith, nat_tests)
 
 pub number_exact : (x y : ℕ) → is_at (nat_cmp x) y ≡ true → x ≡ y
@@ -41,13 +41,13 @@ number_exact x y h = go (nat_cmp x y) refl h
     go Equal e g = nat_exact x y e
     go Greater e g = cc
 
-number_equivalence : IsEquivalence (λ k. is_at (nat_cmp k))
+pub number_equivalence : IsEquivalence (λ k. is_at (nat_cmp k))
 number_equivalence = eq_by_cmp_equiv nat_cmp_total
 
-same_test : (m : ℕ) (x y : ℕ) → is_at (nat_cmp m) x ≡ true → is_at (nat_cmp m) y ≡ is_at (nat_cmp x) y
+pub same_test : (m : ℕ) (x y : ℕ) → is_at (nat_cmp m) x ≡ true → is_at (nat_cmp m) y ≡ is_at (nat_cmp x) y
 same_test m x y h = ap (λ k. is_at (nat_cmp k) y) (number_exact m x h)
 
-turned : (m n : ℕ) → is_at (nat_cmp m) n ≡ is_at (nat_cmp n) m
+pub turned : (m n : ℕ) → is_at (nat_cmp m) n ≡ is_at (nat_cmp n) m
 turned m n = go (is_at (nat_cmp m) n) (is_at (nat_cmp n) m) refl refl
   where
     go : (a b : Bool) → is_at (nat_cmp m) n ≡ a → is_at (nat_cmp n) m ≡ b → a ≡ b

@@ -2,3 +2,5 @@ mod BoxLemmas
 mod AttachedLemmas
 mod ReportLemmas
 mod WatchLemmas
+mod TicketLemmas
+mod JobLemmas

@@ -11,10 +11,14 @@ use Rattle.tl_definitions.specs.Report.{IsReport}
 use Rattle.tl_inputs.specs.Edits.{AnEdit}
 use Rattle.tl_inputs.specs.Log.{LogData, inputs_after}
 use Rattle.tl_plain.specs.Captured.{captures_after}
+use Rattle.tl_span.specs.States.{SameSpan}
+use Rattle.tl_spans.specs.Recheck.{ChecksSome}
+use Rattle.tl_watches.specs.Tally.{SameTally}
 use Rattle.tl_watches.specs.Watches.{WatchesData}
 use Rattle.tl_desk.specs.Boxes.{BoxesData}
 use Rattle.tl_desk.specs.Steps.{KeepsBoxes}
 use Rattle.tl_desk.proofs.AttachedLemmas.{still_attached}
+use Rattle.tl_desk.proofs.TicketLemmas.{tickets_checked}
 use Rattle.tl_report.specs.Output.{ReportData}
 use Rattle.tl_desk.specs.Core.{Core, AreLinked, IsOf, IsSound, AreAttached, AreVersions, log_of, standing, most_versions}
 
@@ -71,13 +75,17 @@ published old report sound version edit rows linked few =
           (omega (arith, edit), subst (λ edits. IsReport (captures_after (inputs_after (log_of old).topo edits)) report.rows) (sym whole) rows, linked);
       versions = next_version 1 old.reports report sound.versions (omega (arith, version));
       few = omega (arith, few, longer);
+      tickets = sound.tickets;
     }
 
--- A desk whose log and reports are as they were, and whose monitors are the same but for their tallies.
-pub sound_still : (old : Core) (windows : WatchesData) (boxes : BoxesData) → IsSound old → windows.spans.log ≡ log_of old → KeepsBoxes old.boxes boxes → IsSound (record { windows = windows; boxes = boxes; reports = old.reports })
-sound_still old windows boxes sound log keeps = record {
+-- A desk whose log and reports are as they were, whose monitors are the same but for their tallies, and of whose windows some were checked.
+pub sound_still : (old : Core) (windows : WatchesData) (boxes : BoxesData) → IsSound old → windows.spans.log ≡ log_of old → KeepsBoxes old.boxes boxes
+    → ChecksSome SameSpan old.windows.spans.board windows.spans.board → ChecksSome SameTally old.windows.board windows.board
+    → IsSound (record { windows = windows; boxes = boxes; reports = old.reports; tickets = old.tickets })
+sound_still old windows boxes sound log keeps managers monitors = record {
   attached = subst (λ (l : LogData). AreAttached (inputs_after l.topo l.edits) boxes.live) (sym log) (still_attached (standing old) old.boxes boxes keeps sound.attached);
   reports = subst (λ (l : LogData). AllByRecursion (IsOf l) old.reports) (sym log) sound.reports;
   versions = sound.versions;
   few = sound.few;
+  tickets = tickets_checked old.windows windows old.tickets log managers monitors sound.tickets;
 }

@@ -15,13 +15,16 @@ use Rattle.tl_spans.specs.Spans as spans
 use Rattle.tl_span.specs.States.{SameSpan}
 use Rattle.tl_watches.specs.Tally.{SameTally}
 use Rattle.tl_watches.specs.Watches.{WatchesData}
+use Rattle.tl_tickets.specs.Tickets.{TicketsData}
 use Rattle.tl_desk.specs.Boxes.{BoxesData, held_at}
+use Rattle.tl_desk.specs.Tickets.{HoldsTickets}
 
--- The log of edits with the windows, the monitors with what they told, and all reports, the oldest first.
+-- The log of edits with the windows, the monitors with what they told, all reports, the oldest first, and the tickets that are out.
 pub record Core : Type 0 where
   pub windows : WatchesData
   pub boxes : BoxesData
   pub reports : List ReportData
+  pub tickets : TicketsData
 
 -- the log, and what it leaves
 abbrev pub log_of : Core → LogData
@@ -51,12 +54,14 @@ AreAttached now live = (number : ℕ) → option_map (λ (h : Held). h.watch) (h
 abbrev pub most_versions : ℕ
 most_versions = 65536
 
--- What every desk keeps: each of its reports is that of its edits.
+-- What every desk keeps: each of its reports is that of its edits, and each live ticket is out for its window, which is since then what
+-- it was.
 pub record IsSound (core : Core) : Type 0 where
   pub attached : AreAttached (standing core) core.boxes.live
   pub reports : AllByRecursion (IsOf (log_of core)) core.reports
   pub versions : AreVersions 1 core.reports
   pub few : length core.reports ≤ most_versions
+  pub tickets : HoldsTickets (log_of core) core.windows.spans.board core.windows.board core.tickets
 
 -- the last report, and the one of a version
 abbrev pub latest_of : List ReportData → Option ReportData
@@ -70,10 +75,11 @@ report_of (suc version) reports = slice_get reports version
 abbrev pub AllSettled : Core → Type 0
 AllSettled core = IsSettled SameSpan core.windows.spans.board × IsSettled SameTally core.windows.board
 
--- Nothing was edited, attached or published.
+-- Nothing was edited, attached, published or given out.
 pub record IsNew (topo : Topology) (core : Core) : Type 0 where
   pub log : log_of core ≡ record { topo = topo; edits = [] }
   pub spans : core.windows.spans.board.pieces ≡ []
   pub watches : core.windows.board ≡ record { openings = []; pieces = [] }
   pub boxes : core.boxes ≡ record { live = []; ended = [] }
   pub reports : core.reports ≡ []
+  pub tickets : core.tickets ≡ record { out = []; last = 0 }

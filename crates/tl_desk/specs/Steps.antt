@@ -1,11 +1,14 @@
 -- What each call makes of a desk.
-use Rattle.std.specs.Prelude.{ℕ, ◌≡◌, ◌<◌, ◌+◌, [], ◌∷◌, ◌++◌, length, min, None}
+use Rattle.std.specs.Prelude.{ℕ, ◌≡◌, ◌<◌, ◌+◌, [], ◌∷◌, ◌++◌, length, min, None, true, false}
 use Rattle.std.specs.Ordering.{nat_cmp}
 use Rattle.std.specs.BTreeMap.{insert_entry}
 use Rattle.tl_beats.specs.declared.watch.Watch.{Watch}
 use Rattle.tl_definitions.specs.Report.{IsReport}
 use Rattle.tl_inputs.specs.Edits.{AnEdit, plain_change, add, replace, withdraw, clear_link, set_region, remove_region, attach, retune, detach}
 use Rattle.tl_inputs.specs.Inputs.{refusal}
+use Rattle.tl_jobs.specs.Jobs.{JobData, DoneData, piece_of}
+use Rattle.tl_jobs.specs.declared.job.HandIn.{HandIn}
+use Rattle.tl_jobs.specs.declared.job.HandIn.TheVariants as answer
 use Rattle.tl_monitor.specs.Held.{Held}
 use Rattle.std.specs.Option.{option_map}
 use Rattle.tl_plain.specs.Captured.{captures_after}
@@ -16,6 +19,7 @@ use Rattle.tl_watches.specs.Edits.{EditsBoth}
 use Rattle.tl_watches.specs.Tally.{SameTally}
 use Rattle.tl_desk.specs.Boxes.{BoxesData, held_at, without_tally, retuned_at, ended_at}
 use Rattle.tl_desk.specs.Core.{Core, AllSettled, most_versions, log_of, standing}
+use Rattle.tl_desk.specs.Jobs.{IsFresh, Takes, Accepts, Ends, Recalls}
 use Rattle.tl_desk.specs.declared.edits.BoxChange.{BoxChange}
 use Rattle.tl_desk.specs.declared.edits.BoxChange.TheVariants as change
 use Rattle.tl_desk.specs.declared.call.Call.{Call}
@@ -45,6 +49,7 @@ pub record Edits (old : Core) (e : AnEdit) (number : ℕ) (new : Core) : Type 0 
   pub last : number ≡ length (log_of new).edits
   pub windows : EditsBoth old.windows e new.windows
   pub reports : new.reports ≡ old.reports
+  pub tickets : new.tickets ≡ old.tickets
 
 -- A monitor with this watch has come in under its number.
 abbrev pub Attaches : ℕ → Watch → BoxesData → BoxesData → Type 0
@@ -77,6 +82,7 @@ pub record RechecksAll (old : Core) (count : ℕ) (new : Core) : Type 0 where
   pub sum : count ≡ min (of_managers + of_monitors) 18446744073709551615
   pub boxes : KeepsBoxes old.boxes new.boxes
   pub reports : new.reports ≡ old.reports
+  pub tickets : new.tickets ≡ old.tickets
 
 -- Some of the windows that had no result, or one that did not begin with what stands before it, are checked, and their tickets end; all
 -- else stays.
@@ -86,9 +92,21 @@ pub record RechecksSome (old new : Core) : Type 0 where
   pub monitors : ChecksSome SameTally old.windows.board new.windows.board
   pub boxes : KeepsBoxes old.boxes new.boxes
   pub reports : new.reports ≡ old.reports
+  pub tickets : new.tickets ≡ old.tickets
 
 abbrev pub Step : Core → Call → Core → Type 0
 Step old (call.Edit change number) new = Edits old (plain_change change) number new × (new.boxes ≡ boxes_after (plain_change change) number old.boxes)
 Step old (call.Attach monitor w number) new = Edits old (attach monitor w) number new × Attaches monitor w old.boxes new.boxes
 Step old (call.Recheck count) new = RechecksAll old count new
 Step old (call.Publish version) new = Publishes old version new
+Step old (call.Take ticket piece) new = Takes old ticket piece new
+Step old (call.HandIn ticket piece true) new = (done : DoneData) × (done.job.ticket ≡ ticket) × (piece_of done.job ≡ piece) × Accepts old done new
+Step old (call.HandIn ticket piece false) new = (job : JobData) × (job.ticket ≡ ticket) × (piece_of job ≡ piece) × (IsFresh old job → ⊥) × Ends old job new
+Step old (call.Abandon ticket piece) new = (job : JobData) × (job.ticket ≡ ticket) × (piece_of job ≡ piece) × Ends old job new
+Step old (call.Recall ticket) new = Recalls old ticket new
+
+-- The step of a job that was handed in, if it was not a stranger's.
+abbrev pub HandInStep : Core → DoneData → HandIn → Core → Type 0
+HandInStep old done answer.Taken new = Step old (call.HandIn done.job.ticket (piece_of done.job) true) new
+HandInStep old done answer.Void new = Step old (call.HandIn done.job.ticket (piece_of done.job) false) new
+HandInStep old done (answer.Stranger same) new = new ≡ old

@@ -2,6 +2,7 @@
 
 use tl_beats::Watch;
 use tl_inputs::Change;
+use tl_jobs::Piece;
 
 /// A call on a desk that was not refused, with its answer, as plain data. Contracts speak of it; no value of it is made.
 #[derive(Drop)]
@@ -14,4 +15,12 @@ pub enum Call {
     Recheck(u64),
     /// The report of this version was published.
     Publish(u64),
+    /// This window went out under the ticket of this number.
+    Take(u64, Piece),
+    /// This window came back checked under the ticket of this number, which was out: whether its result was taken.
+    HandIn(u64, Piece, bool),
+    /// This window came back unchecked under the ticket of this number, which was out.
+    Abandon(u64, Piece),
+    /// The ticket of this number, which was live, was called back.
+    Recall(u64),
 }

@@ -15,16 +15,18 @@ use std::marker::Model;
 use tl_inputs::Log;
 use tl_monitor::{Monitor, Settlement};
 use tl_report::Report;
+use tl_tickets::Tickets;
 use tl_topology::Topo;
 use tl_watches::Watches;
 
 /// A log of edits, with the windows of all managers and of all monitors that are attached, these monitors, and all reports that
-/// were published. Each of its reports is that of the edits that it names.
+/// were published; and the tickets that are out. Each of its reports is that of the edits that it names.
 #[derive(Drop)]
 pub struct Desk<M: Monitor> {
     pub(crate) windows: Watches,
     pub(crate) boxes: Boxes<M>,
     pub(crate) reports: Vec<Report>,
+    pub(crate) tickets: Tickets,
 }
 
 impl<M: Monitor> Model for Desk<M> {
@@ -36,9 +38,9 @@ impl<M: Monitor> Model for Desk<M> {
 
     ghost coded = { Prim.hlevel (codes, state.the_row.coded) };
 
-    ghost view = { λ d. record { windows = d.windows; boxes = d.boxes; reports = d.reports.items } };
+    ghost view = { λ d. record { windows = d.windows; boxes = d.boxes; reports = d.reports.items; tickets = d.tickets } };
 
-    ghost invariant = { λ d. IsSound (record { windows = d.windows; boxes = d.boxes; reports = d.reports.items }) };
+    ghost invariant = { λ d. IsSound (record { windows = d.windows; boxes = d.boxes; reports = d.reports.items; tickets = d.tickets }) };
 }
 
 impl<M: Monitor> Desk<M> {
@@ -50,6 +52,7 @@ impl<M: Monitor> Desk<M> {
             windows: Watches::new(alloc, topo)?,
             boxes: Boxes::new(alloc),
             reports: Vec::new(alloc),
+            tickets: Tickets::new(alloc),
         })
     }
 
@@ -59,6 +62,7 @@ impl<M: Monitor> Desk<M> {
     {
         let _ = &self.boxes;
         let _ = &self.reports;
+        let _ = &self.tickets;
         self.windows.spans().log()
     }
 
@@ -68,6 +72,7 @@ impl<M: Monitor> Desk<M> {
     {
         let _ = &self.boxes;
         let _ = &self.reports;
+        let _ = &self.tickets;
         self.windows.settled()
     }
 
@@ -82,6 +87,7 @@ impl<M: Monitor> Desk<M> {
     {
         let _ = &self.windows;
         let _ = &self.boxes;
+        let _ = &self.tickets;
         self.reports.last()
     }
 
@@ -97,6 +103,7 @@ impl<M: Monitor> Desk<M> {
     {
         let _ = &self.windows;
         let _ = &self.boxes;
+        let _ = &self.tickets;
         let place = version.checked_sub(1)?;
         self.reports.get(place as usize)
     }
@@ -107,6 +114,7 @@ impl<M: Monitor> Desk<M> {
     {
         let _ = &self.windows;
         let _ = &self.reports;
+        let _ = &self.tickets;
         self.boxes.settlements()
     }
 
@@ -120,6 +128,7 @@ impl<M: Monitor> Desk<M> {
             windows,
             boxes,
             reports: _,
+            tickets: _,
         } = self;
         let log = windows.into_log();
         let told = boxes.finish(log.len());

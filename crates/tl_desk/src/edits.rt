@@ -71,8 +71,11 @@ impl<M: Monitor> Desk<M> {
         ensures err { OnErr result (self.new ≡ self.old) }
     {
         let _ = &self.reports;
+        let _ = &self.tickets;
         let of_boxes = BoxChange::of(&change);
+        let _ = self.windows.present();
         let number = self.windows.edit(alloc, Edit::Change(change))?;
+        let _ = self.windows.present();
         of_boxes.apply(&mut self.boxes, number);
         Ok(number)
     }
@@ -88,6 +91,8 @@ impl<M: Monitor> Desk<M> {
         ensures err { OnErr result (self.new ≡ self.old) }
     {
         let _ = &self.reports;
+        let _ = &self.tickets;
+        let _ = self.windows.present();
         let watched = Watched::new(monitor);
         let edit = Edit::Attach(number, watched.watch());
         if let Some(fault) = self.windows.spans().log().refusal(&edit) {
@@ -97,7 +102,10 @@ impl<M: Monitor> Desk<M> {
             return Err((EditFault::Memory, watched.into_inner()));
         }
         match self.windows.edit(alloc, edit) {
-            Ok(number) => Ok(number),
+            Ok(number) => {
+                let _ = self.windows.present();
+                Ok(number)
+            }
             Err(fault) => {
                 let watched = self.boxes.give_back(number).unwrap();
                 Err((fault, watched.into_inner()))

@@ -1,4 +1,5 @@
-//! The desk: a log of edits with the windows of managers and monitors, the monitors themselves, and all reports.
+//! The desk: a log of edits with the windows of managers and monitors, the monitors themselves, all reports, and the tickets of windows
+//! that are out to be checked.
 #![tactic(auto)]
 
 mod boxes;
@@ -6,10 +7,12 @@ mod call;
 mod desk;
 mod edits;
 mod fault;
+mod jobs;
 mod publish;
 mod recheck;
 
 pub use call::Call;
 pub use desk::Desk;
 pub use fault::PublishFault;
+pub use tl_jobs::{Done, HandIn, Job, Piece, TakeFault, work};
 pub use tl_report::Report;

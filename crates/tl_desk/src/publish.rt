@@ -48,6 +48,7 @@ impl<M: Monitor> Desk<M> {
     {
         let _ = &self.boxes;
         let _ = &self.reports;
+        let _ = &self.tickets;
         self.windows.rows(alloc)
     }
 }

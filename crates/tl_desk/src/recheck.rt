@@ -52,6 +52,7 @@ impl<M: Monitor> Desk<M> {
         ensures err { OnErr result (RechecksSome self.old self.new) }
     {
         let _ = &self.reports;
+        let _ = &self.tickets;
         let _ = self.windows.spans();
         let of_managers = self.windows.recheck_spans(alloc)?;
         let of_monitors = check_watches(alloc, &mut self.windows, &mut self.boxes)?;

@@ -10,6 +10,7 @@ use Rattle.tl_desk.specs.Boxes.{BoxesData, held_at}
 use Rattle.tl_desk.specs.Core.{Core, IsSound, AreAttached}
 use Rattle.tl_desk.proofs.AttachedLemmas.{attached_more, not_held, given_back, put_found}
 use Rattle.tl_desk.proofs.ReportLemmas.{reports_stay}
+use Rattle.tl_desk.proofs.TicketLemmas.{tickets_edited}
 use Rattle.tl_desk.proofs.desk.Desk.attach.Goals as goal
 
 pub invariant_of-self-in-Ok : goal.invariant_of-self-in-Ok
@@ -24,6 +25,7 @@ invariant_of-self-in-Ok g c =
       reports = reports_stay old.windows.spans.log c.edit.new.self.spans.log e old.reports.items ok.spans.log c.self.invariant.reports;
       versions = c.self.invariant.versions;
       few = c.self.invariant.few;
+      tickets = tickets_edited old.windows e c.edit.new.self old.tickets ok c.present.ensures.kept c.present-in-Ok.ensures.kept c.self.invariant.tickets;
     }
 
 pub unwrap-watched-requires : goal.unwrap-watched-requires
@@ -32,11 +34,11 @@ unwrap-watched-requires g c =
 
 pub invariant_of-self-in-Err-edit : goal.invariant_of-self-in-Err-edit
 invariant_of-self-in-Err-edit g c =
-    let old : Core = record { windows = c.self.inside.windows; boxes = c.self.inside.boxes; reports = c.self.inside.reports.items } in
+    let old : Core = record { windows = c.self.inside.windows; boxes = c.self.inside.boxes; reports = c.self.inside.reports.items; tickets = c.self.inside.tickets } in
     let none = not_held _ (standing old.windows.spans) old.boxes.live c.args.number c.watch.result c.self.invariant.attached (sym (c.refusal.ensures ∙ ap (λ (l : LogData). refusal (length l.edits) (inputs_after l.topo l.edits) (attach c.args.number c.watch.result)) c.log.ensures.exact ∙ ap (λ (s : SpansData). refusal (length s.log.edits) (inputs_after s.log.topo s.log.edits) (attach c.args.number c.watch.result)) c.spans.ensures.exact) ∙ c.in_default.is) in
     let back : c.give_back.new.self ≡ old.boxes = given_back old.boxes c.attach.new.self c.give_back.new.self c.args.number c.new-watched.result none c.in_default-attach.ensures.ok c.give_back.ensures.rest in
-    subst (λ (s : WatchesData). IsSound (record { windows = s; boxes = c.give_back.new.self; reports = old.reports })) (sym c.in-Err-edit.ensures.err)
-    (subst (λ (b : BoxesData). IsSound (record { windows = old.windows; boxes = b; reports = old.reports })) (sym back) c.self.invariant)
+    subst (λ (s : WatchesData). IsSound (record { windows = s; boxes = c.give_back.new.self; reports = old.reports; tickets = old.tickets })) (sym c.in-Err-edit.ensures.err)
+    (subst (λ (b : BoxesData). IsSound (record { windows = old.windows; boxes = b; reports = old.reports; tickets = old.tickets })) (sym back) c.self.invariant)
 
 pub returns-in-Err-edit-clause-back : goal.returns-in-Err-edit-clause-back
 returns-in-Err-edit-clause-back g c =
@@ -47,9 +49,9 @@ returns-in-Err-edit-clause-back g c =
 
 pub returns-in-Err-edit-clause-err : goal.returns-in-Err-edit-clause-err
 returns-in-Err-edit-clause-err g c =
-    let old : Core = record { windows = c.self.inside.windows; boxes = c.self.inside.boxes; reports = c.self.inside.reports.items } in
+    let old : Core = record { windows = c.self.inside.windows; boxes = c.self.inside.boxes; reports = c.self.inside.reports.items; tickets = c.self.inside.tickets } in
     let none = not_held _ (standing old.windows.spans) old.boxes.live c.args.number c.watch.result c.self.invariant.attached (sym (c.refusal.ensures ∙ ap (λ (l : LogData). refusal (length l.edits) (inputs_after l.topo l.edits) (attach c.args.number c.watch.result)) c.log.ensures.exact ∙ ap (λ (s : SpansData). refusal (length s.log.edits) (inputs_after s.log.topo s.log.edits) (attach c.args.number c.watch.result)) c.spans.ensures.exact) ∙ c.in_default.is) in
     let back : c.give_back.new.self ≡ old.boxes = given_back old.boxes c.attach.new.self c.give_back.new.self c.args.number c.new-watched.result none c.in_default-attach.ensures.ok c.give_back.ensures.rest in
-    ap (λ (s : WatchesData). record { windows = s; boxes = c.give_back.new.self; reports = old.reports }) c.in-Err-edit.ensures.err
-    ∙ ap (λ (b : BoxesData). record { windows = old.windows; boxes = b; reports = old.reports }) back
+    ap (λ (s : WatchesData). record { windows = s; boxes = c.give_back.new.self; reports = old.reports; tickets = old.tickets }) c.in-Err-edit.ensures.err
+    ∙ ap (λ (b : BoxesData). record { windows = old.windows; boxes = b; reports = old.reports; tickets = old.tickets }) back
     ∙ c.self.view_is

@@ -8,6 +8,7 @@ use Rattle.tl_desk.specs.Core.{AreAttached}
 use Rattle.tl_desk.specs.Steps.{boxes_after}
 use Rattle.tl_desk.proofs.AttachedLemmas.{attached_after}
 use Rattle.tl_desk.proofs.ReportLemmas.{reports_stay}
+use Rattle.tl_desk.proofs.TicketLemmas.{tickets_edited}
 use Rattle.tl_desk.proofs.desk.Desk.edit.Goals as goal
 
 pub invariant_of-self-2 : goal.invariant_of-self-2
@@ -22,4 +23,5 @@ invariant_of-self-2 g c =
       reports = reports_stay old.windows.spans.log c.edit.new.self.spans.log e old.reports.items ok.spans.log c.self.invariant.reports;
       versions = c.self.invariant.versions;
       few = c.self.invariant.few;
+      tickets = tickets_edited old.windows e c.edit.new.self old.tickets ok c.present.ensures.kept c.present-2.ensures.kept c.self.invariant.tickets;
     }

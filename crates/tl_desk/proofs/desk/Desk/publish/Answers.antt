@@ -9,7 +9,7 @@ use Rattle.tl_desk.proofs.desk.Desk.publish.Goals as goal
 
 pub invariant_of-self-2 : goal.invariant_of-self-2
 invariant_of-self-2 g c =
-    let old : Core = record { windows = c.self.inside.windows; boxes = c.self.inside.boxes; reports = c.self.inside.reports.items } in
+    let old : Core = record { windows = c.self.inside.windows; boxes = c.self.inside.boxes; reports = c.self.inside.reports.items; tickets = c.self.inside.tickets } in
     let few : length old.reports < most_versions = search rules in
     let count : c.len-2.result ≡ length old.reports = search rules in
     let version : c.in_ok-report.report.version ≡ length old.reports + 1 = ap (λ (r : ReportData). r.version) c.in_ok-report.ensures ∙ ap (λ n. n + 1) count in

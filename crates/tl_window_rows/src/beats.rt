@@ -40,13 +40,6 @@ fn two() -> [u16; 2]
     [0, 1]
 }
 
-/// One of them.
-fn one() -> [u16; 1]
-    ensures { IsStrictlySortedBy nat_cmp result }
-{
-    [0]
-}
-
 #[test]
 fn beats_of_a_link_stand_by_range(rt: HostRuntime) -> Result<(), Fail> {
     let alloc = rt.alloc();
@@ -71,43 +64,6 @@ fn beats_of_a_manager_stand_by_position(rt: HostRuntime) -> Result<(), Fail> {
     assert!(rt; second.as_slice() == [(0, 1, 2), (1, 1, 4)].as_slice());
     assert!(rt; present.beats_in(alloc, 2, &links)?.is_empty());
     assert!(rt; present.beats(alloc, &links)?.len() == 7);
-    Ok(())
-}
-
-#[test]
-fn shared_beats_are_compared(rt: HostRuntime) -> Result<(), Fail> {
-    let alloc = rt.alloc();
-    let mut present = some(alloc)?;
-    let links = two();
-    let shared = present.window_beats(alloc, 0, &links)?;
-    let first = places(alloc, &shared.gathered(alloc)?)?;
-    assert!(rt; first.as_slice() == [(0, 2, 2), (1, 1, 2), (1, 1, 3), (0, 2, 3)].as_slice());
-    assert!(rt; present.has_beats(&shared, 0, &links));
-    assert!(rt; !present.has_beats(&shared, 1, &links));
-    assert!(rt; !present.has_beats(&shared, 0, &one()));
-    present.take(0, 1);
-    assert!(rt; present.has_beats(&shared, 0, &links));
-    present.take(0, 2);
-    assert!(rt; !present.has_beats(&shared, 0, &links));
-    let left = present.window_beats(alloc, 0, &links)?;
-    assert!(rt; left.gathered(alloc)?.len() == 2);
-    assert!(rt; present.has_beats(&left, 0, &links));
-    assert!(rt; !some(alloc)?.has_beats(&left, 0, &links));
-    Ok(())
-}
-
-#[test]
-fn windows_without_beats_are_alike(rt: HostRuntime) -> Result<(), Fail> {
-    let alloc = rt.alloc();
-    let present = some(alloc)?;
-    let links = two();
-    let none = present.window_beats(alloc, 2, &links)?;
-    assert!(rt; none.is_empty());
-    assert!(rt; present.has_beats(&none, 2, &links));
-    assert!(rt; present.has_beats(&none, 4503599627370496, &links));
-    assert!(rt; !present.has_beats(&none, 3, &links));
-    let beyond = present.window_beats(alloc, 4503599627370496, &links)?;
-    assert!(rt; present.has_beats(&beyond, 2, &links));
     Ok(())
 }
 

@@ -3,12 +3,13 @@
 use crate::counting::{Calls, Counting};
 use crate::rows::{ends_text, limit_of, rows_text};
 use crate::texts::TOPOLOGY;
+use crate::shelf::{Shelf, Shelved};
 use std::alloc::Global;
 use std::sync::Arc;
 use std::sync::atomic::Ordering;
 use std::test::Fail;
 use tl_beats::{Fragment, parse_whole_fragment};
-use tl_desk::{Desk, Report};
+use tl_desk::{Desk, HandIn, Job, Piece, Report, work};
 use tl_inputs::Change;
 use tl_monitor::Monitor;
 use tl_topology::{Name, Permits, Region, read_topo};
@@ -47,14 +48,28 @@ pub(crate) enum Step<'a> {
     Calls,
     /// What each monitor told that ended.
     Ended,
+    /// Takes a window, which is put on the shelf: `ticket`, its number, the owner and the window; or `none`.
+    Take,
+    /// Checks the job at a place of the shelf: `worked`; or `nothing`, where no job stands there.
+    Work(usize),
+    /// Hands in what was checked at a place: `taken`, `void` or `stranger`; or `nothing`. A stranger stays there.
+    HandIn(usize),
+    /// Gives the job at a place back unchecked: `abandoned` or `stranger`; or `nothing`. A stranger stays there.
+    Abandon(usize),
+    /// Makes a job again of what was checked at a place: `back`; or `nothing`.
+    Back(usize),
+    /// Calls a ticket back: `recalled`, or `nothing` where it isn't live.
+    Recall(u64),
+    /// Whether all windows are settled: `settled` or `open`.
+    Settled,
 }
 
-/// A desk whose monitors count their calls, and what its calls answered.
-#[derive(Drop)]
+/// A desk whose monitors count their calls, the windows that are out, and what its calls answered.
 pub(crate) struct Bench {
     desk: Desk<Counting>,
     calls: Calls,
     text: String,
+    shelf: Shelf,
 }
 
 /// The fragment with a text.
@@ -93,13 +108,7 @@ fn change_of(alloc: Global, step: Step<'_>) -> Result<Option<Change>, Fail> {
         Step::RemoveRegion(manager, number) => Some(Change::RemoveRegion(name(manager)?, number)),
         Step::Retune(monitor, limit) => Some(Change::Retune(monitor, limit)),
         Step::Detach(monitor) => Some(Change::Detach(monitor)),
-        Step::Attach(_, _, _)
-        | Step::Recheck
-        | Step::Publish
-        | Step::Read(_)
-        | Step::Latest
-        | Step::Calls
-        | Step::Ended => None,
+        _ => None,
     })
 }
 
@@ -111,7 +120,15 @@ impl Bench {
             desk: Desk::new(alloc, topo)?,
             calls: Calls::new(alloc)?,
             text: String::new(alloc),
+            shelf: Shelf::new(alloc),
         })
+    }
+
+    /// Puts a line down.
+    fn tell(&mut self, line: &str) -> Result<(), Fail> {
+        self.text.push_str(line)?;
+        self.text.push_str("\n")?;
+        Ok(())
     }
 
     /// Puts a word with a number on a line.
@@ -196,8 +213,113 @@ impl Bench {
         self.say(alloc, "ends", ends)
     }
 
+    /// A window that goes out.
+    fn take(&mut self, alloc: Global) -> Result<(), Fail> {
+        match self.desk.take(alloc) {
+            Ok(Some(job)) => self.shelve(alloc, job),
+            Ok(None) => self.tell("none"),
+            Err(fault) => self.say(alloc, "refused", u64::from(fault.code())),
+        }
+    }
+
+    /// Puts a job on the shelf.
+    fn shelve(&mut self, alloc: Global, job: Job) -> Result<(), Fail> {
+        let (ticket, piece) = (job.ticket(), job.piece());
+        self.shelf.add(Shelved::Job(job))?;
+        let line = match piece {
+            Piece::Manager(owner, window) => {
+                format!(in alloc; "ticket {ticket} manager {owner} {window}")?
+            }
+            Piece::Monitor(owner, window) => {
+                format!(in alloc; "ticket {ticket} monitor {owner} {window}")?
+            }
+        };
+        self.tell(&line)
+    }
+
+    /// A job that is checked.
+    fn work(&mut self, alloc: Global, place: usize) -> Result<(), Fail> {
+        match self.shelf.lift(place) {
+            Shelved::Job(job) => match work(alloc, job) {
+                Ok(done) => {
+                    self.shelf.put(place, Shelved::Done(done));
+                    self.tell("worked")
+                }
+                Err(job) => {
+                    self.shelf.put(place, Shelved::Job(job));
+                    self.tell("not worked")
+                }
+            },
+            other => self.leave_at(place, other),
+        }
+    }
+
+    /// What was checked is handed in.
+    fn hand_in(&mut self, place: usize) -> Result<(), Fail> {
+        match self.shelf.lift(place) {
+            Shelved::Done(done) => match self.desk.hand_in(done) {
+                HandIn::Taken => self.tell("taken"),
+                HandIn::Void => self.tell("void"),
+                HandIn::Stranger(done) => {
+                    self.shelf.put(place, Shelved::Done(done));
+                    self.tell("stranger")
+                }
+            },
+            other => self.leave_at(place, other),
+        }
+    }
+
+    /// A job that is given back.
+    fn abandon(&mut self, place: usize) -> Result<(), Fail> {
+        match self.shelf.lift(place) {
+            Shelved::Job(job) => match self.desk.abandon(job) {
+                Ok(()) => self.tell("abandoned"),
+                Err(job) => {
+                    self.shelf.put(place, Shelved::Job(job));
+                    self.tell("stranger")
+                }
+            },
+            other => self.leave_at(place, other),
+        }
+    }
+
+    /// What was checked is a job again.
+    fn back(&mut self, place: usize) -> Result<(), Fail> {
+        match self.shelf.lift(place) {
+            Shelved::Done(done) => {
+                self.shelf.put(place, Shelved::Job(done.back()));
+                self.tell("back")
+            }
+            other => self.leave_at(place, other),
+        }
+    }
+
+    /// What a call leaves where it was.
+    fn leave_at(&mut self, place: usize, same: Shelved) -> Result<(), Fail> {
+        self.shelf.put(place, same);
+        self.tell("nothing")
+    }
+
+    /// A ticket that is called back.
+    fn recall(&mut self, ticket: u64) -> Result<(), Fail> {
+        if self.desk.recall(ticket) {
+            self.tell("recalled")
+        } else {
+            self.tell("nothing")
+        }
+    }
+
+    /// Whether all is settled.
+    fn say_settled(&mut self) -> Result<(), Fail> {
+        if self.desk.settled() {
+            self.tell("settled")
+        } else {
+            self.tell("open")
+        }
+    }
+
     /// One call.
-    fn take(&mut self, alloc: Global, step: Step<'_>) -> Result<(), Fail> {
+    fn call(&mut self, alloc: Global, step: Step<'_>) -> Result<(), Fail> {
         match step {
             Step::Attach(number, link, limit) => self.attach(alloc, number, link, limit),
             Step::Recheck => self.recheck(alloc),
@@ -206,6 +328,13 @@ impl Bench {
             Step::Latest => self.read_latest(alloc),
             Step::Calls => self.called(alloc),
             Step::Ended => self.ended(alloc),
+            Step::Take => self.take(alloc),
+            Step::Work(place) => self.work(alloc, place),
+            Step::HandIn(place) => self.hand_in(place),
+            Step::Abandon(place) => self.abandon(place),
+            Step::Back(place) => self.back(place),
+            Step::Recall(ticket) => self.recall(ticket),
+            Step::Settled => self.say_settled(),
             _ => match change_of(alloc, step)? {
                 Some(change) => self.edit(alloc, change),
                 None => Ok(()),
@@ -216,18 +345,27 @@ impl Bench {
     /// All calls.
     fn run(&mut self, alloc: Global, steps: &[Step<'_>]) -> Result<(), Fail> {
         for step in steps {
-            self.take(alloc, *step)?;
+            self.call(alloc, *step)?;
         }
         Ok(())
     }
 
-    /// Ends the desk: what its calls answered.
+    /// Moves what stands at a place of the shelf to the end of another desk's shelf.
+    fn pass(&mut self, place: usize, other: &mut Bench) -> Result<(), Fail> {
+        let moved = self.shelf.lift(place);
+        other.shelf.add(moved)
+    }
+
+    /// Ends the desk, and then gives up what is still out: what its calls answered.
     fn leave(self) -> String {
         let Bench {
-            desk: _,
+            desk,
             calls: _,
             text,
+            shelf,
         } = self;
+        drop(desk);
+        shelf.clear();
         text
     }
 
@@ -237,8 +375,10 @@ impl Bench {
             desk,
             calls,
             text: _,
+            shelf,
         } = self;
         let (_, told) = desk.finish();
+        shelf.clear();
         let told = ends_text(alloc, &told)?;
         let ends = calls.ends.load(Ordering::SeqCst);
         Ok(format!(in alloc; "{told}ends {ends}\n")?)
@@ -248,13 +388,51 @@ impl Bench {
 /// What calls answer on a desk without edits.
 pub(crate) fn answers(alloc: Global, steps: &[Step<'_>]) -> Result<String, Fail> {
     let mut bench = Bench::new(alloc)?;
-    bench.run(alloc, steps)?;
-    Ok(bench.leave())
+    let ran = bench.run(alloc, steps);
+    let text = bench.leave();
+    ran?;
+    Ok(text)
 }
 
 /// What monitors told once the desk is finished behind these calls: number, limit and last edit of each; and how many ended.
 pub(crate) fn finished(alloc: Global, steps: &[Step<'_>]) -> Result<String, Fail> {
     let mut bench = Bench::new(alloc)?;
-    bench.run(alloc, steps)?;
-    bench.finish(alloc)
+    match bench.run(alloc, steps) {
+        Ok(()) => bench.finish(alloc),
+        Err(fail) => {
+            bench.leave();
+            Err(fail)
+        }
+    }
+}
+
+/// Has one desk take its calls, gives what then stands first on its shelf to another desk that has taken its own, and has that
+/// take further calls: what these other calls answer.
+fn passed_on(
+    alloc: Global,
+    from: &mut Bench,
+    to: &mut Bench,
+    steps: [&[Step<'_>]; 3],
+) -> Result<(), Fail> {
+    from.run(alloc, steps[0])?;
+    to.run(alloc, steps[1])?;
+    from.pass(0, to)?;
+    to.run(alloc, steps[2])
+}
+
+/// What the calls of a desk answer that gets what stands first on another's shelf: the other's calls, its own before, and behind.
+pub(crate) fn answers_to_another(
+    alloc: Global,
+    steps: [&[Step<'_>]; 3],
+) -> Result<String, Fail> {
+    let mut to = Bench::new(alloc)?;
+    let Ok(mut from) = Bench::new(alloc) else {
+        to.leave();
+        return Err(Fail::new("memory"));
+    };
+    let ran = passed_on(alloc, &mut from, &mut to, steps);
+    from.leave();
+    let text = to.leave();
+    ran?;
+    Ok(text)
 }

@@ -1,4 +1,4 @@
-//! Tests of a desk: edits, checks, monitors, what these tell at their end, and reports.
+//! Tests of a desk: edits, checks, windows that go out and come back, monitors, what these tell at their end, and reports.
 #![tactic(auto)]
 
 #[cfg(test)]
@@ -16,4 +16,8 @@ mod reports;
 #[cfg(test)]
 mod rows;
 #[cfg(test)]
+mod shelf;
+#[cfg(test)]
 mod texts;
+#[cfg(test)]
+mod tickets;

@@ -82,3 +82,37 @@ pub(crate) const HANDOVER: &str = "fragment cpu0 2 40 99\n\
 50 B 6 2 6 0 1000 ff 0\n\
 60 C 4 1 6 0 1000 0\n\
 end\n";
+
+/// In window 0, dma0 asks for 8 bytes at an address that is no multiple of 8 (F3).
+pub(crate) const MISALIGNED_GET: &str = "fragment dma0 1 0 4095\n\
+10 A 4 0 3 0 4 ff 0\n\
+end\n";
+
+/// In window 0, cpu0 asks for a block to read.
+pub(crate) const BLOCK_ASKED: &str = "fragment cpu0 1 0 4091\n\
+4000 A 6 0 6 0 1000 ff 0\n\
+end\n";
+
+/// It gets the block in eight beats, four in window 0 and four in window 1, where it acknowledges them.
+pub(crate) const BLOCK_GRANTED: &str = "fragment cpu0 2 4092 8191\n\
+4092 D 5 1 6 0 3 0 0\n\
+4093 D 5 1 6 0 3 0 0\n\
+4094 D 5 1 6 0 3 0 0\n\
+4095 D 5 1 6 0 3 0 0\n\
+4096 D 5 1 6 0 3 0 0\n\
+4097 D 5 1 6 0 3 0 0\n\
+4098 D 5 1 6 0 3 0 0\n\
+4099 D 5 1 6 0 3 0 0\n\
+4100 E 3\n\
+end\n";
+
+/// A Get of dma0 with its reply, in window 2.
+pub(crate) const LATER_GET: &str = "fragment dma0 1 8192 12287\n\
+8200 A 4 0 3 0 1000 ff 0\n\
+8210 D 1 0 3 0 0 0 0\n\
+end\n";
+
+/// In window 1, cpu0 asks for the right to write a block that it has no copy of.
+pub(crate) const RIGHT_ASKED: &str = "fragment cpu0 1 4096 8191\n\
+5000 A 7 0 6 0 1000 ff 0\n\
+end\n";

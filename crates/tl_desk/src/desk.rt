@@ -7,7 +7,9 @@ ghost use Rattle.tl_definitions.specs.Report.{IsReport};
 ghost use Rattle.tl_inputs.specs.Log.{inputs_after};
 ghost use Rattle.tl_plain.specs.Captured.{captures_after};
 ghost use Rattle.tl_desk.specs.Boxes.{told};
-ghost use Rattle.tl_desk.specs.Core.{log_of, latest_of, report_of, AllSettled, AreLinked, IsNew};
+ghost use Rattle.tl_spans.specs.Spans as spans;
+ghost use Rattle.tl_watches.specs.Watches.{AreWatches};
+ghost use Rattle.tl_desk.specs.Core.{log_of, standing, latest_of, report_of, AllSettled, AreLinked, IsNew, IsSound};
 
 use crate::boxes::Boxes;
 use std::alloc::{AllocError, Global};
@@ -58,12 +60,18 @@ impl<M: Monitor> Desk<M> {
 
     /// The log of accepted edits.
     pub fn log(&self) -> &Log
-        ensures { result.now ≡ log_of self.now }
+        ensures exact { result.now ≡ log_of self.now }
+        // Each report is that of its edits, and each live ticket is out for its window, which is since then what it was.
+        ensures kept { IsSound self.now }
+        // Each result that is stored is the pass of its window by what stands, from its own entry.
+        ensures managers { spans.IsSound self.now.windows.spans }
+        ensures monitors { AreWatches (standing self.now) self.now.windows.board }
     {
         let _ = &self.boxes;
         let _ = &self.reports;
         let _ = &self.tickets;
-        self.windows.spans().log()
+        let windows = self.windows.spans();
+        windows.log()
     }
 
     /// Whether every window has a result, and each begins with what the one before it ended with. It walks nothing.

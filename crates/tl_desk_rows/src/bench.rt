@@ -66,8 +66,8 @@ pub(crate) enum Step<'a> {
 
 /// A desk whose monitors count their calls, the windows that are out, and what its calls answered.
 pub(crate) struct Bench {
-    desk: Desk<Counting>,
-    calls: Calls,
+    pub(crate) desk: Desk<Counting>,
+    pub(crate) calls: Calls,
     text: String,
     shelf: Shelf,
 }
@@ -96,7 +96,7 @@ fn puts(first: u64, last: u64) -> Result<Region, Fail> {
 }
 
 /// The change that a step asks for, if it asks for one.
-fn change_of(alloc: Global, step: Step<'_>) -> Result<Option<Change>, Fail> {
+pub(crate) fn change_of(alloc: Global, step: Step<'_>) -> Result<Option<Change>, Fail> {
     Ok(match step {
         Step::Add(text) => Some(Change::Add(fragment(alloc, text)?)),
         Step::Replace(text) => Some(Change::Replace(fragment(alloc, text)?)),
@@ -114,7 +114,7 @@ fn change_of(alloc: Global, step: Step<'_>) -> Result<Option<Change>, Fail> {
 
 impl Bench {
     /// A desk without edits.
-    fn new(alloc: Global) -> Result<Bench, Fail> {
+    pub(crate) fn new(alloc: Global) -> Result<Bench, Fail> {
         let (topo, _) = read_topo(alloc, TOPOLOGY.as_bytes())?;
         Ok(Bench {
             desk: Desk::new(alloc, topo)?,
@@ -125,14 +125,14 @@ impl Bench {
     }
 
     /// Puts a line down.
-    fn tell(&mut self, line: &str) -> Result<(), Fail> {
+    pub(crate) fn tell(&mut self, line: &str) -> Result<(), Fail> {
         self.text.push_str(line)?;
         self.text.push_str("\n")?;
         Ok(())
     }
 
     /// Puts a word with a number on a line.
-    fn say(&mut self, alloc: Global, word: &str, number: u64) -> Result<(), Fail> {
+    pub(crate) fn say(&mut self, alloc: Global, word: &str, number: u64) -> Result<(), Fail> {
         let line = format!(in alloc; "{word} {number}\n")?;
         self.text.push_str(&line)?;
         Ok(())
@@ -343,7 +343,7 @@ impl Bench {
     }
 
     /// All calls.
-    fn run(&mut self, alloc: Global, steps: &[Step<'_>]) -> Result<(), Fail> {
+    pub(crate) fn run(&mut self, alloc: Global, steps: &[Step<'_>]) -> Result<(), Fail> {
         for step in steps {
             self.call(alloc, *step)?;
         }
@@ -357,7 +357,7 @@ impl Bench {
     }
 
     /// Ends the desk, and then gives up what is still out: what its calls answered.
-    fn leave(self) -> String {
+    pub(crate) fn leave(self) -> String {
         let Bench {
             desk,
             calls: _,

@@ -12,6 +12,8 @@ mod counting;
 #[cfg(test)]
 mod ends;
 #[cfg(test)]
+mod plays;
+#[cfg(test)]
 mod reports;
 #[cfg(test)]
 mod rows;

@@ -1,6 +1,6 @@
 //! Reports are published.
 
-ghost use Rattle.std.specs.Prelude.{◌≡◌, ◌≤◌, IfOk, OnErr, length};
+ghost use Rattle.std.specs.Prelude.{◌≡◌, ◌≤◌, ◌<◌, IfOk, OnErr, length};
 ghost use Rattle.std.specs.Result.{IsErrOf};
 ghost use Rattle.tl_definitions.specs.Report.{IsReport};
 ghost use Rattle.tl_plain.specs.Captured.{captures_after};
@@ -24,7 +24,8 @@ impl<M: Monitor> Desk<M> {
     pub fn publish(&mut self, alloc: Global) -> Result<u64, PublishFault>
         ensures step { IfOk result (λ version. Step self.old (call.Publish version) self.new) }
         ensures ready { IsErrOf result PublishFault.NotReady → AllSettled self.old → ⊥ }
-        ensures full { IsErrOf result PublishFault.VersionFull → length self.old.reports ≡ most_versions }
+        ensures full { IsErrOf result PublishFault.VersionFull → AllSettled self.old × (length self.old.reports ≡ most_versions) }
+        ensures memory { IsErrOf result PublishFault.Memory → AllSettled self.old × (length self.old.reports < most_versions) }
         ensures err { OnErr result (self.new ≡ self.old) }
     {
         if !self.settled() {

@@ -426,9 +426,12 @@ pub(crate) fn answers_to_another(
     steps: [&[Step<'_>]; 3],
 ) -> Result<String, Fail> {
     let mut to = Bench::new(alloc)?;
-    let Ok(mut from) = Bench::new(alloc) else {
-        to.leave();
-        return Err(Fail::new("memory"));
+    let mut from = match Bench::new(alloc) {
+        Ok(from) => from,
+        Err(fail) => {
+            to.leave();
+            return Err(fail);
+        }
     };
     let ran = passed_on(alloc, &mut from, &mut to, steps);
     from.leave();

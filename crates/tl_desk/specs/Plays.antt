@@ -1,5 +1,5 @@
 -- What a list of steps makes of a desk, and what it answers.
-use Rattle.std.specs.Prelude.{ℕ, ◌≡◌, ◌<◌, ◌×◌, Bool, true, false, List, [], ◌∷◌, ◌++◌, Option, None, Some, length, slice_get, slice_set}
+use Rattle.std.specs.Prelude.{ℕ, ◌≡◌, ◌<◌, Bool, true, false, List, [], ◌∷◌, ◌++◌, Option, None, Some, length, slice_get, slice_set}
 use Rattle.std.specs.Option.{option_and_then}
 use Rattle.tl_beats.specs.declared.watch.Watch.{Watch}
 use Rattle.tl_inputs.specs.Edits.{AnEdit, plain_change, attach}

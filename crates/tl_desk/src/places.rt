@@ -1,7 +1,8 @@
 //! The places in which jobs stand that a list of steps has taken.
 
-ghost use Rattle.std.specs.Prelude.{◌≡◌, ◌≤◌, IfSome, OnNone, Some, length, slice_get, vec_capacity, vec_len};
-ghost use Rattle.tl_desk.specs.Plays.{AnswersWork, with_place, HasNoJob, HasNoDone};
+ghost use Rattle.std.specs.Prelude.{◌≡◌, IfSome, IfNone, Some, slice_get, vec_capacity, vec_len, List, ℕ};
+ghost use Rattle.tl_tickets.specs.declared.tickets.Taken.{Taken};
+ghost use Rattle.tl_desk.specs.Plays.{AnswersWork, AreOut, with_place, HasNoJob, HasNoDone};
 ghost use Rattle.tl_desk.specs.declared.places.Place.TheVariants as place;
 
 use crate::play::Reply;
@@ -21,7 +22,7 @@ pub(crate) enum Place {
 /// The job of a place, if that has one that wasn't checked. The place is empty then; else nothing has changed.
 pub(crate) fn job_out(places: &mut Vec<Place>, at: usize) -> Option<Job>
     ensures some { IfSome result (λ job. (slice_get places.old.items at ≡ Some (place.Job job)) × (places.new.items ≡ with_place at place.Empty places.old.items)) }
-    ensures none { OnNone result (HasNoJob at places.old.items × (places.new.items ≡ places.old.items)) }
+    ensures none { IfNone result (HasNoJob at places.old.items × (places.new.items ≡ places.old.items)) }
     ensures room { (vec_capacity places.new ≡ vec_capacity places.old) × (vec_len places.new ≡ vec_len places.old) }
 {
     if !matches!(places.get(at), Some(Place::Job(_))) {
@@ -37,7 +38,7 @@ pub(crate) fn job_out(places: &mut Vec<Place>, at: usize) -> Option<Job>
 /// The checked job of a place, if that has one. The place is empty then; else nothing has changed.
 pub(crate) fn done_out(places: &mut Vec<Place>, at: usize) -> Option<Done>
     ensures some { IfSome result (λ done. (slice_get places.old.items at ≡ Some (place.Done done)) × (places.new.items ≡ with_place at place.Empty places.old.items)) }
-    ensures none { OnNone result (HasNoDone at places.old.items × (places.new.items ≡ places.old.items)) }
+    ensures none { IfNone result (HasNoDone at places.old.items × (places.new.items ≡ places.old.items)) }
     ensures room { (vec_capacity places.new ≡ vec_capacity places.old) × (vec_len places.new ≡ vec_len places.old) }
 {
     if !matches!(places.get(at), Some(Place::Done(_))) {
@@ -51,12 +52,12 @@ pub(crate) fn done_out(places: &mut Vec<Place>, at: usize) -> Option<Done>
 }
 
 /// Fills an empty place.
-fn fill(places: &mut Vec<Place>, at: usize, place: Place)
+fn fill(places: &mut Vec<Place>, at: usize, thing: Place)
     requires { slice_get places.old.items at ≡ Some place.Empty }
-    ensures filled { places.new.items ≡ with_place at place places.old.items }
+    ensures filled { places.new.items ≡ with_place at thing places.old.items }
     ensures room { (vec_capacity places.new ≡ vec_capacity places.old) × (vec_len places.new ≡ vec_len places.old) }
 {
-    let left = std::mem::replace(&mut places[at], place);
+    let left = std::mem::replace(&mut places[at], thing);
     let Place::Empty = left else {
         unreachable!()
     };
@@ -65,6 +66,7 @@ fn fill(places: &mut Vec<Place>, at: usize, place: Place)
 /// Checks the job of a place, if that has one that wasn't checked, and leaves it there.
 pub(crate) fn work_at(alloc: Global, places: &mut Vec<Place>, at: usize) -> Reply
     ensures answers { AnswersWork at places.old.items result places.new.items }
+    ensures out { (out : List (ℕ × Taken)) → AreOut places.old.items out → AreOut places.new.items out }
     ensures room { (vec_capacity places.new ≡ vec_capacity places.old) × (vec_len places.new ≡ vec_len places.old) }
 {
     let Some(job) = job_out(places, at) else {

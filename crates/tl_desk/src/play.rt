@@ -1,6 +1,8 @@
 //! Lists of steps that run on a desk.
 
-ghost use Rattle.std.specs.Prelude.{◌≡◌, ◌≤◌, ◌<◌, ◌+◌, [], IfOk, IfErr, OnErr, length, vec_capacity, vec_len};
+ghost use Rattle.std.specs.Prelude.{◌≡◌, ◌≤◌, ◌<◌, ◌+◌, List, [], ◌∷◌, IfOk, IfErr, IfSome, OnErr, vec_capacity, vec_len};
+ghost use Rattle.tl_jobs.specs.Jobs.{piece_of};
+ghost use Rattle.tl_tickets.specs.Tickets.{IsOutFor};
 ghost use Rattle.tl_desk.specs.Plays.{Answers, AnswersEdit, AnswersAttach, AnswersTake, AnswersHandIn, AnswersAbandon, AnswersRecall, AnswersPublish, Runs, Leaves, LeavesOne, Plays, job_of, AreOut};
 
 use crate::desk::Desk;
@@ -8,7 +10,7 @@ use crate::fault::PublishFault;
 use crate::places::{Place, done_out, job_out, work_at};
 use std::alloc::Global;
 use tl_inputs::{Change, EditFault};
-use tl_jobs::{HandIn, Job, TakeFault};
+use tl_jobs::{HandIn, TakeFault};
 use tl_monitor::Monitor;
 
 /// A step of a list that runs on a desk. The jobs that the list takes stand in places, from 0 on, in the order in which they were
@@ -122,7 +124,6 @@ impl<M: Monitor> Desk<M> {
         ensures out { AreOut places.new.items self.new.tickets.out }
         ensures room { (vec_capacity places.new ≡ vec_capacity places.old) × (vec_len places.new ≤ vec_len places.old + 1) }
     {
-        let _ = self.log();
         match step {
             Step::Edit(change) => self.answer_edit(alloc, change),
             Step::Attach(number, monitor) => self.answer_attach(alloc, number, monitor),
@@ -130,13 +131,14 @@ impl<M: Monitor> Desk<M> {
             Step::Work(at) => work_at(alloc, places, at),
             Step::HandIn(at) => self.answer_hand_in(places, at),
             Step::Abandon(at) => self.answer_abandon(places, at),
-            Step::Recall(ticket) => Reply::Recalled(self.recall(ticket)),
+            Step::Recall(ticket) => self.answer_recall(ticket),
             Step::Publish => self.answer_publish(alloc),
         }
     }
 
     fn answer_edit(&mut self, alloc: Global, change: Change) -> Reply
-        ensures { AnswersEdit change self.old result self.new }
+        ensures answers { AnswersEdit change self.old result self.new }
+        ensures tickets { self.new.tickets ≡ self.old.tickets }
     {
         match self.edit(alloc, change) {
             Ok(number) => Reply::Edited(number),
@@ -145,7 +147,8 @@ impl<M: Monitor> Desk<M> {
     }
 
     fn answer_attach(&mut self, alloc: Global, number: u32, monitor: M) -> Reply
-        ensures { AnswersAttach number (M.held monitor).watch self.old result self.new }
+        ensures answers { AnswersAttach number (M.held monitor).watch self.old result self.new }
+        ensures tickets { self.new.tickets ≡ self.old.tickets }
     {
         match self.attach(alloc, number, monitor) {
             Ok(number) => Reply::Edited(number),
@@ -154,10 +157,13 @@ impl<M: Monitor> Desk<M> {
     }
 
     fn answer_take(&mut self, alloc: Global, places: &mut Vec<Place>) -> Reply
-        requires { vec_len places.old < vec_capacity places.old }
+        requires out { AreOut places.old.items self.old.tickets.out }
+        requires room { vec_len places.old < vec_capacity places.old }
         ensures answers { AnswersTake places.old.items self.old result places.new.items self.new }
+        ensures out { AreOut places.new.items self.new.tickets.out }
         ensures room { (vec_capacity places.new ≡ vec_capacity places.old) × (vec_len places.new ≤ vec_len places.old + 1) }
     {
+        let _ = &self.tickets;
         match self.take(alloc) {
             Ok(Some(job)) => {
                 let ticket = job.ticket();
@@ -172,8 +178,10 @@ impl<M: Monitor> Desk<M> {
     fn answer_hand_in(&mut self, places: &mut Vec<Place>, at: usize) -> Reply
         requires { AreOut places.old.items self.old.tickets.out }
         ensures answers { AnswersHandIn at places.old.items self.old result places.new.items self.new }
+        ensures out { AreOut places.new.items self.new.tickets.out }
         ensures room { (vec_capacity places.new ≡ vec_capacity places.old) × (vec_len places.new ≡ vec_len places.old) }
     {
+        let _ = &self.tickets;
         let Some(done) = done_out(places, at) else {
             return Reply::Nothing;
         };
@@ -187,8 +195,10 @@ impl<M: Monitor> Desk<M> {
     fn answer_abandon(&mut self, places: &mut Vec<Place>, at: usize) -> Reply
         requires { AreOut places.old.items self.old.tickets.out }
         ensures answers { AnswersAbandon at places.old.items self.old result places.new.items self.new }
+        ensures out { AreOut places.new.items self.new.tickets.out }
         ensures room { (vec_capacity places.new ≡ vec_capacity places.old) × (vec_len places.new ≡ vec_len places.old) }
     {
+        let _ = &self.tickets;
         let Some(job) = job_out(places, at) else {
             return Reply::Nothing;
         };
@@ -196,8 +206,16 @@ impl<M: Monitor> Desk<M> {
         Reply::Abandoned
     }
 
+    fn answer_recall(&mut self, ticket: u64) -> Reply
+        ensures answers { AnswersRecall ticket self.old result self.new }
+        ensures tickets { self.new.tickets ≡ self.old.tickets }
+    {
+        Reply::Recalled(self.recall(ticket))
+    }
+
     fn answer_publish(&mut self, alloc: Global) -> Reply
-        ensures { AnswersPublish self.old result self.new }
+        ensures answers { AnswersPublish self.old result self.new }
+        ensures tickets { self.new.tickets ≡ self.old.tickets }
     {
         match self.publish(alloc) {
             Ok(version) => Reply::Published(version),
@@ -219,9 +237,12 @@ impl<M: Monitor> Desk<M> {
 
     /// Abandons the job of a place, if it has one.
     fn leave_one(&mut self, place: Place)
-        requires { AreOut (place ∷ []) self.old.tickets.out }
-        ensures { LeavesOne (job_of place) self.old self.new }
+        requires { IfSome (job_of place) (λ job. IsOutFor job.ticket (piece_of job) self.old.tickets.out) }
+        ensures left { LeavesOne (job_of place) self.old self.new }
+        // The jobs of other places stay out.
+        ensures out { (rest : List Place) → AreOut (place ∷ rest) self.old.tickets.out → AreOut rest self.new.tickets.out }
     {
+        let _ = &self.tickets;
         match place {
             Place::Job(job) => self.abandon(job).unwrap(),
             Place::Done(done) => self.abandon(done.back()).unwrap(),

@@ -30,10 +30,10 @@ found_set (p ∷ ps) zero thing zero job is = inl (refl, is)
 found_set (p ∷ ps) zero thing (suc other) job is = inr ((λ e. omega (arith, e)), is)
 found_set (p ∷ ps) (suc at) thing zero job is = inr ((λ e. omega (arith, e)), is)
 found_set (p ∷ ps) (suc at) thing (suc other) job is = elim (found_set ps at thing other job is)
-as (λ _. ((suc other ≡ suc at) × (job_of thing ≡ Some job)) ⊎ ((suc other ≡ suc at → ⊥) × (job_at other ps ≡ Some job))) [
-  | inl h ↦ inl (ap suc h.0, h.1)
-  | inr h ↦ inr ((λ e. h.0 (omega (arith, e))), h.1)
-]
+    as (λ _. ((suc other ≡ suc at) × (job_of thing ≡ Some job)) ⊎ ((suc other ≡ suc at → ⊥) × (job_at other ps ≡ Some job))) [
+      | inl h ↦ inl (ap suc h.0, h.1)
+      | inr h ↦ inr ((λ e. h.0 (omega (arith, e))), h.1)
+    ]
 
 -- Behind one more place a job that is found is the last one's, or stood there before.
 pub found_more : (places : List Place) (thing : Place) (other : ℕ) (job : JobData) → job_at other (places ++ thing ∷ []) ≡ Some job
@@ -42,7 +42,7 @@ found_more [] thing zero job is = inl (refl, is)
 found_more [] thing (suc other) job is = absurd (let never : None ≡ Some job = is in cc)
 found_more (p ∷ ps) thing zero job is = inr is
 found_more (p ∷ ps) thing (suc other) job is = elim (found_more ps thing other job is)
-as (λ _. ((suc other ≡ suc (length ps)) × (job_of thing ≡ Some job)) ⊎ (job_at other ps ≡ Some job)) [ inl h ↦ inl (ap suc h.0, h.1) | inr h ↦ inr h ]
+    as (λ _. ((suc other ≡ suc (length ps)) × (job_of thing ≡ Some job)) ⊎ (job_at other ps ≡ Some job)) [ inl h ↦ inl (ap suc h.0, h.1) | inr h ↦ inr h ]
 
 -- A thing that stood at a place stands there again.
 pub back_again : (places : List Place) (at : ℕ) (was thing : Place) → slice_get places at ≡ Some was → with_place at was (with_place at thing places) ≡ places
@@ -75,10 +75,10 @@ out_worked places at done out was are = out_fewer places (with_place at (place.D
   where
     from : (other : ℕ) (job : JobData) → job_at other (with_place at (place.Done done) places) ≡ Some job → job_at other places ≡ Some job
     from other job is = elim (found_set places at (place.Done done) other job is)
-    as (λ _. job_at other places ≡ Some job) [
-      | inl h ↦ ap (λ n. job_at n places) h.0 ∙ ap (option_and_then job_of) was ∙ h.1
-      | inr h ↦ h.1
-    ]
+        as (λ _. job_at other places ≡ Some job) [
+          | inl h ↦ ap (λ n. job_at n places) h.0 ∙ ap (option_and_then job_of) was ∙ h.1
+          | inr h ↦ h.1
+        ]
 
 pub out_rest : (thing : Place) (places : List Place) (out : List (ℕ × Taken)) → AreOut (thing ∷ places) out → AreOut places out
 out_rest thing places out are = record {
@@ -96,10 +96,10 @@ out_ended places at job tickets was are_tickets are = record {
   where
     from : (other : ℕ) (one : JobData) → job_at other (with_place at place.Empty places) ≡ Some one → (other ≡ at → ⊥) × (job_at other places ≡ Some one)
     from other one is = elim (found_set places at place.Empty other one is)
-    as (λ _. (other ≡ at → ⊥) × (job_at other places ≡ Some one)) [
-      | inl h ↦ absurd (let never : None ≡ Some one = h.1 in cc)
-      | inr h ↦ h
-    ]
+        as (λ _. (other ≡ at → ⊥) × (job_at other places ≡ Some one)) [
+          | inl h ↦ absurd (let never : None ≡ Some one = h.1 in cc)
+          | inr h ↦ h
+        ]
 
     found : (t : ℕ) → (job.ticket ≡ t → ⊥) → taken_at t (ended job.ticket tickets).out ≡ taken_at t tickets.out
     found t apart =

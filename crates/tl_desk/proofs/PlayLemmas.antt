@@ -1,7 +1,8 @@
 -- Jobs in places stay out, each under a ticket of its own.
-use Rattle.std.proofs.Common.{◌≡◌, ℕ, zero, suc, ◌+◌, ◌<◌, ◌≤◌, ◌⊎◌, inl, inr, true, false, cond, Bool, List, [], ◌∷◌, ◌++◌, Option, Some, None, length, refl, sym, ap, subst, ◌∙◌, arith}
+use Rattle.std.proofs.Common.{append_assoc, append-nil, Result, Ok, Err, ◌≡◌, ℕ, zero, suc, ◌+◌, ◌<◌, ◌≤◌, ◌⊎◌, inl, inr, true, false, cond, Bool, List, [], ◌∷◌, ◌++◌, Option, Some, None, length, refl, sym, ap, subst, ◌∙◌, arith}
 use Rattle.std.specs.Prelude.{slice_get, slice_set}
-use Rattle.std.specs.Option.{option_and_then}
+use Rattle.std.specs.Option.{IfSome, option_and_then}
+use Rattle.std.specs.Result.{IsOk, OnErr}
 use Rattle.std.specs.Ordering.{nat_cmp}
 use Rattle.std.specs.BTreeMap.{insert_entry, is_at}
 use Rattle.std.specs.Map.{keys_of, remove_entry}
@@ -10,11 +11,17 @@ use Rattle.std.proofs.lemmas.Cmp.{nat_cmp_total}
 use Rattle.std.proofs.lemmas.Map.{lookup-remove_entry}
 use Rattle.std.proofs.lemmas.Map.Keys.{IsDistinct-from_sorted}
 use Rattle.tl_jobs.specs.Jobs.{JobData, DoneData, piece_of}
+use Rattle.tl_beats.specs.declared.watch.Watch.{Watch}
 use Rattle.tl_spans.proofs.EntryLemmas.{lookup_put}
 use Rattle.tl_tickets.specs.declared.tickets.Taken.{Taken}
 use Rattle.tl_tickets.specs.Tickets.{TicketsData, AreTickets, IsOutFor, taken_at}
-use Rattle.tl_desk.specs.Jobs.{ended, given}
-use Rattle.tl_desk.specs.Plays.{with_place, job_of, job_at, AreOut}
+use Rattle.tl_desk.specs.Core.{Core, log_of}
+use Rattle.tl_desk.specs.Jobs.{ended, given, Takes, Accepts, Ends}
+use Rattle.tl_desk.specs.Plays.{with_place, job_of, job_at, AreOut, Answers, Runs, Leaves, LeavesOne}
+use Rattle.tl_desk.specs.Steps.{Step}
+use Rattle.tl_desk.specs.declared.call.Call.TheVariants as call
+use Rattle.tl_desk.specs.declared.play.Reply.{Reply}
+use Rattle.tl_desk.specs.declared.play.Step.{Step as AStep}
 use Rattle.tl_desk.specs.declared.places.Place.{Place}
 use Rattle.tl_desk.specs.declared.places.Place.TheVariants as place
 use Rattle.tl_desk.proofs.AttachedLemmas.{nat_exact, number_exact, number_equivalence, same_test}
@@ -160,3 +167,80 @@ out_given places job edits tickets next are_tickets are = record {
     own_of at other one same (inl h) (inr k) equal = absurd (newer other one same h.1 k equal)
     own_of at other one same (inr h) (inl k) equal = absurd (newer at same one k.1 h (sym equal))
     own_of at other one same (inr h) (inr k) equal = are.own at other one same h k equal
+
+-- ---- jobs that are out behind a call
+
+pub none_out : (out : List (ℕ × Taken)) → AreOut [] out
+none_out out = record {
+  each = λ at job is. absurd (let never : None ≡ Some job = is in cc);
+  own = λ at other job same is has one. absurd (let never : None ≡ Some job = is in cc);
+}
+
+pub first_out : (thing : Place) (places : List Place) (out : List (ℕ × Taken)) → AreOut (thing ∷ places) out → IfSome (job_of thing) (λ job. IsOutFor job.ticket (piece_of job) out)
+first_out (place.Job job) places out are = are.each 0 job refl
+first_out (place.Done done) places out are = are.each 0 done.job refl
+first_out place.Empty places out are = tt
+
+pub out_taken : (places : List Place) (job : JobData) (old new : Core) → AreTickets old.tickets → AreOut places old.tickets.out → Takes old job.ticket (piece_of job) new → AreOut (places ++ place.Job job ∷ []) new.tickets.out
+out_taken places job old new are_tickets are takes =
+    subst (λ (t : TicketsData). AreOut (places ++ place.Job job ∷ []) t.out) (sym (ap (λ (k : Core). k.tickets) takes.rest))
+    (out_given places job (length (log_of old).edits) old.tickets takes.next are_tickets are)
+
+pub out_accepted : (places : List Place) (at : ℕ) (done : DoneData) (old new : Core) → job_at at places ≡ Some done.job → AreTickets old.tickets → AreOut places old.tickets.out → Accepts old done new
+    → AreOut (with_place at place.Empty places) new.tickets.out
+out_accepted places at done old new is are_tickets are accepts =
+    subst (λ (t : TicketsData). AreOut (with_place at place.Empty places) t.out) (sym (ap (λ (k : Core). k.tickets) accepts.rest)) (out_ended places at done.job old.tickets is are_tickets are)
+
+pub out_void : (places : List Place) (at : ℕ) (job : JobData) (old new : Core) → job_at at places ≡ Some job → AreTickets old.tickets → AreOut places old.tickets.out → Ends old job new
+    → AreOut (with_place at place.Empty places) new.tickets.out
+out_void places at job old new is are_tickets are ends =
+    subst (λ (t : TicketsData). AreOut (with_place at place.Empty places) t.out) (sym (ap (λ (k : Core). k.tickets) ends.rest)) (out_ended places at job old.tickets is are_tickets are)
+
+pub out_abandoned : (places : List Place) (at : ℕ) (job : JobData) (old new : Core) → job_at at places ≡ Some job → AreTickets old.tickets → AreOut places old.tickets.out
+    → Step old (call.Abandon job.ticket (piece_of job)) new → AreOut (with_place at place.Empty places) new.tickets.out
+out_abandoned places at job old new is are_tickets are step =
+    let tickets : new.tickets ≡ ended job.ticket old.tickets = ap (λ (k : Core). k.tickets) step.3.rest ∙ ap (λ n. ended n old.tickets) step.1 in
+    subst (λ (t : TicketsData). AreOut (with_place at place.Empty places) t.out) (sym tickets) (out_ended places at job old.tickets is are_tickets are)
+
+pub left_out : (thing : Place) (places : List Place) (job : JobData) (old new : Core) → job_of thing ≡ Some job → AreTickets old.tickets → AreOut (thing ∷ places) old.tickets.out
+    → Step old (call.Abandon job.ticket (piece_of job)) new → AreOut places new.tickets.out
+left_out thing places job old new is are_tickets are step = out_rest place.Empty places new.tickets.out (out_abandoned (thing ∷ places) 0 job old new is are_tickets are step)
+
+-- What is refused only to those that aren't out isn't refused to one that is.
+pub not_refused : {A B : Type 0} (P : Type 0) (r : Result A B) → OnErr r (P → ⊥) → P → IsOk r
+not_refused P (Ok a) refused out = refl
+not_refused P (Err b) refused out = absurd (refused out)
+
+-- ---- from one step to the next
+
+-- A run of these steps from here gives a run of all.
+abbrev pub Ran : {M : Type 0} → (M → Watch) → List (AStep M) → List Place → Core → List (AStep M) → List Reply → List Place → Core → Type 0
+Ran watch_of steps first old rest replies places now = (more : List Reply) (left : List Place) (new : Core) → Runs watch_of rest places now more left new → Runs watch_of steps first old (replies ++ more) left new
+
+pub ran_none : {M : Type 0} (watch_of : M → Watch) (steps : List (AStep M)) (first : List Place) (old : Core) (rest : List (AStep M)) (replies : List Reply) → rest ≡ steps → replies ≡ [] → Ran watch_of steps first old rest replies first old
+ran_none watch_of steps first old rest replies all none more left new runs =
+    subst (λ rs. Runs watch_of steps first old (rs ++ more) left new) (sym none) (subst (λ ss. Runs watch_of ss first old more left new) all runs)
+
+pub ran_more : {M : Type 0} (watch_of : M → Watch) (steps : List (AStep M)) (first : List Place) (old : Core) (rest : List (AStep M)) (replies : List Reply) (places : List Place) (now : Core)
+    (step : AStep M) (later : List (AStep M)) (reply : Reply) (after : List Reply) (between : List Place) (middle : Core) → Ran watch_of steps first old rest replies places now → rest ≡ step ∷ later
+    → Answers watch_of step places now reply between middle → after ≡ replies ++ reply ∷ [] → Ran watch_of steps first old later after between middle
+ran_more watch_of steps first old rest replies places now step later reply after between middle ran is answers pushed more left new runs =
+    subst (λ rs. Runs watch_of steps first old rs left new) (sym (ap (λ rs. rs ++ more) pushed ∙ append_assoc replies (reply ∷ []) more))
+    (ran (reply ∷ more) left new (subst (λ ss. Runs watch_of ss places now (reply ∷ more) left new) (sym is) (between, middle, answers, runs)))
+
+pub ran_all : {M : Type 0} (watch_of : M → Watch) (steps : List (AStep M)) (first : List Place) (old : Core) (rest : List (AStep M)) (replies : List Reply) (places : List Place) (now : Core)
+    → Ran watch_of steps first old rest replies places now → length rest ≡ 0 → Runs watch_of steps first old replies places now
+ran_all watch_of steps first old [] replies places now ran none = subst (λ rs. Runs watch_of steps first old rs places now) (append-nil replies) (ran [] places now (refl, refl))
+ran_all watch_of steps first old (step ∷ rest) replies places now ran none = absurd (omega (arith, none))
+
+-- The jobs of these places, abandoned from here on, are all that are abandoned then.
+abbrev pub Left : List Place → Core → List Place → Core → Type 0
+Left places old rest now = (new : Core) → Leaves rest now new → Leaves places old new
+
+pub left_more : (places : List Place) (old : Core) (rest : List Place) (now : Core) (thing : Place) (later : List Place) (middle : Core) → Left places old rest now → rest ≡ thing ∷ later
+    → LeavesOne (job_of thing) now middle → Left places old later middle
+left_more places old rest now thing later middle left is one new leaves = left new (subst (λ ps. Leaves ps now new) (sym is) (middle, one, leaves))
+
+pub left_all : (places : List Place) (old : Core) (rest : List Place) (now : Core) → Left places old rest now → length rest ≡ 0 → Leaves places old now
+left_all places old [] now left none = left now refl
+left_all places old (thing ∷ rest) now left none = absurd (omega (arith, none))

@@ -206,6 +206,9 @@ pub left_out : (thing : Place) (places : List Place) (job : JobData) (old new : 
     → Step old (call.Abandon job.ticket (piece_of job)) new → AreOut places new.tickets.out
 left_out thing places job old new is are_tickets are step = out_rest place.Empty places new.tickets.out (out_abandoned (thing ∷ places) 0 job old new is are_tickets are step)
 
+pub left_none : (thing : Place) (old : Core) → job_of thing ≡ None → LeavesOne (job_of thing) old old
+left_none thing old none = subst (λ o. LeavesOne o old old) (sym none) refl
+
 -- What is refused only to those that aren't out isn't refused to one that is.
 pub not_refused : {A B : Type 0} (P : Type 0) (r : Result A B) → OnErr r (P → ⊥) → P → IsOk r
 not_refused P (Ok a) refused out = refl

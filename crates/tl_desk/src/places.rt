@@ -2,7 +2,7 @@
 
 ghost use Rattle.std.specs.Prelude.{◌≡◌, IfSome, IfNone, Some, slice_get, vec_capacity, vec_len, List, ℕ};
 ghost use Rattle.tl_tickets.specs.declared.tickets.Taken.{Taken};
-ghost use Rattle.tl_desk.specs.Plays.{AnswersWork, AreOut, with_place, HasNoJob, HasNoDone};
+ghost use Rattle.tl_desk.specs.Plays.{AnswersWork, AreOut, with_place, job_of, HasNoJob, HasNoDone};
 ghost use Rattle.tl_desk.specs.declared.places.Place.TheVariants as place;
 
 use crate::play::Reply;
@@ -17,6 +17,19 @@ pub(crate) enum Place {
     Done(Done),
     /// Nothing: the job that stood here was handed in or abandoned.
     Empty,
+}
+
+impl Place {
+    /// The job of the place, checked or not, if it has one. The result of a checked job is dropped.
+    pub(crate) fn into_job(self) -> Option<Job>
+        ensures { result ≡ job_of self }
+    {
+        match self {
+            Place::Job(job) => Some(job),
+            Place::Done(done) => Some(done.back()),
+            Place::Empty => None,
+        }
+    }
 }
 
 /// The job of a place, if that has one that wasn't checked. The place is empty then; else nothing has changed.

@@ -243,10 +243,9 @@ impl<M: Monitor> Desk<M> {
         ensures out { (rest : List Place) → AreOut (place ∷ rest) self.old.tickets.out → AreOut rest self.new.tickets.out }
     {
         let _ = &self.tickets;
-        match place {
-            Place::Job(job) => self.abandon(job).unwrap(),
-            Place::Done(done) => self.abandon(done.back()).unwrap(),
-            Place::Empty => {}
-        }
+        let Some(job) = place.into_job() else {
+            return;
+        };
+        self.abandon(job).unwrap();
     }
 }

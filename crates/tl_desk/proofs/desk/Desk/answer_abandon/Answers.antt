@@ -25,3 +25,11 @@ returns-clause-out g c =
     let step : Step old (call.Abandon job.ticket (piece_of job)) new = subst (λ r. OnOk r (Step old (call.Abandon job.ticket (piece_of job)) new)) c.unwrap.ensures c.abandon.ensures.step in
     let are_tickets : AreTickets old.tickets = subst (λ (k : Core). AreTickets k.tickets) c.self.view_is c.self.invariant.tickets.are in
     subst (λ ps. AreOut ps new.tickets.out) (sym c.in-Some.ensures.some.1) (out_abandoned c.args.places.now.items c.args.at job old new is are_tickets c.requires step)
+
+pub returns-clause-answers : goal.returns-clause-answers
+returns-clause-answers g c =
+    let old : Core = c.args.self.now in
+    let new : Core = c.abandon.new.self in
+    let job : JobData = c.in-Some.job in
+    let step : Step old (call.Abandon job.ticket (piece_of job)) new = subst (λ r. OnOk r (Step old (call.Abandon job.ticket (piece_of job)) new)) c.unwrap.ensures c.abandon.ensures.step in
+    (job, c.in-Some.ensures.some.0, step, c.in-Some.ensures.some.1)

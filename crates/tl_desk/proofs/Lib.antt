@@ -4,3 +4,4 @@ mod ReportLemmas
 mod WatchLemmas
 mod TicketLemmas
 mod JobLemmas
+mod PlayLemmas

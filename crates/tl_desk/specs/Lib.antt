@@ -4,3 +4,4 @@ pub mod Tickets
 pub mod Core
 pub mod Jobs
 pub mod Steps
+pub mod Plays

@@ -8,11 +8,14 @@ mod desk;
 mod edits;
 mod fault;
 mod jobs;
+mod places;
+mod play;
 mod publish;
 mod recheck;
 
 pub use call::Call;
 pub use desk::Desk;
 pub use fault::PublishFault;
+pub use play::{Reply, Step};
 pub use tl_jobs::{Done, HandIn, Job, Piece, TakeFault, work};
 pub use tl_report::Report;

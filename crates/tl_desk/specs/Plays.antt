@@ -115,8 +115,8 @@ AnswersRecall ticket old _ new = ⊥
 -- The fault is why nothing is published.
 abbrev pub IsPublishRefusal : Core → PublishFault → Type 0
 IsPublishRefusal old publish_fault.NotReady = AllSettled old → ⊥
-IsPublishRefusal old publish_fault.VersionFull = length old.reports ≡ most_versions
-IsPublishRefusal old publish_fault.Memory = Unit {0}
+IsPublishRefusal old publish_fault.VersionFull = AllSettled old × (length old.reports ≡ most_versions)
+IsPublishRefusal old publish_fault.Memory = AllSettled old × (length old.reports < most_versions)
 
 abbrev pub AnswersPublish : Core → Reply → Core → Type 0
 AnswersPublish old (reply.Published version) new = Step old (call.Publish version) new

@@ -2,8 +2,8 @@
 
 use crate::counting::{Calls, Counting};
 use crate::rows::{ends_text, limit_of, rows_text};
-use crate::texts::TOPOLOGY;
 use crate::shelf::{Shelf, Shelved};
+use crate::texts::TOPOLOGY;
 use std::alloc::Global;
 use std::sync::Arc;
 use std::sync::atomic::Ordering;
@@ -421,10 +421,7 @@ fn passed_on(
 }
 
 /// What the calls of a desk answer that gets what stands first on another's shelf: the other's calls, its own before, and behind.
-pub(crate) fn answers_to_another(
-    alloc: Global,
-    steps: [&[Step<'_>]; 3],
-) -> Result<String, Fail> {
+pub(crate) fn answers_to_another(alloc: Global, steps: [&[Step<'_>]; 3]) -> Result<String, Fail> {
     let mut to = Bench::new(alloc)?;
     let mut from = match Bench::new(alloc) {
         Ok(from) => from,

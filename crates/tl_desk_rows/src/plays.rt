@@ -89,9 +89,7 @@ fn a_list_works_on_what_it_took(rt: HostRuntime) -> Result<(), Fail> {
         Step::Publish,
     ];
     let told = answers_with_list(rt.alloc(), [&before, &list, &[]])?;
-    assert!(rt;
-        told.as_str() == "edit 1\nticket 1\nnothing\nworked\ntaken\nversion 1\n"
-    );
+    assert!(rt; told.as_str() == "edit 1\nticket 1\nnothing\nworked\ntaken\nversion 1\n");
     Ok(())
 }
 

@@ -223,9 +223,7 @@ fn regions_void_the_tickets_of_their_manager_alone(rt: HostRuntime) -> Result<()
 }
 
 #[test]
-fn a_recheck_ends_the_tickets_of_the_windows_that_it_checks(
-    rt: HostRuntime,
-) -> Result<(), Fail> {
+fn a_recheck_ends_the_tickets_of_the_windows_that_it_checks(rt: HostRuntime) -> Result<(), Fail> {
     let steps = [
         Step::Add(GETS[0]),
         Step::Take,
@@ -237,8 +235,7 @@ fn a_recheck_ends_the_tickets_of_the_windows_that_it_checks(
     ];
     let told = answers(rt.alloc(), &steps)?;
     assert!(rt;
-        told.as_str()
-            == "edit 1\nticket 1 manager 0 0\nchecked 1\nnothing\nworked\nvoid\nsettled\n"
+        told.as_str() == "edit 1\nticket 1 manager 0 0\nchecked 1\nnothing\nworked\nvoid\nsettled\n"
     );
     Ok(())
 }
@@ -255,9 +252,7 @@ fn what_another_desk_gave_out_is_a_stranger(rt: HostRuntime) -> Result<(), Fail>
         Step::Take,
     ];
     let told = answers_to_another(rt.alloc(), [&other, &before, &behind])?;
-    assert!(rt;
-        told.as_str() == "edit 1\nstranger\nopen\nback\nstranger\nticket 1 manager 0 0\n"
-    );
+    assert!(rt; told.as_str() == "edit 1\nstranger\nopen\nback\nstranger\nticket 1 manager 0 0\n");
     Ok(())
 }
 

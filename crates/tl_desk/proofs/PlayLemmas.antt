@@ -1,11 +1,11 @@
 -- Jobs in places stay out, each under a ticket of its own.
-use Rattle.std.proofs.Common.{append_assoc, append-nil, Result, Ok, Err, ◌≡◌, ℕ, zero, suc, ◌+◌, ◌<◌, ◌≤◌, ◌⊎◌, inl, inr, true, false, cond, Bool, List, [], ◌∷◌, ◌++◌, Option, Some, None, length, refl, sym, ap, subst, ◌∙◌, arith}
-use Rattle.std.specs.Prelude.{slice_get, slice_set}
+use Rattle.std.proofs.Common.{append_assoc, append-nil, Result, Ok, Err, ◌≡◌, ℕ, zero, suc, ◌+◌, ◌≤◌, ◌⊎◌, inl, inr, true, false, cond, Bool, List, [], ◌∷◌, ◌++◌, Some, None, length, refl, sym, ap, subst, ◌∙◌, arith}
+use Rattle.std.specs.Prelude.{slice_get}
 use Rattle.std.specs.Option.{IfSome, option_and_then}
 use Rattle.std.specs.Result.{IsOk, OnErr}
 use Rattle.std.specs.Ordering.{nat_cmp}
-use Rattle.std.specs.BTreeMap.{insert_entry, is_at}
-use Rattle.std.specs.Map.{keys_of, remove_entry}
+use Rattle.std.specs.BTreeMap.{is_at}
+use Rattle.std.specs.Map.{keys_of}
 use Rattle.std.proofs.lemmas.Bool.Decides.{nat_tests}
 use Rattle.std.proofs.lemmas.Cmp.{nat_cmp_total}
 use Rattle.std.proofs.lemmas.Map.{lookup-remove_entry}
@@ -25,7 +25,7 @@ use Rattle.tl_desk.specs.declared.play.Step.{Step as AStep}
 use Rattle.tl_desk.specs.declared.places.Place.{Place}
 use Rattle.tl_desk.specs.declared.places.Place.TheVariants as place
 use Rattle.tl_desk.proofs.AttachedLemmas.{nat_exact, number_exact, number_equivalence, same_test}
-use Rattle.tl_desk.proofs.TicketLemmas.{clash, one_value}
+use Rattle.tl_desk.proofs.TicketLemmas.{one_value}
 
 -- ---- places that get another thing
 

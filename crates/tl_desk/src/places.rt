@@ -71,9 +71,7 @@ fn fill(places: &mut Vec<Place>, at: usize, thing: Place)
     ensures room { (vec_capacity places.new ≡ vec_capacity places.old) × (vec_len places.new ≡ vec_len places.old) }
 {
     let left = std::mem::replace(&mut places[at], thing);
-    let Place::Empty = left else {
-        unreachable!()
-    };
+    let Place::Empty = left else { unreachable!() };
 }
 
 /// Checks the job of a place, if that has one that wasn't checked, and leaves it there.

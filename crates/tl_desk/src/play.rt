@@ -73,11 +73,7 @@ impl<M: Monitor> Desk<M> {
     /// Runs steps, one after the other, and answers a reply for each. The jobs that are left in their places are abandoned at the
     /// end, the first place first. Where memory for the lists of replies and places is refused, all steps come back before the
     /// first has run, and nothing has changed; no later step fails for want of it.
-    pub fn play(
-        &mut self,
-        alloc: Global,
-        steps: Vec<Step<M>>,
-    ) -> Result<Vec<Reply>, Vec<Step<M>>>
+    pub fn play(&mut self, alloc: Global, steps: Vec<Step<M>>) -> Result<Vec<Reply>, Vec<Step<M>>>
         ensures ok { IfOk result (λ replies. Plays (λ m. (M.held m).watch) self.old steps.items replies.items self.new) }
         ensures back { IfErr result (λ same. same.items ≡ steps.items) }
         ensures err { OnErr result (self.new ≡ self.old) }

@@ -1,7 +1,6 @@
 use Rattle.std.proofs.Common.{◌≡◌, Some, slice_get, sym, ap, subst, ◌∙◌}
 use Rattle.tl_jobs.specs.Jobs.{DoneData, JobData}
 use Rattle.tl_desk.specs.Plays.{AreOut, with_place}
-use Rattle.tl_desk.specs.declared.places.Place.{Place}
 use Rattle.tl_desk.specs.declared.places.Place.TheVariants as place
 use Rattle.tl_desk.proofs.PlayLemmas.{back_again, out_worked, set_twice}
 use Rattle.tl_desk.proofs.places.work_at.Goals as goal

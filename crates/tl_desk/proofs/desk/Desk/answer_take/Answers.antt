@@ -1,10 +1,9 @@
-use Rattle.std.proofs.Common.{◌∷◌, [], ◌++◌, Some, sym, subst}
+use Rattle.std.proofs.Common.{Some, sym, subst}
 use Rattle.tl_jobs.specs.Jobs.{JobData}
 use Rattle.tl_tickets.specs.Tickets.{AreTickets}
 use Rattle.tl_desk.specs.Core.{Core}
 use Rattle.tl_desk.specs.Jobs.{Gives}
 use Rattle.tl_desk.specs.Plays.{AreOut}
-use Rattle.tl_desk.specs.declared.places.Place.TheVariants as place
 use Rattle.tl_desk.proofs.PlayLemmas.{out_taken}
 use Rattle.tl_desk.proofs.desk.Desk.answer_take.Goals as goal
 

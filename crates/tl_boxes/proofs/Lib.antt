@@ -1,0 +1,2 @@
+pub mod KeptLemmas
+mod FinishLemmas

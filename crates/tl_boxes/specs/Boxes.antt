@@ -33,10 +33,14 @@ away_at number slots = option_and_then away_of (place_at number slots)
 abbrev pub attached_watch : ℕ → BoxesData → Option Watch
 attached_watch number boxes = option_and_then watch_of_place (place_at number boxes.slots)
 
+-- Each that is out left with the watch that it is to have, but for the limit.
+pub record AreKept (slots : List (ℕ × Place)) : Type 0 where
+  pub each : All IsKept (values_of slots)
+
 -- The numbers rise, and each that is out left with the watch that it is to have, but for the limit.
 pub record IsBoxes (boxes : BoxesData) : Type 0 where
   pub rises : IsStrictlySortedBy nat_cmp (keys_of boxes.slots)
-  pub kept : All IsKept (values_of boxes.slots)
+  pub kept : AreKept boxes.slots
 
 -- with another place of a number
 abbrev pub placed_at : ℕ → Place → BoxesData → BoxesData

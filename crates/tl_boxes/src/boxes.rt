@@ -26,10 +26,7 @@ pub struct Boxes<M: Monitor> {
 
 impl<M: Monitor> Model for Boxes<M> {
     ghost use Rattle.std.specs.Prelude.{length, ◌+◌, ◌≤◌, vec_capacity};
-    ghost use Rattle.std.specs.List.{All};
-    ghost use Rattle.std.specs.Map.{values_of};
-    ghost use Rattle.tl_boxes.specs.Boxes.{BoxesData};
-    ghost use Rattle.tl_boxes.specs.Places.{IsKept};
+    ghost use Rattle.tl_boxes.specs.Boxes.{BoxesData, AreKept};
 
     ghost Value = { BoxesData };
 
@@ -37,7 +34,19 @@ impl<M: Monitor> Model for Boxes<M> {
 
     // There is room for what each monitor tells at its end, and one that is out left with the watch that it is to have, but for the
     // limit.
-    ghost invariant = { λ b. (length b.slots.entries + length b.ended.items ≤ vec_capacity b.ended) × All IsKept (values_of b.slots.entries) };
+    ghost invariant = { λ b. (length b.slots.entries + length b.ended.items ≤ vec_capacity b.ended) × AreKept b.slots.entries };
+}
+
+// The first number that is out.
+fn first_away<M: Monitor>(slots: &BTreeMap<u32, Slot<M>>) -> Option<u32>
+    ensures { result ≡ first_out slots.now.entries }
+{
+    for (number, slot) in slots {
+        if !slot.is_here() {
+            return Some(*number);
+        }
+    }
+    None
 }
 
 impl<M: Monitor> Boxes<M> {
@@ -81,12 +90,7 @@ impl<M: Monitor> Boxes<M> {
     pub fn first_away(&self) -> Option<u32>
         ensures { result ≡ first_out self.now.slots }
     {
-        for (number, slot) in &self.slots {
-            if !slot.is_here() {
-                return Some(*number);
-            }
-        }
-        None
+        first_away(&self.slots)
     }
 
     /// Takes a monitor in under a number that no other has, with room for what it tells at its end. Where memory is refused it

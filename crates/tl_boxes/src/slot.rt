@@ -108,9 +108,10 @@ impl<M: Monitor> Slot<M> {
             Content::Here(monitor) => monitor.watch(),
             Content::Away(_) => return None,
         };
+        let taken = watch;
         let away = Away {
             ticket,
-            taken: watch,
+            taken,
             watch,
             closing: None,
         };

@@ -5,14 +5,17 @@ use Rattle.std.specs.List.{All}
 use Rattle.std.specs.Ordering.{nat_cmp}
 use Rattle.std.specs.BTreeMap.{insert_entry, is_at}
 use Rattle.std.specs.Map.{lookup, remove_entry, set_value, values_of}
+use Rattle.std.specs.Option.{option_and_then}
+use Rattle.std.proofs.lemmas.Map.Steps.{set_value_same}
+use Rattle.tl_monitor.specs.declared.monitor.Settlement.{Settlement}
 use Rattle.std.proofs.lemmas.Map.Views.{All-map-remove_entry, All-values-insert_entry, All-values-set_value, IfSome-lookup_from_All}
 use Rattle.tl_beats.specs.declared.watch.Watch.{Watch}
 use Rattle.tl_beats.specs.declared.watch.Watch.TheVariants as watch
 use Rattle.tl_definitions.specs.Watching.{retuned}
 use Rattle.tl_monitor.specs.Held.{Held}
 use Rattle.tl_boxes.specs.declared.away.Away.{Away}
-use Rattle.tl_boxes.specs.Places.{Place, Here, Out, limit_of, IsKept, place_tuned, place_closing, place_left}
-use Rattle.tl_boxes.specs.Boxes.{AreKept, place_at}
+use Rattle.tl_boxes.specs.Places.{Place, Here, Out, held_of, limit_of, IsKept, leaving, place_tuned, place_closing, place_left}
+use Rattle.tl_boxes.specs.Boxes.{BoxesData, AreKept, place_at, placed_at, taken_at}
 
 -- A watch with its own limit is the same.
 pub own_limit : (w : Watch) → retuned w (limit_of w) ≡ w
@@ -61,3 +64,21 @@ left_kept m ticket place slots kept found = set_kept m (place_left ticket place)
     go : (p : Place) → IsKept p → IsKept (place_left ticket p)
     go (Here held) h = own_limit held.watch
     go (Out away) h = h
+
+-- What a place makes of itself as its monitor goes out is what goes out of the boxes.
+pub left_is : (m ticket : ℕ) (place : Place) (slots : List (ℕ × Place)) (ended : List (ℕ × Settlement)) (new : List (ℕ × Place)) (boxes : BoxesData) → place_at m slots ≡ Some place
+    → new ≡ set_value (is_at (nat_cmp m)) slots (place_left ticket place) → record { slots = slots; ended = ended } ≡ boxes → record { slots = new; ended = ended } ≡ taken_at m ticket boxes
+left_is m ticket place slots ended new boxes found set view = go place found set ∙ ap (taken_at m ticket) view
+  where
+    before : BoxesData
+    before = record { slots = slots; ended = ended }
+
+    with_slots : List (ℕ × Place) → BoxesData
+    with_slots es = record { slots = es; ended = ended }
+
+    taken : (o : Option Place) → place_at m slots ≡ o → option_map_or (λ held. placed_at m (Out (leaving ticket held)) before) (option_and_then held_of o) before ≡ taken_at m ticket before
+    taken o h = ap (λ o. option_map_or (λ held. placed_at m (Out (leaving ticket held)) before) (option_and_then held_of o) before) (sym h)
+
+    go : (p : Place) → place_at m slots ≡ Some p → new ≡ set_value (is_at (nat_cmp m)) slots (place_left ticket p) → with_slots new ≡ taken_at m ticket before
+    go (Here held) f is = ap with_slots is ∙ taken (Some (Here held)) f
+    go (Out away) f is = ap with_slots (is ∙ set_value_same (is_at (nat_cmp m)) slots (Out away) f) ∙ taken (Some (Out away)) f

@@ -1,2 +1,5 @@
 pub mod KeptLemmas
 mod FinishLemmas
+mod NumberLemmas
+pub mod WatchLemmas
+pub mod OutLemmas

@@ -3,6 +3,7 @@
 
 mod away;
 mod boxes;
+pub mod laws;
 mod slot;
 mod watch;
 

@@ -75,8 +75,8 @@ put_found m v es = lookup_put m m v es ∙ ap (λ b. cond b (Some v) (lookup (is
 -- Of two values that one number gets the second stays.
 pub set_twice : {V : Type 0} (test : ℕ → Bool) (es : List (ℕ × V)) (v w : V) → set_value test (set_value test es v) w ≡ set_value test es w
 set_twice test [] v w = refl
-set_twice {V} test (e ∷ es) v w = go (test e.0) refl
+set_twice {V} test (e ∷ es) v w = go (set_twice test es v w) (test e.0) refl
   where
-    go : (b : Bool) → test e.0 ≡ b → set_value test (cond b ((e.0, v) ∷ es) (e ∷ set_value test es v)) w ≡ cond b ((e.0, w) ∷ es) (e ∷ set_value test es w)
-    go true t = ap (λ b. cond b ((e.0, w) ∷ es) ((e.0, v) ∷ set_value test es w)) t
-    go false t = ap (λ b. cond b ((e.0, w) ∷ set_value test es v) (e ∷ set_value test (set_value test es v) w)) t ∙ ap (λ t. e ∷ t) (set_twice test es v w)
+    go : set_value test (set_value test es v) w ≡ set_value test es w → (b : Bool) → test e.0 ≡ b → set_value test (cond b ((e.0, v) ∷ es) (e ∷ set_value test es v)) w ≡ cond b ((e.0, w) ∷ es) (e ∷ set_value test es w)
+    go later true t = ap (λ b. cond b ((e.0, w) ∷ es) ((e.0, v) ∷ set_value test es w)) t
+    go later false t = ap (λ b. cond b ((e.0, w) ∷ set_value test es v) (e ∷ set_value test (set_value test es v) w)) t ∙ ap (λ t. e ∷ t) later

@@ -65,15 +65,17 @@ lowest n ((k, Here held) ∷ es) order h = go (lowest n es (sorted_tail nat_cmp 
     go rest =
         let there : lookup (is_at (nat_cmp n)) es ≡ Some (Out rest.0.0) = away_there (lookup (is_at (nat_cmp n)) es) rest.0.0 rest.0.1 in
         let less : nat_cmp k n ≡ Less = behind k n es (Out rest.0.0) (sorted_head nat_cmp k (keys_of es) order) there in
-        let other : is_at (nat_cmp n) k ≡ false = turned n k ∙ ap is_eq less in
-        ((rest.0.0, ap (λ b. option_and_then away_of (cond b (Some (Here held)) (lookup (is_at (nat_cmp n)) es))) other ∙ rest.0.1),
-        λ m lower. past_here m (k, Here held) es refl (rest.1 m lower))
+        let other : is_at (nat_cmp n) k ≡ false = turned n k ∙ ap is_eq less in (
+          (rest.0.0, ap (λ b. option_and_then away_of (cond b (Some (Here held)) (lookup (is_at (nat_cmp n)) es))) other ∙ rest.0.1),
+          λ m lower. past_here m (k, Here held) es refl (rest.1 m lower),
+        )
 lowest n ((k, Out away) ∷ es) order h = subst (λ x. IsLowest x ((k, Out away) ∷ es)) same found
   where
     same : k ≡ n
     same = cc
 
     found : IsLowest k ((k, Out away) ∷ es)
-    found =
-        ((away, ap (λ b. option_and_then away_of (cond b (Some (Out away)) (lookup (is_at (nat_cmp k)) es))) (own_number k)),
-        λ m lower. ap (option_and_then away_of) (lookup-none (is_at (nat_cmp m)) ((k, Out away) ∷ es) (none_below_head nat_cmp_total m (k, Out away) es order (below m k lower))))
+    found = (
+      (away, ap (λ b. option_and_then away_of (cond b (Some (Out away)) (lookup (is_at (nat_cmp k)) es))) (own_number k)),
+      λ m lower. ap (option_and_then away_of) (lookup-none (is_at (nat_cmp m)) ((k, Out away) ∷ es) (none_below_head nat_cmp_total m (k, Out away) es order (below m k lower))),
+    )

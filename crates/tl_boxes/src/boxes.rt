@@ -69,6 +69,13 @@ impl<M: Monitor> Boxes<M> {
         self.ended.as_slice()
     }
 
+    /// Whether there is a monitor of a number, here or out.
+    pub fn contains(&self, number: u32) -> bool
+        ensures { result ≡ is_some (place_at number self.now.slots) }
+    {
+        self.slots.contains_key(&number)
+    }
+
     /// Whether the monitor of a number is here.
     pub fn is_here(&self, number: u32) -> bool
         ensures { result ≡ is_some (held_at number self.now.slots) }

@@ -5,6 +5,8 @@ mod away;
 mod boxes;
 pub mod laws;
 mod slot;
+#[cfg(test)]
+mod tests;
 mod watch;
 
 pub use away::Away;

@@ -1,10 +1,9 @@
 -- What is kept of those that are out stays so.
-use Rattle.std.proofs.Common.{◌≡◌, ℕ, List, Option, Some, None, refl, sym, ap, subst, ◌∙◌}
+use Rattle.std.proofs.Common.{◌≡◌, ℕ, List, Option, Some, refl, sym, ap, subst, ◌∙◌}
 use Rattle.std.specs.Option.{IfSome, option_map_or}
-use Rattle.std.specs.List.{All}
 use Rattle.std.specs.Ordering.{nat_cmp}
 use Rattle.std.specs.BTreeMap.{insert_entry, is_at}
-use Rattle.std.specs.Map.{lookup, remove_entry, set_value, values_of}
+use Rattle.std.specs.Map.{remove_entry, set_value}
 use Rattle.std.specs.Option.{option_and_then}
 use Rattle.std.proofs.lemmas.Map.Steps.{set_value_same}
 use Rattle.tl_monitor.specs.declared.monitor.Settlement.{Settlement}
@@ -13,7 +12,6 @@ use Rattle.tl_beats.specs.declared.watch.Watch.{Watch}
 use Rattle.tl_beats.specs.declared.watch.Watch.TheVariants as watch
 use Rattle.tl_definitions.specs.Watching.{retuned}
 use Rattle.tl_monitor.specs.Held.{Held}
-use Rattle.tl_boxes.specs.declared.away.Away.{Away}
 use Rattle.tl_boxes.specs.Places.{Place, Here, Out, held_of, limit_of, IsKept, leaving, place_tuned, place_closing, place_left}
 use Rattle.tl_boxes.specs.Boxes.{BoxesData, AreKept, place_at, placed_at, taken_at}
 

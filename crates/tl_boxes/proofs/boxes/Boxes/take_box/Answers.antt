@@ -1,11 +1,10 @@
-use Rattle.std.proofs.Common.{◌≡◌, ◌+◌, ◌≤◌, ◌∙◌, ap, sym, subst, refl, rules, arith, length, Some, None}
+use Rattle.std.proofs.Common.{◌≡◌, sym, subst, rules, arith, Some}
 use Rattle.std.proofs.lemmas.Grind.{common_steps}
 use Rattle.std.specs.Ordering.{nat_cmp}
-use Rattle.std.specs.BTreeMap.{insert_entry, is_at}
+use Rattle.std.specs.BTreeMap.{is_at}
 use Rattle.std.specs.Map.{set_value}
 use Rattle.tl_boxes.specs.Boxes.{AreKept, place_at}
-use Rattle.tl_boxes.specs.Places.{Here}
-use Rattle.tl_boxes.proofs.KeptLemmas.{removed_kept, attached_kept, put_kept, tuned_kept, closing_kept, left_kept, left_is}
+use Rattle.tl_boxes.proofs.KeptLemmas.{left_kept, left_is}
 use Rattle.tl_boxes.proofs.boxes.Boxes.take_box.Goals as goal
 use Rattle.tl_boxes.specs.Places.{place_left}
 

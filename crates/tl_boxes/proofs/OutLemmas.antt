@@ -14,6 +14,7 @@ use Rattle.std.proofs.lemmas.Cmp.{nat_cmp_total}
 use Rattle.tl_boxes.specs.declared.away.Away.{Away}
 use Rattle.tl_boxes.specs.Places.{Place, Here, Out, away_of}
 use Rattle.tl_boxes.specs.Boxes.{away_at, first_out}
+use Rattle.tl_boxes.proofs.PlaceLemmas.{away_there}
 use Rattle.tl_boxes.proofs.NumberLemmas.{own_number, number_exact, turned}
 
 cond_away : (b : Bool) (p : Place) (o : Option Place) → option_and_then away_of (cond b (Some p) o) ≡ cond b (away_of p) (option_and_then away_of o)
@@ -51,11 +52,6 @@ below m n h = grind (arith, nat_tests)
 
 abbrev IsLowest : ℕ → List (ℕ × Place) → Type 0
 IsLowest n slots = ((away : Away) × (away_at n slots ≡ Some away)) × ((m : ℕ) → m < n → away_at m slots ≡ None)
-
-away_there : (o : Option Place) (away : Away) → option_and_then away_of o ≡ Some away → o ≡ Some (Out away)
-away_there None away h = cc
-away_there (Some (Here held)) away h = cc
-away_there (Some (Out other)) away h = let same : other ≡ away = cc in ap (λ x. Some (Out x)) same
 
 pub lowest : (n : ℕ) (slots : List (ℕ × Place)) → IsStrictlySortedBy nat_cmp (keys_of slots) → first_out slots ≡ Some n → IsLowest n slots
 lowest n [] order h = cc

@@ -10,7 +10,7 @@ use Rattle.tl_beats.specs.declared.watch.Watch.{Watch}
 use Rattle.tl_monitor.specs.Held.{Held}
 use Rattle.tl_monitor.specs.declared.monitor.Settlement.{Settlement}
 use Rattle.tl_boxes.specs.declared.away.Away.{Away}
-use Rattle.tl_boxes.specs.Places.{Place, Here, Out, held_of, away_of, watch_of_place, limit_of, IsKept, tuned, place_tuned, leaving}
+use Rattle.tl_boxes.specs.Places.{Place, Here, Out, held_of, away_of, watch_of_place, departure, limit_of, IsKept, tuned, place_tuned, leaving}
 
 -- Each monitor by number, and what those told that ended, in the order of their ends.
 pub record BoxesData : Type 0 where
@@ -32,6 +32,10 @@ away_at number slots = option_and_then away_of (place_at number slots)
 -- the watch of the monitor that is attached under a number
 abbrev pub attached_watch : ℕ → BoxesData → Option Watch
 attached_watch number boxes = option_and_then watch_of_place (place_at number boxes.slots)
+
+-- under which ticket the monitor of a number is out, and with which watch it left
+abbrev pub departed : ℕ → BoxesData → Option (ℕ × Watch)
+departed number boxes = option_and_then departure (place_at number boxes.slots)
 
 -- Each that is out left with the watch that it is to have, but for the limit.
 pub record AreKept (slots : List (ℕ × Place)) : Type 0 where

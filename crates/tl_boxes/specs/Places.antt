@@ -35,6 +35,11 @@ abbrev pub watch_of_place : Place → Option Watch
 watch_of_place (Here held) = Some held.watch
 watch_of_place (Out away) = watch_unless_closing away.watch away.closing
 
+-- under which ticket one is out, and with which watch it left
+abbrev pub departure : Place → Option (ℕ × Watch)
+departure (Here held) = None
+departure (Out away) = Some (away.ticket, away.taken)
+
 -- The watch that one that is out is to have is the one that it left with, but for the limit.
 abbrev pub IsKept : Place → Type 0
 IsKept (Here held) = Unit {0}

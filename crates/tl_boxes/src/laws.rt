@@ -6,7 +6,7 @@ ghost use Rattle.std.specs.BTreeMap.{is_at};
 ghost use Rattle.std.specs.Option.{option_map};
 ghost use Rattle.std.specs.Ordering.{nat_cmp};
 ghost use Rattle.tl_boxes.specs.declared.away.Away.{Away};
-ghost use Rattle.tl_boxes.specs.Boxes.{BoxesData, IsBoxes, place_at, held_at, away_at, attached_watch, placed_at, attached_at, given_back_at, retuned_at, detached_at, taken_at, brought_back, first_out};
+ghost use Rattle.tl_boxes.specs.Boxes.{BoxesData, IsBoxes, place_at, held_at, away_at, attached_watch, departed, placed_at, attached_at, given_back_at, retuned_at, detached_at, taken_at, brought_back, first_out};
 ghost use Rattle.tl_boxes.specs.Places.{Place, Here, leaving};
 ghost use Rattle.tl_definitions.specs.Watching.{retuned};
 ghost use Rattle.tl_monitor.specs.Held.{Held};
@@ -50,6 +50,44 @@ pub fn bring_back_keeps_all_watches()
 pub fn put_here_keeps_all_watches()
     ensures { (b : BoxesData) (m n ticket : ℕ) (held : Held) → away_at m b.slots ≡ Some (leaving ticket held)
         → attached_watch n (placed_at m (Here held) b) ≡ attached_watch n b }
+{}
+
+/// A monitor that comes leaves those that are out.
+pub fn attach_keeps_all_departures()
+    ensures { (b : BoxesData) (m n : ℕ) (held : Held) → place_at m b.slots ≡ None → departed n (attached_at m held b) ≡ departed n b }
+{}
+
+/// A monitor that is given back leaves those that are out.
+pub fn give_back_keeps_all_departures()
+    ensures { (b : BoxesData) (m n : ℕ) → IsBoxes b → departed n (given_back_at m b) ≡ departed n b }
+{}
+
+/// A retune leaves the ticket of one that is out, and the watch that it left with.
+pub fn retune_keeps_all_departures()
+    ensures { (b : BoxesData) (m n limit : ℕ) → departed n (retuned_at m limit b) ≡ departed n b }
+{}
+
+/// A detach leaves the ticket of one that is out, and the watch that it left with.
+pub fn detach_keeps_all_departures()
+    ensures { (b : BoxesData) (m n edit : ℕ) → IsBoxes b → departed n (detached_at m edit b) ≡ departed n b }
+{}
+
+/// A monitor that goes out is out under its ticket, with the watch that it has, and all others stay.
+pub fn take_box_sets_the_departure()
+    ensures { (b : BoxesData) (m n ticket : ℕ) (held : Held) → held_at m b.slots ≡ Some held
+        → departed n (taken_at m ticket b) ≡ cond (is_at (nat_cmp n) m) (Some (ticket, held.watch)) (departed n b) }
+{}
+
+/// What is known of a monitor that goes out.
+pub fn taken_box_is_out()
+    ensures { (b : BoxesData) (m ticket : ℕ) (held : Held) → held_at m b.slots ≡ Some held
+        → away_at m (taken_at m ticket b).slots ≡ Some (leaving ticket held) }
+{}
+
+/// A monitor that comes back is no longer out, and all others stay.
+pub fn bring_back_ends_the_departure()
+    ensures { (b : BoxesData) (m n : ℕ) (held : Held) (away : Away) → IsBoxes b → away_at m b.slots ≡ Some away
+        → departed n (brought_back m held b) ≡ cond (is_at (nat_cmp n) m) None (departed n b) }
 {}
 
 /// A monitor that comes under a new number and is given back leaves all as it was.

@@ -1,19 +1,15 @@
 -- What each call makes of the watches of the monitors that are attached.
-use Rattle.std.proofs.Common.{◌≡◌, ℕ, true, false, cond, Bool, List, Option, Some, None, refl, sym, ap, subst, ◌∙◌}
-use Rattle.std.specs.Option.{option_map, option_map_or, option_and_then, IsSome}
+use Rattle.std.proofs.Common.{◌≡◌, ℕ, cond, List, Option, Some, None, refl, sym, ap, ◌∙◌}
+use Rattle.std.specs.Option.{option_map, option_map_or, option_and_then}
 use Rattle.std.specs.Ordering.{nat_cmp}
 use Rattle.std.specs.BTreeMap.{is_at}
-use Rattle.std.specs.Map.{keys_of, remove_entry}
-use Rattle.std.proofs.lemmas.Map.{lookup-remove_entry, lookup-set_value}
-use Rattle.std.proofs.lemmas.Map.Keys.{IsDistinct-from_sorted}
-use Rattle.tl_beats.specs.declared.watch.Watch.{Watch}
 use Rattle.tl_definitions.specs.Watching.{retuned}
 use Rattle.tl_monitor.specs.Held.{Held}
 use Rattle.tl_boxes.specs.declared.away.Away.{Away}
 use Rattle.tl_boxes.specs.Places.{Place, Here, Out, held_of, away_of, watch_unless_closing, watch_of_place, limit_of, tuned, leaving, place_tuned}
 use Rattle.tl_boxes.specs.Boxes.{BoxesData, IsBoxes, place_at, held_at, away_at, attached_watch, placed_at, without, attached_at, given_back_at, retuned_at, detached_from, detached_at, taken_at, back_with, brought_back}
 use Rattle.tl_boxes.proofs.KeptLemmas.{found_kept}
-use Rattle.tl_boxes.proofs.NumberLemmas.{number_exact, number_equivalence, same_test, turned, lookup_put, put_and_taken, put_found, set_twice}
+use Rattle.tl_boxes.proofs.NumberLemmas.{put_and_taken, put_found, set_twice}
 use Rattle.tl_boxes.proofs.PlaceLemmas.{away_there, at_same, put_at, removed_at, set_at, set_alike}
 
 -- ---- the calls

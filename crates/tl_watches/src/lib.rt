@@ -4,11 +4,16 @@
 
 mod checking;
 mod edits;
+mod outside;
 mod rechecks;
+mod same_watch;
 mod tally;
+mod task;
 mod tickets;
 mod touched;
 mod watches;
 
+pub use outside::watch_key;
 pub use tally::Tally;
+pub use task::{WatchTask, WatchWindow};
 pub use watches::Watches;

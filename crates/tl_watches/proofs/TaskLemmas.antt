@@ -1,7 +1,8 @@
 -- Windows of monitors that are checked elsewhere: their beats, and their passes.
-use Rattle.std.proofs.Common.{◌≡◌, ℕ, ◌==◌, Bool, true, false, List, [], ◌∷◌, Option, Some, None, length, refl, sym, ap, subst, ◌∙◌, arith}
+use Rattle.std.proofs.Common.{◌≡◌, ℕ, ◌==◌, true, false, List, [], ◌∷◌, Some, None, length, refl, sym, ap, subst, ◌∙◌, arith}
 use Rattle.std.specs.List.{filter}
 use Rattle.std.specs.Bool.{Decides}
+use Rattle.std.specs.Option.{option_map_or}
 use Rattle.std.specs.List.Sorted.{IsStrictlySortedBy}
 use Rattle.std.specs.Ordering.{nat_cmp}
 use Rattle.std.proofs.lemmas.Bool.Decides.{nat_tests}
@@ -10,6 +11,8 @@ use Rattle.tl_beats.specs.Watches.{link_of}
 use Rattle.tl_beats.specs.declared.Placed.{Placed}
 use Rattle.tl_beats.specs.declared.watch.Watch.{Watch}
 use Rattle.tl_definitions.specs.Positions.{Recorded, all_placed, in_order, beats_of, beats_of_all}
+use Rattle.tl_definitions.specs.Tallies.{AreOfOneLink}
+use Rattle.tl_definitions.proofs.Lists.{contains_none}
 use Rattle.tl_plain.specs.Captured.{watched_beats}
 use Rattle.tl_windows.specs.Present.{IsPresent}
 use Rattle.tl_windows.specs.Windows.{beats_in, AreBeatsOf}

@@ -243,10 +243,12 @@ fn watched(
     ensures kept { IfOk result AreWatched }
 {
     let _ = present.is_empty();
-    match topo.link_of(&watch.link()) {
-        Some(link) => present.window_beats(alloc, window, &[link]),
-        None => present.window_beats(alloc, window, &[]),
-    }
+    let Some(link) = topo.link_of(&watch.link()) else {
+        let beats = present.window_beats(alloc, window, &[])?;
+        return Ok(beats);
+    };
+    let beats = present.window_beats(alloc, window, &[link])?;
+    Ok(beats)
 }
 
 /// Whether these are the beats of a window of the link that a watch names.

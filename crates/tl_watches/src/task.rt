@@ -201,8 +201,8 @@ impl<M: Monitor> WatchTask<M> {
         (task, monitor)
     }
 
-    /// The pass of its beats by the watch of its monitor, from its entry. The task stays the same but for the tally of its monitor,
-    /// which is that of some of its beats where memory is refused. AllocError where memory is refused.
+    /// The pass of its beats by the watch of its monitor, from its entry. AllocError where memory is refused. In both cases the task
+    /// stays the same but for the tally of its monitor.
     pub fn check(&mut self, alloc: Global) -> Result<Stored<Tally, Rows>, AllocError>
         ensures pass { IfOk result (λ stored. IsWatchPassOf self.old (pass_of stored)) }
         ensures entry { IfOk result (λ stored. arc_value stored.entry ≡ self.old.entry) }

@@ -5,3 +5,5 @@ mod TouchLemmas
 mod AfterLemmas
 mod KeyLemmas
 mod OwnerLemmas
+mod TaskLemmas
+mod OutsideLemmas

@@ -29,7 +29,7 @@ judge_is now number w at = ap (λ (o : Option Watch). option_map_or (watching nu
 pub beats_are : (now : InputData) (number : ℕ) (w : Watch) → watch_at number now.monitors ≡ Some w → beats_for now number ≡ watched_beats now.topo now.fragments w
 beats_are now number w at = ap (λ (o : Option Watch). option_map_or (watched_beats now.topo now.fragments) o []) at
 
-one_watch : (found : Option Watch) (v w : Watch) → found ≡ Some v → found ≡ Some w → w ≡ v
+pub one_watch : (found : Option Watch) (v w : Watch) → found ≡ Some v → found ≡ Some w → w ≡ v
 one_watch found v w one two = let both : Some w ≡ Some v = sym two ∙ one in cc
 
 -- What a monitor finds in the beats of a window from a tally of its watch is the pass of the window.

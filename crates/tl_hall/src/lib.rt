@@ -1,0 +1,15 @@
+//! A hall: a desk that threads call in turn, with one history of all calls that changed it.
+#![tactic(auto)]
+
+mod calls;
+mod entry;
+mod hall;
+mod jobs;
+mod passes;
+mod rule;
+#[cfg(test)]
+mod tests;
+
+pub use entry::{Entry, View};
+pub use hall::{Hall, Note, Pass};
+pub use rule::HallRule;

@@ -1,0 +1,6 @@
+pub mod Histories
+pub mod Tickets
+pub mod Running
+pub mod Keeping
+pub mod Seating
+pub mod Passing

@@ -32,6 +32,13 @@ made z z' v w m c d call Told same saw leads of_hall step told is =
       leads = leads_more v.topo w.0.seen w.0.number c call d leads of_hall step;
     }
 
+-- The history behind a call, however its words are written.
+pub recorded_as : (now : View) (c d : Core) (call same : Call) → call ≡ same → Leads now.topo now.seen c → IsOfHall call → Step c call d → Leads now.topo (now.seen ++ entry now.number same ∷ []) d
+recorded_as now c d call same is leads of_hall step = subst (λ (k : Call). Leads now.topo (now.seen ++ entry now.number k ∷ []) d) is (leads_more now.topo now.seen now.number c call d leads of_hall step)
+
+pub written : (w m : Sat) (call same : Call) → call ≡ same → m ≡ (record w.0 { turn = false; seen = w.0.seen ++ entry w.0.number call ∷ [] }, []) → m ≡ (record w.0 { turn = false; seen = w.0.seen ++ entry w.0.number same ∷ [] }, [])
+written w m call same is now = subst (λ (k : Call). m ≡ (record w.0 { turn = false; seen = w.0.seen ++ entry w.0.number k ∷ [] }, [])) is now
+
 pub looked : (z z' : TableId) (v : View) (w m : Sat) (c : Core) (Answer : Core → Type 0) → z' ≡ z → Saw v w.0 → Leads v.topo w.0.seen c → Answer c
     → m ≡ (record w.0 { turn = false }, []) → Looked (passed z v) Answer (passed z' m.0)
 looked z z' v w m c Answer same saw leads answer is =

@@ -158,9 +158,6 @@ HandsIn p done answer.Taken q = Made p (call.HandIn done.job.ticket (piece_of do
 HandsIn p done answer.Void q = Made p (call.HandIn done.job.ticket (piece_of done.job) false) (IsVoid done) q
 HandsIn p done (answer.Stranger same) q = (same ≡ done) × Looked p (IsStranger done.job) q
 
-abbrev pub IsAbandoned : JobData → Core → Core → Type 0
-IsAbandoned job from to = Ends from job to
-
 -- The ticket is no window's live one.
 abbrev pub IsDead : ℕ → Core → Type 0
 IsDead ticket core = IsLive core ticket → ⊥

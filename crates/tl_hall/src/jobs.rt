@@ -3,7 +3,7 @@
 ghost use Rattle.std.specs.Prelude.{◌≡◌, IfOk, IfErr, OnOk, OnErr, IfSome, IfNone, true, false};
 ghost use Rattle.tl_jobs.specs.Jobs.{piece_of};
 ghost use Rattle.tl_desk.specs.declared.call.Call.TheVariants as call;
-ghost use Rattle.tl_hall.specs.Passes.{Made, NoMore, Looked, Takes, HasNone, IsUntaken, IsStranger, HandsIn, IsAbandoned, IsDead};
+ghost use Rattle.tl_hall.specs.Passes.{Made, NoMore, Looked, Takes, HasNone, IsUntaken, IsStranger, HandsIn, IsDead};
 
 use crate::hall::{Hall, Pass};
 use std::alloc::Global;
@@ -30,7 +30,9 @@ impl<M: Monitor> Hall<M> {
         let mut desk = self.enter(rt, &mut seat);
         match desk.take(alloc) {
             Ok(Some(job)) => {
-                self.leave_with::<Brand, (u64, Piece)>(&mut seat, desk, &(job.ticket(), job.piece()));
+                let ticket = job.ticket();
+                let piece = job.piece();
+                self.leave_with::<Brand, (u64, Piece)>(&mut seat, desk, &(ticket, piece));
                 (Pass { seat }, Ok(Some(job)))
             }
             Ok(None) => {
@@ -82,7 +84,7 @@ impl<M: Monitor> Hall<M> {
     /// is no entry of the history. It takes no memory, and may wait for another thread.
     pub fn abandon<R: Wait>(&self, rt: &R, pass: Pass<M>, job: Job) -> (Pass<M>, Result<(), Job>)
         requires { pass.hall ≡ self.now.hall }
-        ensures ok { OnOk result.1 (Made pass (call.Abandon job.ticket (piece_of job)) (IsAbandoned job) result.0) }
+        ensures ok { OnOk result.1 (Made pass (call.Abandon job.ticket (piece_of job)) NoMore result.0) }
         ensures back { IfErr result.1 (λ same. same ≡ job) }
         ensures err { OnErr result.1 (Looked pass (IsStranger job) result.0) }
     {

@@ -7,8 +7,6 @@ mod hall;
 mod jobs;
 mod passes;
 mod rule;
-#[cfg(test)]
-mod tests;
 
 pub use entry::{Entry, View};
 pub use hall::{Hall, Note, Pass};

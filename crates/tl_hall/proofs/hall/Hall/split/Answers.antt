@@ -4,7 +4,7 @@ use Rattle.tl_hall.specs.Rule.{Sat, elder, younger}
 use Rattle.tl_hall.specs.Passes.{HallData, PassData, passed, IsResting, IsAnother}
 use Rattle.tl_hall.proofs.Keeping.{splits}
 use Rattle.tl_hall.proofs.Passing.{rests_elder, rests_younger, is_another}
-use Rattle.tl_hall.proofs.passes.Hall.split.Goals as goal
+use Rattle.tl_hall.proofs.hall.Hall.split.Goals as goal
 
 pub split_seat-twin-requires : goal.split_seat-twin-requires
 split_seat-twin-requires g c =

@@ -2,7 +2,7 @@ use Rattle.std.proofs.Common.{◌≡◌, ap, sym, refl, ◌∙◌, subst, arith,
 use Rattle.tl_hall.specs.Rule.{Sat}
 use Rattle.tl_hall.specs.Passes.{HallData, PassData, passed}
 use Rattle.tl_hall.proofs.Keeping.{joins, learns}
-use Rattle.tl_hall.proofs.passes.Hall.meet.Goals as goal
+use Rattle.tl_hall.proofs.hall.Hall.meet.Goals as goal
 
 pub join_seat-requires : goal.join_seat-requires
 join_seat-requires g c =

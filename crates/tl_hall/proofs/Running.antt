@@ -83,12 +83,12 @@ marks_new t zero f low not =
     let same : zero ≡ t = omega (arith, low) in
     let off : f zero ≡ false = subst (λ k. f k ≡ false) (sym same) not in
     ap (λ b. bit (cond b true (f zero))) (eq-eqb zero t same) ∙ (let none : bit (f zero) ≡ 0 = ap bit off in omega (arith, none))
-marks_new t (suc n) f low not = ⊎_elim (λ (h : (leb t n ≡ true) × (t ≤ n)). later h.1) (λ (h : (leb t n ≡ false) × (n < t)). here h.1) (leb_tells t n)
+marks_new t (suc n) f low not = ⊎_elim (λ (h : (leb t n ≡ true) × (t ≤ n)). later (marks_new t n f h.1 not) h.1) (λ (h : (leb t n ≡ false) × (n < t)). here h.1) (leb_tells t n)
   where
-    later : t ≤ n → marks (with_mark t f) (suc n) ≡ marks f (suc n) + 1
-    later le =
+    later : marks (with_mark t f) n ≡ marks f n + 1 → t ≤ n → marks (with_mark t f) (suc n) ≡ marks f (suc n) + 1
+    later rest le =
         ap (λ b. bit (cond b true (f (suc n))) + marks (with_mark t f) n) (ne_eqb (suc n) t (λ e. absurd (omega (arith, e, le))))
-        ∙ (let rest : marks (with_mark t f) n ≡ marks f n + 1 = marks_new t n f le not in omega (arith, rest))
+        ∙ omega (arith, rest)
 
     here : n < t → marks (with_mark t f) (suc n) ≡ marks f (suc n) + 1
     here more =

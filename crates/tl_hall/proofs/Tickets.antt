@@ -121,20 +121,20 @@ none_live topo core fresh q t has =
 
 pub one_less : {X : Type 0} (test : ℕ → Bool) (es : List (ℕ × X)) (x : X) → lookup test es ≡ Some x → length (remove_entry test es) + 1 ≡ length es
 one_less test [] x found = absurd (let never : None ≡ Some x = found in cc)
-one_less test (e ∷ es) x found = go (test e.0) found
+one_less test (e ∷ es) x found = go (one_less test es x) (test e.0) found
   where
-    go : (b : Bool) → cond b (Some e.1) (lookup test es) ≡ Some x → length (cond b es (e ∷ remove_entry test es)) + 1 ≡ length (e ∷ es)
-    go true h = omega arith
-    go false h = let rest : length (remove_entry test es) + 1 ≡ length es = one_less test es x h in omega (arith, rest)
+    go : (lookup test es ≡ Some x → length (remove_entry test es) + 1 ≡ length es) → (b : Bool) → cond b (Some e.1) (lookup test es) ≡ Some x → length (cond b es (e ∷ remove_entry test es)) + 1 ≡ length (e ∷ es)
+    go later true h = omega arith
+    go later false h = let rest : length (remove_entry test es) + 1 ≡ length es = later h in omega (arith, rest)
 
 pub one_more : {X : Type 0} (cmp : ℕ → ℕ → Ordering) (es : List (ℕ × X)) (k : ℕ) (x : X) → length (insert_entry cmp es k x) ≤ length es + 1
 one_more cmp [] k x = omega arith
-one_more cmp (e ∷ es) k x = go (cmp k e.0)
+one_more cmp (e ∷ es) k x = go (one_more cmp es k x) (cmp k e.0)
   where
-    go : (o : Ordering) → length (match_ordering o ((k, x) ∷ e ∷ es) ((e.0, x) ∷ es) (e ∷ insert_entry cmp es k x)) ≤ length (e ∷ es) + 1
-    go Less = omega arith
-    go Equal = omega arith
-    go Greater = let rest : length (insert_entry cmp es k x) ≤ length es + 1 = one_more cmp es k x in omega (arith, rest)
+    go : length (insert_entry cmp es k x) ≤ length es + 1 → (o : Ordering) → length (match_ordering o ((k, x) ∷ e ∷ es) ((e.0, x) ∷ es) (e ∷ insert_entry cmp es k x)) ≤ length (e ∷ es) + 1
+    go later Less = omega arith
+    go later Equal = omega arith
+    go later Greater = omega (arith, later)
 
 -- ---- the log stays
 

@@ -80,7 +80,8 @@ impl<M: Monitor> Hall<M> {
     {
         let key = topo.copy(alloc)?;
         let mut slots = Vec::with_capacity(alloc, 1)?;
-        slots.push(Some(Desk::new(alloc, topo)?))?;
+        let desk = Desk::new(alloc, topo)?;
+        slots.push(Some(desk))?;
         match Table::new(alloc, &[0, 0], slots, &key) {
             Ok((table, seat)) => Ok((Hall { table }, Pass { seat })),
             Err(Refused { slots: _ }) => Err(AllocError),

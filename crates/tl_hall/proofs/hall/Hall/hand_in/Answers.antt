@@ -18,8 +18,8 @@ leave_with-requires-clause-desk g c =
     let same : made_call ≡ told = ap (λ t. call.HandIn t (piece_of job) true) (sym c.ticket-ticket.ensures) ∙ ap (λ p. call.HandIn c.ticket-ticket.result p true) (sym c.piece-piece.ensures) in
     recorded_as now c.enter-desk.result c.hand_in.new.self made_call told same led tt c.in-Taken.ensures.step
 
-pub leave_with-2-requires-clause-desk : goal.leave_with-2-requires-clause-desk
-leave_with-2-requires-clause-desk g c =
+pub leave_with-requires-in-Void-clause-desk : goal.leave_with-requires-in-Void-clause-desk
+leave_with-requires-in-Void-clause-desk g c =
     let e = c.enter-desk.ensures in
     let now = c.enter-desk.new.seat.me.0 in
     let job = c.args.done.job in
@@ -32,8 +32,8 @@ leave_with-2-requires-clause-desk g c =
 pub invariant_of-result : goal.invariant_of-result
 invariant_of-result g c = rests_with c.enter-desk.new.seat.me c.leave_with.new.seat.me (call.HandIn c.ticket-ticket.result c.piece-piece.result true) c.enter-desk.ensures.inside c.leave_with.ensures.now
 
-pub invariant_of-result-2 : goal.invariant_of-result-2
-invariant_of-result-2 g c = rests_with c.enter-desk.new.seat.me c.leave_with-2.new.seat.me (call.HandIn c.ticket-ticket.result c.piece-piece.result false) c.enter-desk.ensures.inside c.leave_with-2.ensures.now
+pub invariant_of-result-in-Void : goal.invariant_of-result-in-Void
+invariant_of-result-in-Void g c = rests_with c.enter-desk.new.seat.me c.leave_with-in-Void.new.seat.me (call.HandIn c.ticket-ticket.result c.piece-piece.result false) c.enter-desk.ensures.inside c.leave_with-in-Void.ensures.now
 
 pub returns-in-Taken : goal.returns-in-Taken
 returns-in-Taken g c =
@@ -54,7 +54,7 @@ returns-in-Void g c =
     let told : Call = call.HandIn c.ticket-ticket.result c.piece-piece.result false in
     let made_call : Call = call.HandIn job.ticket (piece_of job) false in
     let same : told ≡ made_call = ap (λ t. call.HandIn t c.piece-piece.result false) c.ticket-ticket.ensures ∙ ap (λ p. call.HandIn job.ticket p false) c.piece-piece.ensures in
-    let after = c.leave_with-2.new.seat in
+    let after = c.leave_with-in-Void.new.seat in
     subst (λ (p : PassData). Made p made_call (IsVoid c.args.done) (passed after.table_id after.me.0)) c.pass.view_is
-    (made c.pass.inside.seat.table_id after.table_id c.pass.inside.seat.me.0 c.enter-desk.new.seat.me after.me c.enter-desk.result c.hand_in.new.self made_call (IsVoid c.args.done) (c.leave_with-2.ensures.hall ∙ e.hall) e.saw e.desk tt
-    c.in-Void.ensures.step c.in-Void.ensures.back (written c.enter-desk.new.seat.me after.me told made_call same c.leave_with-2.ensures.now))
+    (made c.pass.inside.seat.table_id after.table_id c.pass.inside.seat.me.0 c.enter-desk.new.seat.me after.me c.enter-desk.result c.hand_in.new.self made_call (IsVoid c.args.done) (c.leave_with-in-Void.ensures.hall ∙ e.hall) e.saw e.desk tt
+    c.in-Void.ensures.step c.in-Void.ensures.back (written c.enter-desk.new.seat.me after.me told made_call same c.leave_with-in-Void.ensures.now))

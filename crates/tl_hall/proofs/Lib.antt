@@ -4,3 +4,4 @@ pub mod Running
 pub mod Keeping
 pub mod Seating
 pub mod Passing
+pub mod Tellings

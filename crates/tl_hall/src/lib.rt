@@ -5,8 +5,11 @@ mod calls;
 mod entry;
 mod hall;
 mod jobs;
+pub mod laws;
 mod passes;
 mod rule;
+#[cfg(test)]
+mod tests;
 
 pub use entry::{Entry, View};
 pub use hall::{Hall, Note, Pass};

@@ -17,7 +17,7 @@ pub invariant_of-result : goal.invariant_of-result
 invariant_of-result g c = rests_with c.enter-desk.new.seat.me c.leave_with.new.seat.me (call.Recall c.args.ticket) c.enter-desk.ensures.inside c.leave_with.ensures.now
 
 pub returns-then-recall-clause-live : goal.returns-then-recall-clause-live
-returns-then-recall-clause-live g c yes =
+returns-then-recall-clause-live g c live =
     let e = c.enter-desk.ensures in
     let made_call = call.Recall c.args.ticket in
     let after = c.leave_with.new.seat in

@@ -1,24 +1,24 @@
 -- Each step keeps the rule of the table.
-use Rattle.std.proofs.Common.{◌≡◌, ◌≢◌, ◌⊎◌, ℕ, zero, suc, ◌+◌, ◌*◌, ◌%◌, ◌^◌, ◌<◌, ◌≤◌, eqb, Bool, true, false, cond, List, [], ◌∷◌, ◌++◌, map, length, get_or, set, sym, refl, ap, ◌∙◌, subst, ⊎_elim, inl, inr, arith, Option, Some, None, length-append, eq-eqb, ne_eqb, true≢false, mul-le-mul_right, le_of_mul-le-mul_right, mul_assoc, suc-mul, one-mul}
+use Rattle.std.proofs.Common.{◌≡◌, ◌≢◌, ℕ, zero, suc, ◌+◌, ◌*◌, ◌%◌, ◌^◌, ◌<◌, ◌≤◌, eqb, true, false, List, [], ◌∷◌, ◌++◌, length, get_or, set, sym, refl, ap, ◌∙◌, subst, ⊎_elim, arith, Option, Some, length-append, eq-eqb, ne_eqb, true≢false, mul-le-mul_right, le_of_mul-le-mul_right, mul_assoc, suc-mul, one-mul}
 use mathlib.Core.Logic.{dite}
 use mathlib.Core.Option.{none, some, some-injective, some-ne-none}
 use mathlib.Core.List.{IsPrefix}
-use native.Mathlib.Decide.{ℕ_discrete, dec_le}
-use lib.ListN.{get_elem?, length-map}
+use native.Mathlib.Decide.{ℕ_discrete}
+use lib.ListN.{get_elem?}
 use lib.Seq.{set-get_or}
 use prog.Atomic.{either}
-use Rattle.atomic_table.specs.Table.{State, Me, step, Act, keeps, takes, gives, stepped, homes_after, put_back, rest, Allows, Splits, Joins, opening}
-use Rattle.atomic_table.proofs.Lists.{at_set, set_here, set_else, set_again, at_snoc}
+use Rattle.atomic_table.specs.Table.{State, step, keeps, takes, gives, stepped, put_back, rest, Allows, Splits, Joins, opening}
+use Rattle.atomic_table.proofs.Lists.{at_set, set_here, set_else, set_again}
 use Rattle.tl_desk.specs.Core.{Core, IsNew}
 use Rattle.tl_desk.specs.declared.call.Call.{Call}
 use Rattle.tl_topology.specs.Topology.{Topology}
 use Rattle.tl_hall.proofs.Running.{leads_short}
 use Rattle.tl_hall.specs.declared.entry.Entry.{Entry}
 use Rattle.tl_hall.specs.declared.entry.View.{View}
-use Rattle.tl_hall.specs.History.{entry, own, call_of, Leads}
-use Rattle.tl_hall.specs.Rule.{newcomer, nobody, Owns, IsUnmade, Fits, Kept, Sat, Entered, entered, recorded, stayed, left, elder, younger, both, longer, Learned, learned}
-use Rattle.tl_hall.specs.Passes.{IsResting, IsInside}
-use Rattle.tl_hall.proofs.Histories.{prefix_self, prefix_trans, prefix_push, prefix_shorter, own-append, own-other, own-mine, own_within, own_between, at_snoc_where, below_length, longer_begins}
+use Rattle.tl_hall.specs.History.{entry, own, Leads}
+use Rattle.tl_hall.specs.Rule.{newcomer, nobody, Owns, Fits, Kept, Sat, entered, recorded, stayed, left, elder, younger, both, longer, learned}
+use Rattle.tl_hall.specs.Passes.{IsResting}
+use Rattle.tl_hall.proofs.Histories.{prefix_self, prefix_push, own-other, own_within, own_between, at_snoc_where, below_length, longer_begins}
 
 abbrev St : Type 0
 St = State (Option Core) View

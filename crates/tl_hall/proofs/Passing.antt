@@ -1,6 +1,5 @@
 -- What a call leaves of a pass.
-use Rattle.std.proofs.Common.{◌≡◌, ℕ, ◌+◌, ◌*◌, ◌<◌, true, false, List, [], ◌∷◌, ◌++◌, map, length, sym, refl, ap, ◌∙◌, subst, arith, Option, Some, None, one-mul}
-use mathlib.Core.List.{IsPrefix}
+use Rattle.std.proofs.Common.{◌≡◌, ℕ, ◌+◌, ◌*◌, false, List, [], ◌∷◌, ◌++◌, sym, refl, ap, ◌∙◌, subst, arith, one-mul}
 use Rattle.atomic_table.specs.Seated.{TableId}
 use Rattle.tl_desk.specs.Core.{Core}
 use Rattle.tl_desk.specs.Steps.{Step}
@@ -9,8 +8,8 @@ use Rattle.tl_hall.proofs.Running.{leads_more}
 use Rattle.tl_hall.specs.declared.entry.Entry.{Entry}
 use Rattle.tl_hall.specs.declared.entry.View.{View}
 use Rattle.tl_hall.specs.History.{entry, own, IsOfHall, Leads}
-use Rattle.tl_hall.specs.Rule.{IsUnmade, Sat, Entered, recorded, elder, younger}
-use Rattle.tl_hall.specs.Passes.{PassData, passed, IsResting, IsInside, Saw, Made, Looked, IsAnother}
+use Rattle.tl_hall.specs.Rule.{Sat, elder, younger}
+use Rattle.tl_hall.specs.Passes.{passed, IsResting, IsInside, Saw, Made, Looked, IsAnother}
 use Rattle.tl_hall.proofs.Histories.{own-mine, own-other}
 use Rattle.tl_hall.proofs.Keeping.{above, even, odd}
 

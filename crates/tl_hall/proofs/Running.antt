@@ -1,5 +1,5 @@
 -- Runs of calls, and how long one can be.
-use Rattle.std.proofs.Common.{◌≡◌, ℕ, zero, suc, ◌+◌, ◌*◌, ◌^◌, ◌<◌, ◌≤◌, ◌⊎◌, inl, inr, ⊎_elim, eqb, true, false, cond, Bool, List, [], ◌∷◌, ◌++◌, Option, Some, None, length, map, refl, sym, ap, subst, ◌∙◌, arith, length-append, eq-eqb, ne_eqb}
+use Rattle.std.proofs.Common.{◌≡◌, ℕ, zero, suc, ◌+◌, ◌^◌, ◌<◌, ◌≤◌, ⊎_elim, eqb, true, false, cond, Bool, List, [], ◌∷◌, ◌++◌, Some, length, map, refl, sym, ap, subst, ◌∙◌, arith, length-append, eq-eqb, ne_eqb}
 use mathlib.Core.List.{map-append}
 use mathlib.Core.Logic.{dite}
 use native.Mathlib.Decide.{ℕ_discrete}
@@ -20,7 +20,6 @@ use Rattle.tl_pieces.specs.declared.key.PieceKey.{PieceKey}
 use Rattle.tl_tickets.specs.declared.piece.Piece.{Piece}
 use Rattle.tl_tickets.specs.declared.tickets.Taken.{Taken}
 use Rattle.tl_tickets.specs.Tickets.{TicketsData, taken_at, most_tickets}
-use Rattle.tl_spans.specs.Spans.{SpansData}
 use Rattle.tl_desk.specs.Core.{Core, IsNew, log_of, standing, most_versions}
 use Rattle.tl_desk.specs.Jobs.{Takes, Accepts, Ends, Recalls, ended}
 use Rattle.tl_desk.specs.Steps.{Step, Edits, Publishes}
@@ -28,7 +27,7 @@ use Rattle.tl_desk.specs.declared.call.Call.{Call}
 use Rattle.tl_desk.specs.declared.call.Call.TheVariants as call
 use Rattle.tl_hall.specs.declared.entry.Entry.{Entry}
 use Rattle.tl_hall.specs.History.{entry, call_of, IsOfHall, Runs, Leads}
-use Rattle.tl_hall.proofs.Tickets.{live_at, IsQuiet, one_value, same_quiet, edited_quiet, ended_quiet, accepted_quiet, ended_log, accepted_log, recalled_quiet, recalled_gone, taken_live, none_live, one_less, one_more}
+use Rattle.tl_hall.proofs.Tickets.{live_at, IsQuiet, same_quiet, edited_quiet, ended_quiet, accepted_quiet, ended_log, accepted_log, recalled_quiet, recalled_gone, taken_live, none_live, one_less, one_more}
 
 pub runs_then : (ks : List Call) (c d e : Core) (k : Call) → Runs c ks d → IsOfHall k → Step d k e → Runs c (ks ++ k ∷ []) e
 runs_then [] c d e k r of_hall s = (of_hall, e, subst (λ (x : Core). Step x k e) (sym r) s, refl)

@@ -1,14 +1,11 @@
 -- What the steps leave of a seat.
-use Rattle.std.proofs.Common.{◌≡◌, ℕ, ◌+◌, ◌<◌, true, false, List, [], ◌∷◌, ◌++◌, sym, refl, ap, ◌∙◌, subst, arith, Option, Some, None}
-use mathlib.Core.List.{IsPrefix}
+use Rattle.std.proofs.Common.{◌≡◌, ℕ, true, List, [], ◌∷◌, ◌++◌, sym, refl, ap, ◌∙◌, subst, Option, Some, None}
 use Rattle.tl_desk.specs.Core.{Core}
-use Rattle.tl_hall.specs.declared.entry.Entry.{Entry}
-use Rattle.tl_hall.specs.declared.entry.View.{View}
-use Rattle.tl_hall.specs.History.{entry, own, call_of, Leads}
+use Rattle.tl_hall.specs.History.{entry, Leads}
 use mathlib.Core.Option.{none}
 use Rattle.atomic_table.specs.Table.{rest, step}
 use Rattle.tl_desk.specs.declared.call.Call.{Call}
-use Rattle.tl_hall.specs.Rule.{IsUnmade, Sat, Entered, recorded}
+use Rattle.tl_hall.specs.Rule.{Sat, Entered, recorded}
 use Rattle.tl_hall.specs.Passes.{IsResting, IsInside, Saw}
 
 -- the seat that holds the turn and the empty slot

@@ -1,21 +1,18 @@
 -- A history tells what the desk has that it leads to.
-use Rattle.std.proofs.Common.{◌≡◌, ℕ, suc, ◌+◌, ◌-◌, true, false, List, [], ◌∷◌, ◌++◌, Option, Some, None, length, map, refl, sym, ap, subst, ◌∙◌, arith, length-append}
+use Rattle.std.proofs.Common.{◌≡◌, ℕ, ◌+◌, ◌-◌, true, false, List, [], ◌∷◌, ◌++◌, Option, Some, length, map, refl, sym, ap, ◌∙◌, arith, length-append}
 use Rattle.std.specs.Prelude.{slice_get}
 use Rattle.std.specs.Option.{option_map}
-use Rattle.tl_beats.specs.declared.watch.Watch.{Watch}
 use Rattle.tl_topology.specs.Topology.{Topology}
 use Rattle.tl_inputs.specs.Edits.{AnEdit, plain_change, attach}
 use Rattle.tl_inputs.specs.Log.{LogData}
-use Rattle.tl_inputs.specs.declared.edit.Change.{Change}
 use Rattle.tl_report.specs.Output.{ReportData}
 use Rattle.tl_desk.specs.Core.{Core, IsNew, log_of, latest_of}
 use Rattle.tl_desk.specs.Steps.{Step, Edits, Publishes}
 use Rattle.tl_desk.specs.declared.call.Call.{Call}
 use Rattle.tl_desk.specs.declared.call.Call.TheVariants as call
 use Rattle.tl_hall.specs.declared.entry.Entry.{Entry}
-use Rattle.tl_hall.specs.History.{call_of, IsOfHall, Runs, Leads}
-use Rattle.tl_hall.specs.Passes.{PassData, Made, NoMore}
-use Rattle.tl_hall.specs.Telling.{Told, nothing_told, told_more, told_after, told_by, told_of, version_and_edit, HistoriesTell, EditsAreCounted, AttachesAreCounted, VersionsAreCounted}
+use Rattle.tl_hall.specs.History.{call_of, IsOfHall, Runs}
+use Rattle.tl_hall.specs.Telling.{Told, nothing_told, told_more, told_after, told_of, version_and_edit, HistoriesTell, EditsAreCounted, AttachesAreCounted, VersionsAreCounted}
 use Rattle.tl_hall.proofs.Tickets.{ended_log, accepted_log}
 
 abbrev told_with : List AnEdit → ℕ → Option (ℕ × ℕ) → Told
@@ -52,11 +49,12 @@ published c version d s =
     let edits = (log_of c).edits in
     let number : s.report.version ≡ length c.reports + 1 = s.is ∙ s.next in
     let latest : option_map version_and_edit (latest_of reports) ≡ Some (length c.reports + 1, length edits) =
-    ap (option_map version_and_edit) (latest_there c.reports s.report) ∙ ap (λ (v : ℕ). Some (v, s.report.edit)) number ∙ ap (λ (n : ℕ). Some (length c.reports + 1, n)) s.edit in
-    (from_parts d (log_of c) reports log (ap (λ (x : Core). x.reports) s.rest)
-    ∙ ap (λ (n : ℕ). told_with edits n (option_map version_and_edit (latest_of reports))) (length-append c.reports (s.report ∷ []))
-    ∙ ap (told_with edits (length c.reports + 1)) latest,
-      ap (λ (l : LogData). l.topo) log)
+    ap (option_map version_and_edit) (latest_there c.reports s.report) ∙ ap (λ (v : ℕ). Some (v, s.report.edit)) number ∙ ap (λ (n : ℕ). Some (length c.reports + 1, n)) s.edit in (
+      from_parts d (log_of c) reports log (ap (λ (x : Core). x.reports) s.rest)
+          ∙ ap (λ (n : ℕ). told_with edits n (option_map version_and_edit (latest_of reports))) (length-append c.reports (s.report ∷ []))
+          ∙ ap (told_with edits (length c.reports + 1)) latest,
+      ap (λ (l : LogData). l.topo) log,
+    )
 
 still : (c d : Core) → log_of d ≡ log_of c → d.reports ≡ c.reports → (told_of d ≡ told_of c) × ((log_of d).topo ≡ (log_of c).topo)
 still c d log reports = (from_parts d (log_of c) c.reports log reports, ap (λ (l : LogData). l.topo) log)

@@ -1,7 +1,7 @@
 -- What each call makes of the live tickets of a desk.
 use Rattle.std.proofs.Common.{◌≡◌, ℕ, ◌+◌, ◌≤◌, ◌⊎◌, inl, inr, true, false, cond, Bool, List, [], ◌∷◌, Option, Some, None, length, refl, sym, ap, subst, ◌∙◌, arith, Ordering, Equal, Less, Greater}
 use Rattle.std.specs.Prelude.{option_map}
-use Rattle.std.specs.Ordering.{nat_cmp, is_eq, match_ordering}
+use Rattle.std.specs.Ordering.{is_eq, match_ordering}
 use Rattle.std.specs.BTreeMap.{insert_entry, is_at}
 use Rattle.std.specs.Map.{lookup, remove_entry}
 use Rattle.tl_beats.specs.declared.Row.{Row}
@@ -9,7 +9,7 @@ use Rattle.tl_inputs.specs.Edits.{AnEdit}
 use Rattle.tl_jobs.specs.Jobs.{JobData, DoneData}
 use Rattle.tl_pieces.specs.declared.key.PieceKey.{PieceKey}
 use Rattle.tl_pieces.specs.Keys.{key_cmp, change}
-use Rattle.tl_pieces.specs.Pieces.{Board, Pass, Piece, piece_at, live_of, with_live, with_pieces}
+use Rattle.tl_pieces.specs.Pieces.{Pass, Piece, piece_at, live_of, with_live, with_pieces}
 use Rattle.tl_pieces.proofs.OrderLemmas.{key_exact, key_self}
 use Rattle.tl_topology.specs.Topology.{Topology}
 use Rattle.tl_span.specs.declared.state.SpanState.{SpanState}
@@ -19,7 +19,7 @@ use Rattle.tl_spans.specs.Touch.{Touches}
 use Rattle.tl_spans.specs.Windows.{with_checked}
 use Rattle.tl_spans.proofs.CheckLemmas.{lookup_change}
 use Rattle.tl_desk.specs.Core.{Core, IsNew, log_of}
-use Rattle.tl_desk.specs.Jobs.{IsLiveAt, Takes, Accepts, Ends, Recalls, Unmarks, key_for, marked, with_spans}
+use Rattle.tl_desk.specs.Jobs.{Takes, Accepts, Ends, Recalls, Unmarks, key_for, marked}
 use Rattle.tl_desk.specs.Steps.{Edits}
 
 -- the live ticket of a window

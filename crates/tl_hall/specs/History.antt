@@ -1,5 +1,5 @@
 -- The history of a hall: the calls that changed its desk, the oldest first, each with the number of the pass that made it.
-use Rattle.std.specs.Prelude.{◌≡◌, ◌==◌, ◌+◌, ℕ, cond, List, [], ◌∷◌, map}
+use Rattle.std.specs.Prelude.{◌≡◌, ◌==◌, ℕ, cond, List, [], ◌∷◌, map}
 use Rattle.tl_topology.specs.Topology.{Topology}
 use Rattle.tl_desk.specs.Core.{Core, IsNew}
 use Rattle.tl_desk.specs.Steps.{Step}

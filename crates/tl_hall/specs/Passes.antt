@@ -20,7 +20,7 @@ use Rattle.tl_report.specs.Output.{ReportData}
 use Rattle.tl_span.specs.States.{SameSpan}
 use Rattle.tl_spans.specs.Tickets.{IsTaskFor}
 use Rattle.tl_tickets.specs.Tickets.{IsOutFor, most_tickets}
-use Rattle.tl_desk.specs.Core.{Core, AllSettled, most_versions, log_of, latest_of, standing, AreLinked}
+use Rattle.tl_desk.specs.Core.{Core, AllSettled, most_versions, log_of, latest_of, standing}
 use Rattle.tl_desk.specs.Jobs.{key_for, HasFree, IsFresh, IsLive, Accepts, Ends}
 use Rattle.tl_desk.specs.Steps.{Step}
 use Rattle.tl_desk.specs.declared.call.Call.{Call}

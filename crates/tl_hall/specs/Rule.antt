@@ -10,7 +10,7 @@ use Rattle.tl_desk.specs.Core.{Core}
 use Rattle.tl_desk.specs.declared.call.Call.{Call}
 use Rattle.tl_hall.specs.declared.entry.Entry.{Entry}
 use Rattle.tl_hall.specs.declared.entry.View.{View}
-use Rattle.tl_hall.specs.History.{entry, own, IsOfHall, Leads}
+use Rattle.tl_hall.specs.History.{entry, own, Leads}
 
 -- the first pass of a hall
 abbrev pub newcomer : Topology → View

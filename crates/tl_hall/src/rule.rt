@@ -1,13 +1,12 @@
 //! The rule of a hall's table, and what each step tells.
 
+use crate::entry::View;
 use atomic_table::{Join, Play, Seat, Split, Table, TableRule};
 use std::alloc::Global;
 use std::marker::{Brand, PhantomData};
 use tl_desk::Desk;
 use tl_monitor::Monitor;
 use tl_topology::Topo;
-
-use crate::entry::View;
 
 /// There is one history, it leads to the desk in the slot, and what each pass has seen is a beginning of it.
 pub struct HallRule;

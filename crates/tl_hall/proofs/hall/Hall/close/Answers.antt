@@ -1,6 +1,5 @@
-use Rattle.std.proofs.Common.{◌≡◌, ap, sym, refl, ◌∙◌, subst, arith, []}
-use Rattle.tl_hall.specs.Rule.{Sat}
-use Rattle.tl_hall.specs.Passes.{HallData, PassData, passed, Closes}
+use Rattle.std.proofs.Common.{ap, sym, ◌∙◌, subst, arith}
+use Rattle.tl_hall.specs.Passes.{HallData, PassData, Closes}
 use Rattle.tl_hall.proofs.Keeping.{stays}
 use Rattle.tl_hall.proofs.hall.Hall.close.Goals as goal
 

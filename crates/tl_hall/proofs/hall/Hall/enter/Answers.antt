@@ -1,4 +1,4 @@
-use Rattle.std.proofs.Common.{◌≡◌, ap, sym, ◌∙◌, subst, arith, rules}
+use Rattle.std.proofs.Common.{ap, sym, ◌∙◌, subst, arith, rules}
 use Rattle.tl_hall.specs.Passes.{HallData, IsResting}
 use Rattle.tl_hall.specs.Rule.{Sat, Entered}
 use Rattle.tl_hall.proofs.Keeping.{enters}

@@ -1,5 +1,5 @@
-use Rattle.std.proofs.Common.{◌≡◌, ap, sym, ◌∙◌, subst, arith, rules}
-use Rattle.tl_hall.specs.Passes.{HallData, IsResting}
+use Rattle.std.proofs.Common.{ap, sym, ◌∙◌, arith}
+use Rattle.tl_hall.specs.Passes.{HallData}
 use Rattle.tl_hall.proofs.Keeping.{records_as, leaves_as}
 use Rattle.tl_hall.proofs.Seating.{loaded, noted}
 use Rattle.tl_hall.proofs.hall.Hall.leave_with.Goals as goal

@@ -1,6 +1,6 @@
-use Rattle.std.proofs.Common.{◌≡◌, ap, sym, refl, ◌∙◌, subst, arith, []}
+use Rattle.std.proofs.Common.{ap, sym, ◌∙◌, arith}
 use Rattle.tl_hall.specs.Rule.{Sat}
-use Rattle.tl_hall.specs.Passes.{HallData, PassData, passed}
+use Rattle.tl_hall.specs.Passes.{HallData, PassData}
 use Rattle.tl_hall.proofs.Keeping.{joins, learns}
 use Rattle.tl_hall.proofs.hall.Hall.meet.Goals as goal
 

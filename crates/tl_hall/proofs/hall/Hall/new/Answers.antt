@@ -1,4 +1,4 @@
-use Rattle.std.proofs.Common.{◌≡◌, ap, sym, ◌∙◌, subst, arith, rules, List, [], ◌∷◌, ◌++◌, Some, Option}
+use Rattle.std.proofs.Common.{◌≡◌, sym, subst, arith, List, [], ◌∷◌, Some, Option}
 use Rattle.std.proofs.lemmas.Grind.{common_steps}
 use Rattle.atomic_table.specs.Table.{opening}
 use Rattle.tl_topology.specs.Topology.{Topology}

@@ -1,7 +1,5 @@
-use Rattle.std.proofs.Common.{◌≡◌, ℕ, ◌+◌, ◌*◌, ap, sym, refl, ◌∙◌, subst, arith, one-mul, []}
-use Rattle.tl_hall.specs.History.{own}
-use Rattle.tl_hall.specs.Rule.{Sat, elder, younger}
-use Rattle.tl_hall.specs.Passes.{HallData, PassData, passed, IsResting, IsAnother}
+use Rattle.std.proofs.Common.{ap, sym, ◌∙◌, subst, arith}
+use Rattle.tl_hall.specs.Passes.{HallData, PassData, passed, IsAnother}
 use Rattle.tl_hall.proofs.Keeping.{splits}
 use Rattle.tl_hall.proofs.Passing.{rests_elder, rests_younger, is_another}
 use Rattle.tl_hall.proofs.hall.Hall.split.Goals as goal

@@ -1,11 +1,10 @@
-use Rattle.std.proofs.Common.{◌≡◌, ap, sym, ◌∙◌, subst, Option, Some}
+use Rattle.std.proofs.Common.{◌≡◌, ap, sym, ◌∙◌, subst, Option}
 use Rattle.tl_jobs.specs.Jobs.{JobData, piece_of}
 use Rattle.tl_desk.specs.Jobs.{Gives}
 use Rattle.tl_desk.specs.declared.call.Call.{Call}
 use Rattle.tl_desk.specs.declared.call.Call.TheVariants as call
 use Rattle.tl_hall.specs.History.{Leads}
 use Rattle.tl_hall.specs.Passes.{PassData, passed, Made, Takes}
-use Rattle.tl_hall.proofs.Running.{leads_more}
 use Rattle.tl_hall.proofs.Passing.{made, rests_with, recorded_as, written}
 use Rattle.tl_hall.proofs.hall.Hall.take.Goals as goal
 

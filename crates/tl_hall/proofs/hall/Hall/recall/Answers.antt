@@ -1,0 +1,25 @@
+use Rattle.std.proofs.Common.{sym, refl, ◌∙◌, subst}
+use Rattle.tl_desk.specs.declared.call.Call.TheVariants as call
+use Rattle.tl_hall.specs.History.{Leads}
+use Rattle.tl_hall.specs.Passes.{PassData, passed, Made, NoMore}
+use Rattle.tl_hall.proofs.Running.{leads_more}
+use Rattle.tl_hall.proofs.Passing.{made, rests_with}
+use Rattle.tl_hall.proofs.hall.Hall.recall.Goals as goal
+
+pub leave_with-requires-clause-desk : goal.leave_with-requires-clause-desk
+leave_with-requires-clause-desk g c =
+    let e = c.enter-desk.ensures in
+    let now = c.enter-desk.new.seat.me.0 in
+    let led = subst (λ r. Leads r now.seen c.enter-desk.result) (sym e.saw.topo_is) e.desk in
+    leads_more now.topo now.seen now.number c.enter-desk.result (call.Recall c.args.ticket) c.recall.new.self led tt (c.if-recall.ensures.step refl)
+
+pub invariant_of-result : goal.invariant_of-result
+invariant_of-result g c = rests_with c.enter-desk.new.seat.me c.leave_with.new.seat.me (call.Recall c.args.ticket) c.enter-desk.ensures.inside c.leave_with.ensures.now
+
+pub returns-then-recall-clause-live : goal.returns-then-recall-clause-live
+returns-then-recall-clause-live g c live =
+    let e = c.enter-desk.ensures in
+    let made_call = call.Recall c.args.ticket in
+    let after = c.leave_with.new.seat in
+    subst (λ (p : PassData). Made p made_call NoMore (passed after.table_id after.me.0)) c.pass.view_is
+    (made c.pass.inside.seat.table_id after.table_id c.pass.inside.seat.me.0 c.enter-desk.new.seat.me after.me c.enter-desk.result c.recall.new.self made_call NoMore (c.leave_with.ensures.hall ∙ e.hall) e.saw e.desk tt (c.if-recall.ensures.step refl) tt c.leave_with.ensures.now)

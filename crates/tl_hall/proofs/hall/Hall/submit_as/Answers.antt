@@ -1,0 +1,29 @@
+use Rattle.std.proofs.Common.{sym, ◌∙◌, subst}
+use Rattle.tl_inputs.specs.declared.edit.Change.{Change}
+use Rattle.tl_desk.specs.Steps.{Step}
+use Rattle.tl_desk.specs.declared.call.Call.TheVariants as call
+use Rattle.tl_hall.specs.History.{Leads}
+use Rattle.tl_hall.specs.Passes.{PassData, passed, Made, NoMore}
+use Rattle.tl_hall.proofs.Running.{leads_more}
+use Rattle.tl_hall.proofs.Passing.{made, rests_with}
+use Rattle.tl_hall.proofs.hall.Hall.submit_as.Goals as goal
+
+pub leave_with-requires-clause-desk : goal.leave_with-requires-clause-desk
+leave_with-requires-clause-desk g c =
+    let e = c.enter-desk.ensures in
+    let now = c.enter-desk.new.seat.me.0 in
+    let led = subst (λ r. Leads r now.seen c.enter-desk.result) (sym e.saw.topo_is) e.desk in
+    let step = subst (λ (x : Change). Step c.enter-desk.result (call.Edit x c.in-Ok.number) c.edit.new.self) c.requires.asked c.in-Ok.ensures.step in
+    leads_more now.topo now.seen now.number c.enter-desk.result (call.Edit g.C.Asked.change c.in-Ok.number) c.edit.new.self led tt step
+
+pub invariant_of-result : goal.invariant_of-result
+invariant_of-result g c = rests_with c.enter-desk.new.seat.me c.leave_with.new.seat.me (call.Edit g.C.Asked.change c.in-Ok.number) c.enter-desk.ensures.inside c.leave_with.ensures.now
+
+pub returns-in-Ok-clause-ok : goal.returns-in-Ok-clause-ok
+returns-in-Ok-clause-ok g c =
+    let e = c.enter-desk.ensures in
+    let made_call = call.Edit g.C.Asked.change c.in-Ok.number in
+    let after = c.leave_with.new.seat in
+    let step = subst (λ (x : Change). Step c.enter-desk.result (call.Edit x c.in-Ok.number) c.edit.new.self) c.requires.asked c.in-Ok.ensures.step in
+    subst (λ (p : PassData). Made p made_call NoMore (passed after.table_id after.me.0)) c.pass.view_is
+    (made c.pass.inside.seat.table_id after.table_id c.pass.inside.seat.me.0 c.enter-desk.new.seat.me after.me c.enter-desk.result c.edit.new.self made_call NoMore (c.leave_with.ensures.hall ∙ e.hall) e.saw e.desk tt step tt c.leave_with.ensures.now)

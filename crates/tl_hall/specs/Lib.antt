@@ -1,0 +1,4 @@
+pub mod History
+pub mod Rule
+pub mod Passes
+pub mod Telling

@@ -1,0 +1,190 @@
+-- A hall and its passes, as contracts see them.
+use Rattle.std.specs.Prelude.{◌≡◌, ◌≢◌, ◌<◌, ◌≤◌, ℕ, true, false, List, [], ◌∷◌, ◌++◌, length, take, Option, Some, None}
+use mathlib.Core.List.{IsPrefix}
+use Rattle.atomic_table.specs.Seated.{TableId}
+use Rattle.tl_definitions.specs.Report.{IsReport}
+use Rattle.tl_topology.specs.Topology.{Topology}
+use Rattle.tl_inputs.specs.Edits.{AnEdit}
+use Rattle.tl_inputs.specs.Inputs.{refusal}
+use Rattle.tl_inputs.specs.Log.{inputs_after}
+use Rattle.tl_inputs.specs.declared.fault.EditFault.{EditFault}
+use Rattle.tl_inputs.specs.declared.fault.EditFault.TheVariants as edit_fault
+use Rattle.tl_jobs.specs.Jobs.{JobData, DoneData, piece_of}
+use Rattle.tl_jobs.specs.declared.fault.TakeFault.{TakeFault}
+use Rattle.tl_jobs.specs.declared.fault.TakeFault.TheVariants as take_fault
+use Rattle.tl_jobs.specs.declared.job.HandIn.{HandIn}
+use Rattle.tl_jobs.specs.declared.job.HandIn.TheVariants as answer
+use Rattle.tl_pieces.specs.Pieces.{IsFirstFree}
+use Rattle.tl_plain.specs.Captured.{captures_after}
+use Rattle.tl_report.specs.Output.{ReportData}
+use Rattle.tl_span.specs.States.{SameSpan}
+use Rattle.tl_spans.specs.Tickets.{IsTaskFor}
+use Rattle.tl_tickets.specs.Tickets.{IsOutFor, most_tickets}
+use Rattle.tl_desk.specs.Core.{Core, AllSettled, most_versions, log_of, latest_of, standing}
+use Rattle.tl_desk.specs.Jobs.{key_for, HasFree, IsFresh, IsLive, Accepts, Ends}
+use Rattle.tl_desk.specs.Steps.{Step}
+use Rattle.tl_desk.specs.declared.call.Call.{Call}
+use Rattle.tl_desk.specs.declared.call.Call.TheVariants as call
+use Rattle.tl_desk.specs.declared.fault.PublishFault.{PublishFault}
+use Rattle.tl_desk.specs.declared.fault.PublishFault.TheVariants as publish_fault
+use Rattle.tl_hall.specs.declared.entry.Entry.{Entry}
+use Rattle.tl_hall.specs.declared.entry.View.{View}
+use Rattle.tl_hall.specs.History.{entry, own, Leads}
+use Rattle.tl_hall.specs.Rule.{Sat, IsUnmade, longer}
+
+-- which hall it is, and its topology
+pub record HallData : Type 0 where
+  pub hall : TableId
+  pub topo : Topology
+
+-- the hall of a pass and its topology, the number of the pass and the distance to those that it may give, and what it has seen of the history
+pub record PassData : Type 0 where
+  pub hall : TableId
+  pub topo : Topology
+  pub number : ℕ
+  pub stride : ℕ
+  pub seen : List Entry
+
+abbrev pub passed : TableId → View → PassData
+passed table v = record { hall = table; topo = v.topo; number = v.number; stride = v.stride; seen = v.seen }
+
+-- a seat between two calls
+pub record IsResting (m : Sat) : Type 0 where
+  pub bare : m.1 ≡ []
+  pub waits : m.0.turn ≡ false
+  pub lives : m.0.spent ≡ false
+  pub strides : 0 < m.0.stride
+  pub alone : m.0.met ≡ []
+  pub unmade : IsUnmade m.0 m.0.seen
+
+-- a seat that holds the turn and the empty slot
+pub record IsInside (m : Sat) : Type 0 where
+  pub bare : m.1 ≡ (0, None) ∷ []
+  pub holds : m.0.turn ≡ true
+  pub lives : m.0.spent ≡ false
+  pub strides : 0 < m.0.stride
+  pub alone : m.0.met ≡ []
+  pub unmade : IsUnmade m.0 m.0.seen
+
+-- the view after the turn is taken
+pub record Saw (v w : View) : Type 0 where
+  pub topo_is : w.topo ≡ v.topo
+  pub number_is : w.number ≡ v.number
+  pub stride_is : w.stride ≡ v.stride
+  pub saw : IsPrefix v.seen w.seen
+  pub own_is : own v.number w.seen ≡ own v.number v.seen
+
+-- The same pass of the same hall.
+abbrev pub IsSame : PassData → PassData → Type 0
+IsSame p q = (q.hall ≡ p.hall) × (q.topo ≡ p.topo) × (q.number ≡ p.number) × (q.stride ≡ p.stride)
+
+-- The pass after a call that made an entry. The history ends with this entry, and before it stands all that was seen, with no other entry of the
+-- pass besides its earlier ones. It leads to a desk, of which the call, as one step, makes the desk that the whole history leads to.
+pub record Made (p : PassData) (made : Call) (Told : Core → Core → Type 0) (q : PassData) : Type 0 where
+  pub same : IsSame p q
+  pub before : List Entry
+  pub saw : IsPrefix p.seen before
+  pub now : q.seen ≡ before ++ entry p.number made ∷ []
+  pub own_is : own p.number q.seen ≡ own p.number p.seen ++ entry p.number made ∷ []
+  pub from : Core
+  pub to : Core
+  pub led : Leads p.topo before from
+  pub step : Step from made to
+  pub told : Told from to
+  pub leads : Leads p.topo q.seen to
+
+-- The step tells all.
+abbrev pub NoMore : Core → Core → Type 0
+NoMore from to = Unit {0}
+
+-- The pass after a call that made no entry: it has seen a history that has no new entry of its own and leads to a desk of which the answer is true.
+pub record Looked (p : PassData) (Answer : Core → Type 0) (q : PassData) : Type 0 where
+  pub same : IsSame p q
+  pub saw : IsPrefix p.seen q.seen
+  pub own_is : own p.number q.seen ≡ own p.number p.seen
+  pub core : Core
+  pub leads : Leads p.topo q.seen core
+  pub answer : Answer core
+
+-- The first cause for which the edit is refused stands; or none stands, and memory was refused.
+abbrev pub IsRefused : AnEdit → EditFault → Core → Type 0
+IsRefused e fault core = ((fault ≡ edit_fault.Memory → ⊥) → refusal (length (log_of core).edits) (standing core) e ≡ Some fault)
+    × (fault ≡ edit_fault.Memory → refusal (length (log_of core).edits) (standing core) e ≡ None)
+
+-- The cause stands for which nothing is published.
+abbrev pub IsUnready : PublishFault → Core → Type 0
+IsUnready publish_fault.NotReady core = AllSettled core → ⊥
+IsUnready publish_fault.VersionFull core = AllSettled core × (length core.reports ≡ most_versions)
+IsUnready publish_fault.Memory core = AllSettled core × (length core.reports < most_versions)
+
+-- It is the latest report, if there is one: its rows are those that the definitions find in what the edits leave that it names.
+abbrev pub IsExact : Option ReportData → Core → Type 0
+IsExact None core = Unit {0}
+IsExact (Some report) core = (report.edit ≤ length (log_of core).edits) × IsReport (captures_after (inputs_after (log_of core).topo (take report.edit (log_of core).edits))) report.rows
+
+abbrev pub IsLatest : Option ReportData → Core → Type 0
+IsLatest found core = (found ≡ latest_of core.reports) × IsExact found core
+
+-- Nothing is said of the desk.
+abbrev pub NoWord : Core → Type 0
+NoWord core = Unit {0}
+
+-- The window goes out with what stands for it.
+abbrev pub Takes : JobData → Core → Core → Type 0
+Takes job from to = IsTaskFor from.windows.spans (key_for job) job.task
+
+-- No window of a manager is wanted that has no live ticket.
+abbrev pub HasNone : Core → Type 0
+HasNone core = IsFirstFree SameSpan core.windows.spans.board None
+
+-- Some window is to be taken, and no ticket is left; or one is left, and memory was refused.
+abbrev pub IsUntaken : TakeFault → Core → Type 0
+IsUntaken take_fault.TicketsSpent core = HasFree core × (core.tickets.last ≡ most_tickets)
+IsUntaken take_fault.Memory core = HasFree core × (core.tickets.last < most_tickets)
+
+-- The job's ticket isn't out for its window.
+abbrev pub IsStranger : JobData → Core → Type 0
+IsStranger job core = IsOutFor job.ticket (piece_of job) core.tickets.out → ⊥
+
+-- A job that was live and of what stands is taken; one that wasn't is void.
+abbrev pub IsTaken : DoneData → Core → Core → Type 0
+IsTaken done from to = Accepts from done to
+
+abbrev pub IsVoid : DoneData → Core → Core → Type 0
+IsVoid done from to = (IsFresh from done.job → ⊥) × Ends from done.job to
+
+abbrev pub HandsIn : PassData → DoneData → HandIn → PassData → Type 0
+HandsIn p done answer.Taken q = Made p (call.HandIn done.job.ticket (piece_of done.job) true) (IsTaken done) q
+HandsIn p done answer.Void q = Made p (call.HandIn done.job.ticket (piece_of done.job) false) (IsVoid done) q
+HandsIn p done (answer.Stranger same) q = (same ≡ done) × Looked p (IsStranger done.job) q
+
+-- The ticket is no window's live one.
+abbrev pub IsDead : ℕ → Core → Type 0
+IsDead ticket core = IsLive core ticket → ⊥
+
+-- The same pass, which has seen the same.
+abbrev pub Stays : PassData → PassData → Type 0
+Stays p q = (q.hall ≡ p.hall) × (q.topo ≡ p.topo) × (q.number ≡ p.number) × (q.seen ≡ p.seen)
+
+-- Another pass of the hall, which has seen the same and has no entry.
+abbrev pub IsAnother : PassData → PassData → Type 0
+IsAnother p q = (q.hall ≡ p.hall) × (q.topo ≡ p.topo) × (q.number ≢ p.number) × (q.seen ≡ p.seen) × (own q.number q.seen ≡ [])
+
+-- What the pass has seen.
+abbrev pub Notes : PassData → PassData → Type 0
+Notes p note = (note.hall ≡ p.hall) × (note.topo ≡ p.topo) × (note.seen ≡ p.seen)
+
+-- The pass has seen the longer of two lists, both of which are beginnings of it, and no new entry of its own.
+pub record Meets (p : PassData) (heard : List Entry) (q : PassData) : Type 0 where
+  pub same : IsSame p q
+  pub now : q.seen ≡ longer p.seen heard
+  pub one : IsPrefix p.seen q.seen
+  pub other : IsPrefix heard q.seen
+  pub own_is : own p.number q.seen ≡ own p.number p.seen
+
+-- A history leads to the desk that begins with all that the pass has seen, and has no other entry of it.
+pub record Closes (p : PassData) (core : Core) : Type 0 where
+  pub log : List Entry
+  pub saw : IsPrefix p.seen log
+  pub own_is : own p.number log ≡ own p.number p.seen
+  pub leads : Leads p.topo log core

@@ -1,0 +1,124 @@
+//! Windows that go out to be checked, and come back.
+
+ghost use Rattle.std.specs.Prelude.{◌≡◌, IfOk, IfErr, OnOk, OnErr, IfSome, IfNone, true, false};
+ghost use Rattle.tl_jobs.specs.Jobs.{piece_of};
+ghost use Rattle.tl_desk.specs.declared.call.Call.TheVariants as call;
+ghost use Rattle.tl_hall.specs.Passes.{Made, NoMore, Looked, Takes, HasNone, IsUntaken, IsStranger, HandsIn, IsDead};
+
+use crate::hall::{Hall, Pass};
+use std::alloc::Global;
+use std::marker::Brand;
+use std::sync::Wait;
+use tl_desk::{Done, HandIn, Job, Piece, TakeFault};
+use tl_monitor::Monitor;
+
+impl<M: Monitor> Hall<M> {
+    /// Gives the first window that is to be checked, with all that its check asks, under the next ticket, or None, or refuses it, as
+    /// `Desk::take` does. It may wait for another thread; the check stands outside the turn.
+    pub fn take<R: Wait>(
+        &self,
+        rt: &R,
+        alloc: Global,
+        pass: Pass<M>,
+    ) -> (Pass<M>, Result<Option<Job>, TakeFault>)
+        requires { pass.hall ≡ self.now.hall }
+        ensures some { IfOk result.1 (λ found. IfSome found (λ job. Made pass (call.Take job.ticket (piece_of job)) (Takes job) result.0)) }
+        ensures none { IfOk result.1 (λ found. IfNone found (Looked pass HasNone result.0)) }
+        ensures err { IfErr result.1 (λ fault. Looked pass (IsUntaken fault) result.0) }
+    {
+        let Pass { mut seat } = pass;
+        let mut desk = self.enter(rt, &mut seat);
+        match desk.take(alloc) {
+            Ok(Some(job)) => {
+                let ticket = job.ticket();
+                let piece = job.piece();
+                self.leave_with::<Brand, (u64, Piece)>(&mut seat, desk, &(ticket, piece));
+                (Pass { seat }, Ok(Some(job)))
+            }
+            Ok(None) => {
+                self.leave(&mut seat, desk);
+                (Pass { seat }, Ok(None))
+            }
+            Err(fault) => {
+                self.leave(&mut seat, desk);
+                (Pass { seat }, Err(fault))
+            }
+        }
+    }
+
+    /// Takes a checked window in, as `Desk::hand_in` does. A stranger's job comes back, and is no entry of the history. It takes no
+    /// memory, and may wait for another thread.
+    pub fn hand_in<R: Wait>(&self, rt: &R, pass: Pass<M>, done: Done) -> (Pass<M>, HandIn)
+        requires { pass.hall ≡ self.now.hall }
+        ensures { HandsIn pass done result.1 result.0 }
+    {
+        let Pass { mut seat } = pass;
+        let mut desk = self.enter(rt, &mut seat);
+        let ticket = done.ticket();
+        let piece = done.piece();
+        match desk.hand_in(done) {
+            HandIn::Taken => {
+                self.leave_with::<Brand, (u64, Piece, bool)>(
+                    &mut seat,
+                    desk,
+                    &(ticket, piece, true),
+                );
+                (Pass { seat }, HandIn::Taken)
+            }
+            HandIn::Void => {
+                self.leave_with::<Brand, (u64, Piece, bool)>(
+                    &mut seat,
+                    desk,
+                    &(ticket, piece, false),
+                );
+                (Pass { seat }, HandIn::Void)
+            }
+            HandIn::Stranger(done) => {
+                self.leave(&mut seat, desk);
+                (Pass { seat }, HandIn::Stranger(done))
+            }
+        }
+    }
+
+    /// Takes a window back that wasn't checked, as `Desk::abandon` does: a job whose ticket isn't out for its window comes back, and
+    /// is no entry of the history. It takes no memory, and may wait for another thread.
+    pub fn abandon<R: Wait>(&self, rt: &R, pass: Pass<M>, job: Job) -> (Pass<M>, Result<(), Job>)
+        requires { pass.hall ≡ self.now.hall }
+        ensures ok { OnOk result.1 (Made pass (call.Abandon job.ticket (piece_of job)) NoMore result.0) }
+        ensures back { IfErr result.1 (λ same. same ≡ job) }
+        ensures err { OnErr result.1 (Looked pass (IsStranger job) result.0) }
+    {
+        let Pass { mut seat } = pass;
+        let mut desk = self.enter(rt, &mut seat);
+        let ticket = job.ticket();
+        let piece = job.piece();
+        match desk.abandon(job) {
+            Ok(()) => {
+                self.leave_with::<Brand, (u64, Piece)>(&mut seat, desk, &(ticket, piece));
+                (Pass { seat }, Ok(()))
+            }
+            Err(job) => {
+                self.leave(&mut seat, desk);
+                (Pass { seat }, Err(job))
+            }
+        }
+    }
+
+    /// Calls a live ticket back, and answers whether it was live, as `Desk::recall` does. A ticket that isn't live is no entry of the
+    /// history. It takes no memory, and may wait for another thread.
+    pub fn recall<R: Wait>(&self, rt: &R, pass: Pass<M>, ticket: u64) -> (Pass<M>, bool)
+        requires { pass.hall ≡ self.now.hall }
+        ensures live { result.1 ≡ true → Made pass (call.Recall ticket) NoMore result.0 }
+        ensures dead { result.1 ≡ false → Looked pass (IsDead ticket) result.0 }
+    {
+        let Pass { mut seat } = pass;
+        let mut desk = self.enter(rt, &mut seat);
+        if desk.recall(ticket) {
+            self.leave_with::<Brand, u64>(&mut seat, desk, &ticket);
+            (Pass { seat }, true)
+        } else {
+            self.leave(&mut seat, desk);
+            (Pass { seat }, false)
+        }
+    }
+}

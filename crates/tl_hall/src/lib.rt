@@ -1,0 +1,14 @@
+//! A hall: a desk that threads call in turn, with one history of all calls that changed it.
+#![tactic(auto)]
+
+mod calls;
+mod entry;
+mod hall;
+mod jobs;
+pub mod laws;
+mod passes;
+mod rule;
+
+pub use entry::{Entry, View};
+pub use hall::{Hall, Note, Pass};
+pub use rule::HallRule;

@@ -1,0 +1,55 @@
+//! Passes of threads, and what they tell each other.
+
+ghost use Rattle.std.specs.Prelude.{◌≡◌};
+ghost use Rattle.tl_hall.specs.Passes.{Stays, IsAnother, Notes, Meets};
+
+use crate::hall::{Hall, Note, Pass};
+use crate::rule::{Learn, Meet, Twin};
+use tl_monitor::Monitor;
+
+impl<M: Monitor> Hall<M> {
+    /// A second pass with a number of its own, which has seen the same and has made no entry. It waits for nobody.
+    pub fn split(&self, pass: Pass<M>) -> (Pass<M>, Pass<M>)
+        requires { pass.hall ≡ self.now.hall }
+        ensures first { Stays pass result.0 }
+        ensures second { IsAnother pass result.1 }
+    {
+        let Pass { mut seat } = pass;
+        let twin = self.table.shared.split_seat::<Twin>(&mut seat);
+        (Pass { seat }, Pass { seat: twin })
+    }
+
+    /// What the pass has seen, to be told to another. It waits for nobody.
+    pub fn note(&self, pass: Pass<M>) -> (Pass<M>, Note<M>)
+        requires { pass.hall ≡ self.now.hall }
+        ensures pass { Stays pass result.0 }
+        ensures note { Notes pass result.1 }
+    {
+        let (pass, other) = self.split(pass);
+        let Pass { seat } = other;
+        (pass, Note { seat })
+    }
+
+    /// What the pass had seen, which ends with this. It waits for nobody.
+    pub fn end(&self, pass: Pass<M>) -> Note<M>
+        requires { pass.hall ≡ self.now.hall }
+        ensures { Notes pass result }
+    {
+        let Pass { seat } = pass;
+        Note { seat }
+    }
+
+    /// The pass has now seen what the note had: the longer of the two lists, of which the other is a beginning. It waits for
+    /// nobody.
+    pub fn meet(&self, pass: Pass<M>, note: Note<M>) -> Pass<M>
+        requires pass { pass.hall ≡ self.now.hall }
+        requires note { note.hall ≡ self.now.hall }
+        ensures { Meets pass note.seen result }
+    {
+        let Pass { mut seat } = pass;
+        let Note { seat: other } = note;
+        self.table.shared.join_seat::<Meet>(&mut seat, other);
+        self.table.shared.load::<Learn>(&mut seat, 0);
+        Pass { seat }
+    }
+}

@@ -118,12 +118,16 @@ fn rounds(
         let same = fragment(alloc, link, number % windows.max(1))?;
         let start = Instant::now(rt)?;
         desk.edit(alloc, Change::Replace(same))?;
-        told.edit_nanos = told.edit_nanos.saturating_add(start.elapsed(rt)?.as_nanos());
+        told.edit_nanos = told
+            .edit_nanos
+            .saturating_add(start.elapsed(rt)?.as_nanos());
         let start = Instant::now(rt)?;
         if round(alloc, desk)? {
             told.taken = told.taken.saturating_add(1);
         }
-        told.round_nanos = told.round_nanos.saturating_add(start.elapsed(rt)?.as_nanos());
+        told.round_nanos = told
+            .round_nanos
+            .saturating_add(start.elapsed(rt)?.as_nanos());
     }
     Ok(told)
 }

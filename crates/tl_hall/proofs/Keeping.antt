@@ -83,7 +83,7 @@ module _ (topo : Topology) where
   count_of : (s : St) (h : Kept topo s) → get_or s.words 0 0 ≡ length h.log
   count_of s h = ap (λ (ws : List ℕ). get_or ws 0 0) h.words
 
-  -- K1: the turn is taken where it was free
+  -- The turn is taken where it was free
   pub enters : (slots id : ℕ) (me : Sat) → IsResting me → Allows (Kept topo) slots id me 1 (λ n. either (eqb n 0) 1 n) (entered (step slots 1 0 1 none) me)
   enters slots id me calm s h deep at lt =
       let n : ℕ = get_or s.words 1 0 in
@@ -119,7 +119,7 @@ module _ (topo : Topology) where
   owns_own : (v : View) → Owns v v.number
   owns_own v = (0, omega arith)
 
-  -- K4 with an entry: it is added to the history, which the holder of the turn has seen
+  -- An entry is added to the history, which the holder of the turn has seen
   pub records : (slots id : ℕ) (me : Sat) (call : Call) (core : Core) → me.0.turn ≡ true → me.0.spent ≡ false → Leads me.0.topo (me.0.seen ++ entry me.0.number call ∷ []) core
       → Allows (Kept topo) slots id me 0 (λ n. (n + 1) % 2 ^ 64) (recorded call (step slots 0 1 0 none) me)
   records slots id me call core holds lives leads s h deep at lt =
@@ -170,7 +170,7 @@ module _ (topo : Topology) where
         refl,
       )
 
-  -- K4 with no entry
+  -- No entry is added
   pub stays : (slots id : ℕ) (me : Sat) → me.0.turn ≡ true → Allows (Kept topo) slots id me 0 (λ n. (n + 0) % 2 ^ 64) (stayed (step slots 0 0 0 none) me)
   stays slots id me holds s h deep at lt =
       let n : ℕ = get_or s.words 0 0 in
@@ -178,7 +178,7 @@ module _ (topo : Topology) where
       let same : (n + 0) % 2 ^ 64 ≡ n = omega (arith, low) in
       (me.0, keeps, tt, subst (λ (k : ℕ). Kept topo (stepped s 0 k id me.1 me.0 keeps)) (sym same) (unmoved s 0 id me.0 me.1 at h), refl)
 
-  -- K5: the turn is given up, and the desk is back in the slot
+  -- The turn is given up, and the desk is back in the slot
   pub leaves : (slots id : ℕ) (me : Sat) (core : Core) → me.1 ≡ (0, Some core) ∷ [] → me.0.turn ≡ true → me.0.spent ≡ false → 0 < slots → Leads me.0.topo me.0.seen core
       → Allows (Kept topo) slots id me 1 (λ _. 0) (λ _. left (step slots 1 0 0 none) me 0)
   leaves slots id me core bare holds lives some_slot leads s h deep at lt =
@@ -250,7 +250,7 @@ module _ (topo : Topology) where
   leaves_as slots id me v core is holds lives some_slot leads =
       subst (λ (m : Sat). Allows (Kept topo) slots id m 1 (λ _. 0) (λ _. left (step slots 1 0 0 none) m 0)) (sym is) (leaves slots id (holding v core) core refl holds lives some_slot leads)
 
-  -- K6: each second number that the pass may give goes to the new one
+  -- Each second number that the pass may give goes to the new one
   elder_owns : (v : View) (n : ℕ) → Owns (elder v) n → Owns v n
   elder_owns v n o = (o.0 * 2, o.1 ∙ ap (λ (k : ℕ). v.number + k) (even o.0 v.stride))
 
@@ -298,7 +298,7 @@ module _ (topo : Topology) where
             (at_snoc_where views (younger v) a i ea);
       }
 
-  -- K7: one pass keeps both lists, and the other is spent
+  -- One pass keeps both lists, and the other is spent
   pub joins : (id other : ℕ) (v w : View) → v.spent ≡ false → w.spent ≡ false → Joins (Kept topo) id v other w (both v w) nobody
   joins id other v w lives alive s h at apart there =
       let x : View = both v w in
@@ -330,7 +330,7 @@ module _ (topo : Topology) where
             (at_set views other i nobody a ea);
       }
 
-  -- K8: both lists are beginnings of the history, and the longer one is kept
+  -- Both lists are beginnings of the history, and the longer one is kept
   pub learns : (slots id : ℕ) (me : Sat) → me.0.spent ≡ false → me.0.turn ≡ false → Allows (Kept topo) slots id me 0 (λ n. n) (learned (step slots 0 0 0 none) me)
   learns slots id me lives waits s h deep at lt =
       let v : View = me.0 in

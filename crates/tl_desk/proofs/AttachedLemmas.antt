@@ -1,134 +1,173 @@
 -- The monitors behind one edit more are those that are attached.
-use Rattle.std.proofs.Common.{◌≡◌, ℕ, true, false, cond, Bool, List, [], ◌∷◌, ◌++◌, Option, Some, None, refl, sym, ap, subst, ◌∙◌, arith, Equal, Ordering, Less, Greater}
+use Rattle.std.proofs.Common.{◌≡◌, ℕ, ◌<◌, inl, inr, true, false, cond, List, Option, Some, None, refl, sym, ap, subst, ◌∙◌}
 use Rattle.std.specs.Prelude.{slice_set, is_some, if◌then◌else◌, nat_le}
 use Rattle.std.specs.Arc.{arc_value}
-use Rattle.std.specs.Option.{option_map, option_map_or, IsSome}
-use Rattle.std.specs.Ordering.{nat_cmp, is_eq, match_ordering}
-use Rattle.std.specs.Cmp.{IsEquivalence}
+use Rattle.std.specs.Option.{option_map, option_map_or, option_and_then}
+use Rattle.std.specs.Ordering.{nat_cmp}
 use Rattle.std.specs.BTreeMap.{insert_entry, is_at}
 use Rattle.std.specs.List.Sorted.{IsStrictlySortedBy}
-use Rattle.std.specs.Map.{keys_of, lookup, remove_entry, set_value}
-use Rattle.std.proofs.lemmas.Bool.Decides.{nat_tests}
-use Rattle.std.proofs.lemmas.Cmp.{nat_cmp_total, eq_by_cmp_equiv}
-use Rattle.std.proofs.lemmas.Map.{lookup-remove_entry, lookup-set_value}
-use Rattle.std.proofs.lemmas.Map.Keys.{IsDistinct-from_sorted}
+use Rattle.std.specs.Map.{keys_of, lookup}
+use Rattle.std.proofs.lemmas.Cmp.{nat_cmp_total}
 use Rattle.tl_topology.specs.Topology.{number_of_name}
 use Rattle.tl_topology.specs.Regions.{Area, put_area, without_area}
 use Rattle.tl_windows.specs.Present.{recorded, put_in, without, cleared}
 use Rattle.tl_beats.specs.declared.watch.Watch.{Watch}
+use Rattle.tl_boxes.specs.Boxes.{BoxesData, place_at, held_at, attached_watch, attached_at, given_back_at, retuned_at, detached_at, away_at, taken_at, placed_at}
+use Rattle.tl_boxes.proofs.WatchLemmas.{attached_and_back}
+use Rattle.tl_boxes.specs.Places.{Place, Here, Out, held_of, away_of, watch_of_place, watch_unless_closing, place_tuned, leaving}
+use Rattle.tl_boxes.specs.declared.away.Away.{Away}
 use Rattle.tl_definitions.specs.Positions.{Recorded}
 use Rattle.tl_definitions.specs.Watching.{retuned}
 use Rattle.tl_inputs.specs.Edits.{plain_change, attach}
 use Rattle.tl_beats.specs.Watches.{link_of}
 use Rattle.tl_inputs.specs.declared.fault.EditFault.TheVariants as fault
-use Rattle.tl_inputs.specs.Inputs.{InputData, watch_at, refusal, most_edits, changed, with_fragments, with_regions, with_monitor, regions_at}
+use Rattle.tl_inputs.specs.Inputs.{InputData, watch_at, was_attached, refusal, most_edits, changed, with_fragments, with_regions, with_monitor, regions_at}
 use Rattle.tl_inputs.specs.declared.edit.Change.{Change}
 use Rattle.tl_inputs.specs.declared.edit.Change.TheVariants as change
 use Rattle.tl_monitor.specs.Held.{Held}
 use Rattle.tl_spans.proofs.EntryLemmas.{lookup_put}
-use Rattle.tl_desk.specs.Boxes.{BoxesData, held_at, without_tally, retuned_at, told, ended_at}
-use Rattle.tl_desk.specs.Core.{AreAttached}
-use Rattle.tl_desk.specs.Steps.{boxes_after, KeepsBoxes}
-
-pub nat_exact : (x y : ℕ) → nat_cmp x y ≡ Equal → x ≡ y
-nat_exact x y h = grind (arith, nat_tests)
-
-pub number_exact : (x y : ℕ) → is_at (nat_cmp x) y ≡ true → x ≡ y
-number_exact x y h = go (nat_cmp x y) refl h
-  where
-    go : (o : Ordering) → nat_cmp x y ≡ o → is_eq o ≡ true → x ≡ y
-    go Less e g = cc
-    go Equal e g = nat_exact x y e
-    go Greater e g = cc
-
-pub number_equivalence : IsEquivalence (λ k. is_at (nat_cmp k))
-number_equivalence = eq_by_cmp_equiv nat_cmp_total
-
-pub same_test : (m : ℕ) (x y : ℕ) → is_at (nat_cmp m) x ≡ true → is_at (nat_cmp m) y ≡ is_at (nat_cmp x) y
-same_test m x y h = ap (λ k. is_at (nat_cmp k) y) (number_exact m x h)
-
-pub turned : (m n : ℕ) → is_at (nat_cmp m) n ≡ is_at (nat_cmp n) m
-turned m n = go (is_at (nat_cmp m) n) (is_at (nat_cmp n) m) refl refl
-  where
-    go : (a b : Bool) → is_at (nat_cmp m) n ≡ a → is_at (nat_cmp n) m ≡ b → a ≡ b
-    go true true p q = refl
-    go false false p q = refl
-    go true false p q =
-        let same : m ≡ n = number_exact m n p in
-        let yes : is_at (nat_cmp n) n ≡ true = subst (λ k. is_at (nat_cmp k) n ≡ true) same p in
-        let no : is_at (nat_cmp n) n ≡ false = subst (λ k. is_at (nat_cmp n) k ≡ false) same q in
-        sym yes ∙ no
-    go false true p q =
-        let same : n ≡ m = number_exact n m q in
-        let yes : is_at (nat_cmp m) m ≡ true = subst (λ k. is_at (nat_cmp k) m ≡ true) same q in
-        let no : is_at (nat_cmp m) m ≡ false = subst (λ k. is_at (nat_cmp m) k ≡ false) same p in
-        sym no ∙ yes
+use Rattle.tl_desk.specs.Core.{AreAttached, AreKnown}
+use Rattle.tl_desk.specs.Steps.{boxes_after, without_tally, KeepsBoxes}
+use Rattle.tl_desk.specs.Tickets.{ticket_away}
+use Rattle.tl_desk.proofs.BoxLemmas.{IsPlaced, nat_exact, number_self, number_apart_back, same_number, set_placed, tuned_placed, place_detached, detached_placed, attached_placed, place_here, taken_placed}
 
 -- ---- what stands behind an entry of monitors that comes
 
-watch_put : (n m : ℕ) (w : Option Watch) (monitors : List (ℕ × Option Watch)) → watch_at n (insert_entry nat_cmp monitors m w) ≡ cond (is_at (nat_cmp n) m) w (watch_at n monitors)
-watch_put n m w monitors =
-    ap (λ found. option_map_or (λ x. x) found None) (lookup_put nat_cmp nat_cmp_total nat_exact n m w monitors)
-    ∙ elim (is_at (nat_cmp n) m) as (λ b. option_map_or (λ x. x) (cond b (Some w) (lookup (is_at (nat_cmp n)) monitors)) None ≡ cond b w (watch_at n monitors)) [ true ↦ refl | false ↦ refl ]
+found_put : (n m : ℕ) (w : Option Watch) (monitors : List (ℕ × Option Watch)) → lookup (is_at (nat_cmp n)) (insert_entry nat_cmp monitors m w) ≡ cond (is_at (nat_cmp n) m) (Some w) (lookup (is_at (nat_cmp n)) monitors)
+found_put n m w monitors = lookup_put nat_cmp nat_cmp_total nat_exact n m w monitors
 
-abbrev watch_of : Held → Watch
-watch_of h = h.watch
+pub put_here : (m : ℕ) (w : Option Watch) (monitors : List (ℕ × Option Watch)) → watch_at m (insert_entry nat_cmp monitors m w) ≡ w
+put_here m w monitors = ap (λ o. option_map_or (λ x. x) o None) (found_put m m w monitors ∙ ap (λ b. cond b (Some w) (lookup (is_at (nat_cmp m)) monitors)) (number_self m))
 
-watch_of_cond : (b : Bool) (h : Held) (o : Option Held) → option_map watch_of (cond b (Some h) o) ≡ cond b (Some h.watch) (option_map watch_of o)
-watch_of_cond true h o = refl
-watch_of_cond false h o = refl
+put_other : (m n : ℕ) (w : Option Watch) (monitors : List (ℕ × Option Watch)) → (m ≡ n → ⊥) → watch_at n (insert_entry nat_cmp monitors m w) ≡ watch_at n monitors
+put_other m n w monitors apart = ap (λ o. option_map_or (λ x. x) o None) (found_put n m w monitors ∙ ap (λ b. cond b (Some w) (lookup (is_at (nat_cmp n)) monitors)) (number_apart_back m n apart))
+
+was_put : (m n : ℕ) (w : Option Watch) (monitors : List (ℕ × Option Watch)) → was_attached n monitors ≡ true → was_attached n (insert_entry nat_cmp monitors m w) ≡ true
+was_put m n w monitors was = ap is_some (found_put n m w monitors) ∙ elim (is_at (nat_cmp n) m) as (λ b. is_some (cond b (Some w) (lookup (is_at (nat_cmp n)) monitors)) ≡ true) [ true ↦ refl | false ↦ was ]
+
+pub is_put : (m : ℕ) (w : Option Watch) (monitors : List (ℕ × Option Watch)) → was_attached m (insert_entry nat_cmp monitors m w) ≡ true
+is_put m w monitors = ap is_some (found_put m m w monitors ∙ ap (λ b. cond b (Some w) (lookup (is_at (nat_cmp m)) monitors)) (number_self m))
+
+-- ---- what follows where one place is another
+
+-- the ticket of a place
+abbrev pub ticket_of : Option Place → Option ℕ
+ticket_of p = option_map (λ (a : Away). a.ticket) (option_and_then away_of p)
+
+-- The monitors are those that are attached, and as many as before are out, under the same tickets.
+pub record Keeps (after : InputData) (old new : BoxesData) : Type 0 where
+  pub attached : AreAttached after new
+  pub known : AreKnown after new
+  pub tickets : (n : ℕ) → ticket_away n new ≡ ticket_away n old
+
+module _ (m : ℕ) (p : Option Place) (old new : BoxesData) (is : IsPlaced m p old new) where
+  pub attached_by : (now after : InputData) → AreAttached now old → option_and_then watch_of_place p ≡ watch_at m after.monitors
+      → ((n : ℕ) → (m ≡ n → ⊥) → watch_at n after.monitors ≡ watch_at n now.monitors) → AreAttached after new
+  attached_by now after are here others n = elim (same_number m n) [
+    | inl same ↦ subst (λ k. attached_watch k new ≡ watch_at k after.monitors) same (ap (λ o. option_and_then watch_of_place o) is.here ∙ here)
+    | inr apart ↦ ap (λ o. option_and_then watch_of_place o) (is.others n apart) ∙ are n ∙ sym (others n apart)
+  ]
+
+  pub known_by : (now after : InputData) → AreKnown now old → ((n : ℕ) → was_attached n now.monitors ≡ true → was_attached n after.monitors ≡ true)
+      → (is_some p ≡ true → (was_attached m after.monitors ≡ true) × (m < 4294967296)) → AreKnown after new
+  known_by now after known more here n there = elim (same_number m n) [
+    | inl same ↦ subst (λ k. (was_attached k after.monitors ≡ true) × (k < 4294967296)) same (here (sym (ap is_some is.here) ∙ ap (λ k. is_some (place_at k new.slots)) same ∙ there))
+    | inr apart ↦ (let was = known n (sym (ap is_some (is.others n apart)) ∙ there) in (more n was.0, was.1))
+  ]
+
+  pub tickets_by : ticket_of p ≡ ticket_away m old → (n : ℕ) → ticket_away n new ≡ ticket_away n old
+  tickets_by here n = elim (same_number m n) [
+    | inl same ↦ subst (λ k. ticket_away k new ≡ ticket_away k old) same (ap ticket_of is.here ∙ here)
+    | inr apart ↦ ap ticket_of (is.others n apart)
+  ]
+
+  pub ticket_here : ticket_away m new ≡ ticket_of p
+  ticket_here = ap ticket_of is.here
+
+  pub ticket_other : (n : ℕ) → (m ≡ n → ⊥) → ticket_away n new ≡ ticket_away n old
+  ticket_other n apart = ap ticket_of (is.others n apart)
+
+-- ---- one monitor
 
 -- A monitor comes.
-pub attached_more : (now : InputData) (live : List (ℕ × Held)) (m : ℕ) (h : Held) (w : Watch) → h.watch ≡ w → AreAttached now live → AreAttached (changed now (attach m w)) (insert_entry nat_cmp live m h)
-attached_more now live m h w same are n =
-    ap (option_map watch_of) (lookup_put nat_cmp nat_cmp_total nat_exact n m h live)
-    ∙ watch_of_cond (is_at (nat_cmp n) m) h (held_at n live)
-    ∙ ap (λ x. cond (is_at (nat_cmp n) m) (Some x) (option_map watch_of (held_at n live))) same
-    ∙ ap (λ o. cond (is_at (nat_cmp n) m) (Some w) o) (are n)
-    ∙ sym (watch_put n m (Some w) now.monitors)
-
--- A monitor goes.
-gone : (now : InputData) (boxes : BoxesData) (m number : ℕ) → IsStrictlySortedBy nat_cmp (keys_of boxes.live) → AreAttached now boxes.live → AreAttached (with_monitor now m None) (ended_at m number boxes).live
-gone now boxes m number order are n = go (held_at m boxes.live) refl ∙ sym (watch_put n m None now.monitors)
+pub attached_more : (now : InputData) (old new : BoxesData) (m : ℕ) (h : Held) (w : Watch) → h.watch ≡ w → m < 4294967296 → place_at m old.slots ≡ None → new ≡ attached_at m h old → AreAttached now old → AreKnown now old
+    → Keeps (changed now (attach m w)) old new
+attached_more now old new m h w same few none comes are known = record {
+  attached = attached_by m (Some (Here h)) old new is now after are (ap Some same ∙ sym (put_here m (Some w) now.monitors)) (λ n apart. put_other m n (Some w) now.monitors apart);
+  known = known_by m (Some (Here h)) old new is now after known (λ n was. was_put m n (Some w) now.monitors was) (λ _. (is_put m (Some w) now.monitors, few));
+  tickets = tickets_by m (Some (Here h)) old new is (sym (ap ticket_of none));
+}
   where
-    at_none : (b : Bool) → is_at (nat_cmp n) m ≡ b → held_at m boxes.live ≡ None → option_map watch_of (held_at n boxes.live) ≡ cond b None (watch_at n now.monitors)
-    at_none true t none = ap (option_map watch_of) (ap (λ k. held_at k boxes.live) (number_exact n m t) ∙ none)
-    at_none false t none = are n
+    after : InputData
+    after = changed now (attach m w)
 
-    at_some : (b : Bool) → option_map watch_of (cond b None (held_at n boxes.live)) ≡ cond b None (watch_at n now.monitors)
-    at_some true = refl
-    at_some false = are n
+    is : IsPlaced m (Some (Here h)) old new
+    is = attached_placed m h old new comes
 
-    go : (found : Option Held) → held_at m boxes.live ≡ found → option_map watch_of (held_at n (option_map_or (λ (h : Held). record { live = remove_entry (is_at (nat_cmp m)) boxes.live; ended = boxes.ended ++ (m, told h number) ∷ [] }) found boxes).live)
-        ≡ cond (is_at (nat_cmp n) m) None (watch_at n now.monitors)
-    go None none = at_none (is_at (nat_cmp n) m) refl none
-    go (Some h) some =
-        ap (option_map watch_of) (lookup-remove_entry number_equivalence (is_at (nat_cmp m)) (same_test m) n boxes.live (IsDistinct-from_sorted nat_cmp (keys_of boxes.live) order))
-        ∙ ap (λ b. option_map watch_of (cond b None (held_at n boxes.live))) (turned m n)
-        ∙ at_some (is_at (nat_cmp n) m)
-
--- A monitor has another limit.
-tuned : (now : InputData) (live : List (ℕ × Held)) (m limit : ℕ) → AreAttached now live → AreAttached (with_monitor now m (option_map (λ w. retuned w limit) (watch_at m now.monitors))) (retuned_at m limit live)
-tuned now live m limit are n = go (held_at m live) refl ∙ sym (watch_put n m (option_map (λ w. retuned w limit) (watch_at m now.monitors)) now.monitors)
+-- A monitor goes, or is to go.
+gone : (now : InputData) (old : BoxesData) (m edit : ℕ) → IsStrictlySortedBy nat_cmp (keys_of old.slots) → AreAttached now old → AreKnown now old → Keeps (with_monitor now m None) old (detached_at m edit old)
+gone now old m edit order are known = record {
+  attached = attached_by m p old (detached_at m edit old) is now (with_monitor now m None) are (unwatched (place_at m old.slots) ∙ sym (put_here m None now.monitors)) (λ n apart. put_other m n None now.monitors apart);
+  known = known_by m p old (detached_at m edit old) is now (with_monitor now m None) known (λ n was. was_put m n None now.monitors was)
+      (λ some. (let was = known m (there (place_at m old.slots) some) in (was_put m m None now.monitors was.0, was.1)));
+  tickets = tickets_by m p old (detached_at m edit old) is (ticketed (place_at m old.slots));
+}
   where
-    mine : (found : Option Held) → held_at m live ≡ found → option_map (λ w. retuned w limit) (watch_at m now.monitors) ≡ option_map (λ (h : Held). retuned h.watch limit) found
-    mine None none = ap (option_map (λ w. retuned w limit)) (sym (are m) ∙ ap (option_map watch_of) none)
-    mine (Some h) some = ap (option_map (λ w. retuned w limit)) (sym (are m) ∙ ap (option_map watch_of) some)
+    p : Option Place
+    p = place_detached edit (place_at m old.slots)
 
-    at_none : (b : Bool) → is_at (nat_cmp n) m ≡ b → held_at m live ≡ None → option_map watch_of (held_at n live) ≡ cond b None (watch_at n now.monitors)
-    at_none true t none = ap (option_map watch_of) (ap (λ k. held_at k live) (number_exact n m t) ∙ none)
-    at_none false t none = are n
+    is : IsPlaced m p old (detached_at m edit old)
+    is = detached_placed m edit old (detached_at m edit old) order refl
 
-    go : (found : Option Held) → held_at m live ≡ found → option_map watch_of (held_at n (option_map_or (λ (h : Held). set_value (is_at (nat_cmp m)) live (record h { watch = retuned h.watch limit })) found live))
-        ≡ cond (is_at (nat_cmp n) m) (option_map (λ w. retuned w limit) (watch_at m now.monitors)) (watch_at n now.monitors)
-    go None none = at_none (is_at (nat_cmp n) m) refl none ∙ ap (λ o. cond (is_at (nat_cmp n) m) o (watch_at n now.monitors)) (sym (mine None none))
-    go (Some h) some =
-        let there : IsSome (lookup (is_at (nat_cmp m)) live) = subst IsSome (sym some) refl in
-        ap (option_map watch_of) (lookup-set_value number_equivalence (is_at (nat_cmp m)) (same_test m) n (record h { watch = retuned h.watch limit }) live there)
-        ∙ ap (λ b. option_map watch_of (cond b (Some (record h { watch = retuned h.watch limit })) (held_at n live))) (turned m n)
-        ∙ watch_of_cond (is_at (nat_cmp n) m) (record h { watch = retuned h.watch limit }) (held_at n live)
-        ∙ ap (λ o. cond (is_at (nat_cmp n) m) (Some (retuned h.watch limit)) o) (are n)
-        ∙ ap (λ o. cond (is_at (nat_cmp n) m) o (watch_at n now.monitors)) (sym (mine (Some h) some))
+    unwatched : (q : Option Place) → option_and_then watch_of_place (place_detached edit q) ≡ None
+    unwatched None = refl
+    unwatched (Some (Here h)) = refl
+    unwatched (Some (Out a)) = refl
+
+    there : (q : Option Place) → is_some (place_detached edit q) ≡ true → is_some q ≡ true
+    there None h = h
+    there (Some q) h = refl
+
+    ticketed : (q : Option Place) → ticket_of (place_detached edit q) ≡ ticket_of q
+    ticketed None = refl
+    ticketed (Some (Here h)) = refl
+    ticketed (Some (Out a)) = refl
+
+-- A monitor has another limit, or is to have it.
+tuned : (now : InputData) (old : BoxesData) (m limit : ℕ) → AreAttached now old → AreKnown now old → Keeps (with_monitor now m (option_map (λ w. retuned w limit) (watch_at m now.monitors))) old (retuned_at m limit old)
+tuned now old m limit are known = record {
+  attached = attached_by m p old (retuned_at m limit old) is now after are
+      (watched (place_at m old.slots) ∙ ap (option_map (λ w. retuned w limit)) (are m) ∙ sym (put_here m w now.monitors)) (λ n apart. put_other m n w now.monitors apart);
+  known = known_by m p old (retuned_at m limit old) is now after known (λ n was. was_put m n w now.monitors was)
+      (λ some. (let was = known m (there (place_at m old.slots) some) in (was_put m m w now.monitors was.0, was.1)));
+  tickets = tickets_by m p old (retuned_at m limit old) is (ticketed (place_at m old.slots));
+}
+  where
+    w : Option Watch
+    w = option_map (λ w. retuned w limit) (watch_at m now.monitors)
+
+    after : InputData
+    after = with_monitor now m w
+
+    p : Option Place
+    p = option_map (place_tuned limit) (place_at m old.slots)
+
+    is : IsPlaced m p old (retuned_at m limit old)
+    is = tuned_placed m limit old (retuned_at m limit old) refl
+
+    watched : (q : Option Place) → option_and_then watch_of_place (option_map (place_tuned limit) q) ≡ option_map (λ w. retuned w limit) (option_and_then watch_of_place q)
+    watched None = refl
+    watched (Some (Here h)) = refl
+    watched (Some (Out a)) = elim a.closing as (λ c. watch_unless_closing (retuned a.watch limit) c ≡ option_map (λ w. retuned w limit) (watch_unless_closing a.watch c)) [ None ↦ refl | Some e ↦ refl ]
+
+    there : (q : Option Place) → is_some (option_map (place_tuned limit) q) ≡ true → is_some q ≡ true
+    there None h = h
+    there (Some q) h = refl
+
+    ticketed : (q : Option Place) → ticket_of (option_map (place_tuned limit) q) ≡ ticket_of q
+    ticketed None = refl
+    ticketed (Some (Here h)) = refl
+    ticketed (Some (Out a)) = refl
 
 -- ---- all changes
 
@@ -138,106 +177,146 @@ kept_by_fragments now name edit = elim (number_of_name now.topo.links name) as (
 kept_by_regions : (now : InputData) (name : List ℕ) (edit : List (ℕ × Area) → List (ℕ × Area)) → (with_regions now name edit).monitors ≡ now.monitors
 kept_by_regions now name edit = elim (number_of_name now.topo.managers name) as (λ o. (option_map_or (λ n. record now { regions = slice_set now.regions n (edit (regions_at n now.regions)) }) o now).monitors ≡ now.monitors) [ None ↦ refl | Some n ↦ refl ]
 
-still : (now after : InputData) (live : List (ℕ × Held)) → after.monitors ≡ now.monitors → AreAttached now live → AreAttached after live
-still now after live same are n = are n ∙ ap (watch_at n) (sym same)
+still : (now after : InputData) (old : BoxesData) → after.monitors ≡ now.monitors → AreAttached now old → AreKnown now old → Keeps after old old
+still now after old same are known = record {
+  attached = λ n. are n ∙ ap (watch_at n) (sym same);
+  known = λ n there. (let was = known n there in (ap (was_attached n) same ∙ was.0, was.1));
+  tickets = λ n. refl;
+}
+
+-- Who was attached was so behind a change.
+pub was_more : (now : InputData) (c : Change) (n : ℕ) → was_attached n now.monitors ≡ true → was_attached n (changed now (plain_change c)).monitors ≡ true
+was_more now (change.Add f) n was = ap (was_attached n) (kept_by_fragments now (arc_value f).link (λ link fs. put_in (recorded link (arc_value f)) fs)) ∙ was
+was_more now (change.Replace f) n was = ap (was_attached n) (kept_by_fragments now (arc_value f).link (λ link fs. put_in (recorded link (arc_value f)) (without link (arc_value f).number fs))) ∙ was
+was_more now (change.Withdraw name k) n was = ap (was_attached n) (kept_by_fragments now name (λ link fs. without link k fs)) ∙ was
+was_more now (change.ClearLink name) n was = ap (was_attached n) (kept_by_fragments now name cleared) ∙ was
+was_more now (change.SetRegion name k area) n was = ap (was_attached n) (kept_by_regions now name (put_area k area)) ∙ was
+was_more now (change.RemoveRegion name k) n was = ap (was_attached n) (kept_by_regions now name (without_area k)) ∙ was
+was_more now (change.Retune m limit) n was = was_put m n (option_map (λ w. retuned w limit) (watch_at m now.monitors)) now.monitors was
+was_more now (change.Detach m) n was = was_put m n None now.monitors was
+
+pub was_attached_more : (now : InputData) (m : ℕ) (w : Watch) (n : ℕ) → was_attached n now.monitors ≡ true → was_attached n (changed now (attach m w)).monitors ≡ true
+was_attached_more now m w n was = was_put m n (Some w) now.monitors was
 
 -- Behind a change the monitors are those that are attached, where it reached them.
-pub attached_after : (now : InputData) (c : Change) (number : ℕ) (boxes : BoxesData) → IsStrictlySortedBy nat_cmp (keys_of boxes.live) → AreAttached now boxes.live
-    → AreAttached (changed now (plain_change c)) (boxes_after (plain_change c) number boxes).live
-attached_after now (change.Add f) number boxes order are = still now (changed now (plain_change (change.Add f))) boxes.live (kept_by_fragments now (arc_value f).link (λ link fs. put_in (recorded link (arc_value f)) fs)) are
-attached_after now (change.Replace f) number boxes order are = still now (changed now (plain_change (change.Replace f))) boxes.live (kept_by_fragments now (arc_value f).link (λ link fs. put_in (recorded link (arc_value f)) (without link (arc_value f).number fs))) are
-attached_after now (change.Withdraw name n) number boxes order are = still now (changed now (plain_change (change.Withdraw name n))) boxes.live (kept_by_fragments now name (λ link fs. without link n fs)) are
-attached_after now (change.ClearLink name) number boxes order are = still now (changed now (plain_change (change.ClearLink name))) boxes.live (kept_by_fragments now name cleared) are
-attached_after now (change.SetRegion name n area) number boxes order are = still now (changed now (plain_change (change.SetRegion name n area))) boxes.live (kept_by_regions now name (put_area n area)) are
-attached_after now (change.RemoveRegion name n) number boxes order are = still now (changed now (plain_change (change.RemoveRegion name n))) boxes.live (kept_by_regions now name (without_area n)) are
-attached_after now (change.Retune m limit) number boxes order are = tuned now boxes.live m limit are
-attached_after now (change.Detach m) number boxes order are = gone now boxes m number order are
+pub attached_after : (now : InputData) (c : Change) (number : ℕ) (old : BoxesData) → IsStrictlySortedBy nat_cmp (keys_of old.slots) → AreAttached now old → AreKnown now old
+    → Keeps (changed now (plain_change c)) old (boxes_after (plain_change c) number old)
+attached_after now (change.Add f) number old order are known = still now (changed now (plain_change (change.Add f))) old (kept_by_fragments now (arc_value f).link (λ link fs. put_in (recorded link (arc_value f)) fs)) are known
+attached_after now (change.Replace f) number old order are known = still now (changed now (plain_change (change.Replace f))) old (kept_by_fragments now (arc_value f).link (λ link fs. put_in (recorded link (arc_value f)) (without link (arc_value f).number fs))) are known
+attached_after now (change.Withdraw name n) number old order are known = still now (changed now (plain_change (change.Withdraw name n))) old (kept_by_fragments now name (λ link fs. without link n fs)) are known
+attached_after now (change.ClearLink name) number old order are known = still now (changed now (plain_change (change.ClearLink name))) old (kept_by_fragments now name cleared) are known
+attached_after now (change.SetRegion name n area) number old order are known = still now (changed now (plain_change (change.SetRegion name n area))) old (kept_by_regions now name (put_area n area)) are known
+attached_after now (change.RemoveRegion name n) number old order are known = still now (changed now (plain_change (change.RemoveRegion name n))) old (kept_by_regions now name (without_area n)) are known
+attached_after now (change.Retune m limit) number old order are known = tuned now old m limit are known
+attached_after now (change.Detach m) number old order are known = gone now old m number order are known
 
 -- ---- a monitor that comes and goes again
 
-pub put_and_taken : {V : Type 0} (m : ℕ) (v : V) (es : List (ℕ × V)) → lookup (is_at (nat_cmp m)) es ≡ None → remove_entry (is_at (nat_cmp m)) (insert_entry nat_cmp es m v) ≡ es
-put_and_taken {V} m v [] none = ap (λ b. cond b [] ((m, v) ∷ [])) here
+-- The one that came is here.
+pub put_found : (old put : BoxesData) (m : ℕ) (h : Held) → put ≡ attached_at m h old → held_at m put.slots ≡ Some h
+put_found old put m h comes = ap (λ o. option_and_then held_of o) (attached_placed m h old put comes).here
+
+-- A number that nothing refuses to attach was never a monitor's.
+pub attach_fresh : (edits : ℕ) (now : InputData) (m : ℕ) (w : Watch) → refusal edits now (attach m w) ≡ None → was_attached m now.monitors ≡ false
+attach_fresh edits now m w none = unknown (lookup (is_at (nat_cmp m)) now.monitors) refl (number_of_name now.topo.links (link_of w)) none
   where
-    here : is_at (nat_cmp m) m ≡ true
-    here = grind (arith, nat_tests)
-put_and_taken {V} m v (e ∷ es) none = go (put_and_taken m v es) (nat_cmp m e.0) refl none
-  where
-    here : is_at (nat_cmp m) m ≡ true
-    here = grind (arith, nat_tests)
-
-    go : (lookup (is_at (nat_cmp m)) es ≡ None → remove_entry (is_at (nat_cmp m)) (insert_entry nat_cmp es m v) ≡ es) → (o : Ordering) → nat_cmp m e.0 ≡ o → cond (is_at (nat_cmp m) e.0) (Some e.1) (lookup (is_at (nat_cmp m)) es) ≡ None
-        → remove_entry (is_at (nat_cmp m)) (match_ordering o ((m, v) ∷ e ∷ es) ((e.0, v) ∷ es) (e ∷ insert_entry nat_cmp es m v)) ≡ e ∷ es
-    go later Less is g = ap (λ b. cond b (e ∷ es) ((m, v) ∷ remove_entry (is_at (nat_cmp m)) (e ∷ es))) here
-    go later Equal is g = absurd (let never : Some e.1 ≡ None = sym (ap (λ o. cond (is_eq o) (Some e.1) (lookup (is_at (nat_cmp m)) es)) is) ∙ g in cc)
-    go later Greater is g =
-        let rest : lookup (is_at (nat_cmp m)) es ≡ None = sym (ap (λ o. cond (is_eq o) (Some e.1) (lookup (is_at (nat_cmp m)) es)) is) ∙ g in
-        ap (λ o. cond (is_eq o) (insert_entry nat_cmp es m v) (e ∷ remove_entry (is_at (nat_cmp m)) (insert_entry nat_cmp es m v))) is ∙ ap (λ t. e ∷ t) (later rest)
-
-pub put_found : {V : Type 0} (m : ℕ) (v : V) (es : List (ℕ × V)) → lookup (is_at (nat_cmp m)) (insert_entry nat_cmp es m v) ≡ Some v
-put_found m v es =
-    let here : is_at (nat_cmp m) m ≡ true = grind (arith, nat_tests) in
-    lookup_put nat_cmp nat_cmp_total nat_exact m m v es ∙ ap (λ b. cond b (Some v) (lookup (is_at (nat_cmp m)) es)) here
-
--- A number that nothing refuses to attach is no monitor's.
-pub not_held : (edits : ℕ) (now : InputData) (live : List (ℕ × Held)) (m : ℕ) (w : Watch) → AreAttached now live → refusal edits now (attach m w) ≡ None → held_at m live ≡ None
-not_held edits now live m w are none = unheld (held_at m live) (are m ∙ unwatched (lookup (is_at (nat_cmp m)) now.monitors) refl (number_of_name now.topo.links (link_of w)) none)
-  where
-    unheld : (found : Option Held) → option_map watch_of found ≡ None → found ≡ None
-    unheld None h = refl
-    unheld (Some h) g = cc
-
-    unwatched : (found : Option (Option Watch)) → lookup (is_at (nat_cmp m)) now.monitors ≡ found → (link : Option ℕ)
+    unknown : (found : Option (Option Watch)) → lookup (is_at (nat_cmp m)) now.monitors ≡ found → (link : Option ℕ)
         → option_map_or (λ why. Some why) (option_map_or (λ link. if is_some found then Some fault.MonitorExists else None) link (Some fault.UnknownLink)) (if nat_le most_edits edits then Some fault.LogFull else None) ≡ None
-        → option_map_or (λ x. x) (lookup (is_at (nat_cmp m)) now.monitors) None ≡ None
-    unwatched None is link h = ap (λ o. option_map_or (λ x. x) o None) is
-    unwatched (Some o) is None h = cc
-    unwatched (Some o) is (Some link) h = cc
+        → was_attached m now.monitors ≡ false
+    unknown None is link h = ap is_some is
+    unknown (Some o) is None h = cc
+    unknown (Some o) is (Some link) h = cc
+
+-- So it has no place.
+pub not_held : (edits : ℕ) (now : InputData) (old : BoxesData) (m : ℕ) (w : Watch) → AreKnown now old → refusal edits now (attach m w) ≡ None → place_at m old.slots ≡ None
+not_held edits now old m w known none = go (place_at m old.slots) refl
+  where
+    go : (p : Option Place) → place_at m old.slots ≡ p → place_at m old.slots ≡ None
+    go None at = at
+    go (Some p) at =
+        let was : was_attached m now.monitors ≡ true = (known m (ap is_some at)).0 in
+        let not : was_attached m now.monitors ≡ false = attach_fresh edits now m w none in
+        absurd (let never : true ≡ false = sym was ∙ not in cc)
 
 -- The monitors are as they were where one that came is given back.
-pub given_back : (old put taken : BoxesData) (m : ℕ) (h : Held) → held_at m old.live ≡ None → put ≡ record old { live = insert_entry nat_cmp old.live m h } → taken ≡ record put { live = remove_entry (is_at (nat_cmp m)) put.live } → taken ≡ old
-given_back old put taken m h none comes goes =
-    goes
-    ∙ ap (λ (b : BoxesData). record b { live = remove_entry (is_at (nat_cmp m)) b.live }) comes
-    ∙ ap (λ live. record old { live = live }) (put_and_taken m h old.live none)
+pub given_back : (old put taken : BoxesData) (m : ℕ) (h : Held) → place_at m old.slots ≡ None → put ≡ attached_at m h old → taken ≡ given_back_at m put → taken ≡ old
+given_back old put taken m h none comes goes = goes ∙ ap (given_back_at m) comes ∙ attached_and_back old m h none
 
 -- ---- monitors that keep all but their tallies
 
-pub kept_none : (boxes : BoxesData) → KeepsBoxes boxes boxes
-kept_none boxes = record { ended = refl; live = λ number. refl }
+pub kept_none : (old : BoxesData) → KeepsBoxes old old
+kept_none old = record { ended = refl; places = λ number. refl }
 
 pub kept_both : (one two three : BoxesData) → KeepsBoxes one two → KeepsBoxes two three → KeepsBoxes one three
-kept_both one two three first second = record { ended = second.ended ∙ first.ended; live = λ number. second.live number ∙ first.live number }
+kept_both one two three first second = record { ended = second.ended ∙ first.ended; places = λ number. second.places number ∙ first.places number }
 
 -- One of them was used.
-pub kept_one : (old new : BoxesData) (m : ℕ) (h g : Held) → held_at m old.live ≡ Some h → g.watch ≡ h.watch → g.closed_at ≡ h.closed_at → new ≡ record old { live = set_value (is_at (nat_cmp m)) old.live g } → KeepsBoxes old new
-kept_one old new m h g found watch closed is = record {
-  ended = ap (λ (b : BoxesData). b.ended) is;
-  live = λ n. ap (λ (b : BoxesData). option_map without_tally (held_at n b.live)) is
-      ∙ ap (option_map without_tally) (lookup-set_value number_equivalence (is_at (nat_cmp m)) (same_test m) n g old.live (subst IsSome (sym found) refl))
-      ∙ go n (is_at (nat_cmp m) n) refl;
+pub kept_one : (old new : BoxesData) (m : ℕ) (h g : Held) → place_at m old.slots ≡ Some (Here h) → g.watch ≡ h.watch → g.closed_at ≡ h.closed_at → new.ended ≡ old.ended → IsPlaced m (Some (Here g)) old new → KeepsBoxes old new
+kept_one old new m h g at watch closed ended is = record {
+  ended = ended;
+  places = λ n. elim (same_number m n) [
+    | inl here ↦ subst (λ k. option_map without_tally (place_at k new.slots) ≡ option_map without_tally (place_at k old.slots)) here (ap (option_map without_tally) is.here ∙ ap (λ x. Some (Here x)) same ∙ sym (ap (option_map without_tally) at))
+    | inr apart ↦ ap (option_map without_tally) (is.others n apart)
+  ];
 }
   where
-    same : without_tally g ≡ without_tally h
-    same = ap (λ w. (w, g.closed_at)) watch ∙ ap (λ e. (h.watch, e)) closed
+    same : record g { tally = 0 } ≡ record h { tally = 0 }
+    same = ap (λ w. record { watch = w; tally = 0; closed_at = g.closed_at }) watch ∙ ap (λ e. record { watch = h.watch; tally = 0; closed_at = e }) closed
 
-    go : (n : ℕ) (b : Bool) → is_at (nat_cmp m) n ≡ b → option_map without_tally (cond b (Some g) (held_at n old.live)) ≡ option_map without_tally (held_at n old.live)
-    go n true t = ap Some same ∙ sym (ap (λ k. option_map without_tally (held_at k old.live)) (sym (number_exact m n t)) ∙ ap (option_map without_tally) found)
-    go n false t = refl
-
-watches_kept : (one two : Option Held) → option_map without_tally two ≡ option_map without_tally one → option_map watch_of two ≡ option_map watch_of one
-watches_kept None None h = refl
-watches_kept None (Some x) h = cc
-watches_kept (Some x) None h = cc
-watches_kept (Some x) (Some y) h = let both : without_tally y ≡ without_tally x = cc in ap (λ (p : Watch × ℕ). Some p.0) both
-
--- They are attached as before.
-pub still_attached : (now : InputData) (old new : BoxesData) → KeepsBoxes old new → AreAttached now old.live → AreAttached now new.live
-still_attached now old new keeps are n = watches_kept (held_at n old.live) (held_at n new.live) (keeps.live n) ∙ are n
-
--- A monitor that is attached is here, with its watch.
-pub here : (now : InputData) (live : List (ℕ × Held)) (m : ℕ) → AreAttached now live → is_some (watch_at m now.monitors) ≡ true → (h : Held) × (held_at m live ≡ Some h) × (watch_at m now.monitors ≡ Some h.watch)
-here now live m are some = go (held_at m live) refl (are m)
+-- They are attached, known and out as before.
+pub still_attached : (now : InputData) (old new : BoxesData) → KeepsBoxes old new → AreAttached now old → AreKnown now old → Keeps now old new
+still_attached now old new keeps are known = record {
+  attached = λ n. sym (watched (place_at n new.slots)) ∙ ap (λ o. option_and_then watch_of_place o) (keeps.places n) ∙ watched (place_at n old.slots) ∙ are n;
+  known = λ n there. known n (sym (some (place_at n old.slots)) ∙ sym (ap is_some (keeps.places n)) ∙ some (place_at n new.slots) ∙ there);
+  tickets = λ n. sym (ticketed (place_at n new.slots)) ∙ ap ticket_of (keeps.places n) ∙ ticketed (place_at n old.slots);
+}
   where
-    go : (found : Option Held) → held_at m live ≡ found → option_map watch_of found ≡ watch_at m now.monitors → (h : Held) × (held_at m live ≡ Some h) × (watch_at m now.monitors ≡ Some h.watch)
-    go None at same = absurd (let never : false ≡ true = ap is_some same ∙ some in cc)
-    go (Some h) at same = (h, at, sym same)
+    watched : (p : Option Place) → option_and_then watch_of_place (option_map without_tally p) ≡ option_and_then watch_of_place p
+    watched None = refl
+    watched (Some (Here h)) = refl
+    watched (Some (Out a)) = refl
+
+    some : (p : Option Place) → is_some (option_map without_tally p) ≡ is_some p
+    some None = refl
+    some (Some p) = refl
+
+    ticketed : (p : Option Place) → ticket_of (option_map without_tally p) ≡ ticket_of p
+    ticketed None = refl
+    ticketed (Some (Here h)) = refl
+    ticketed (Some (Out a)) = refl
+
+-- A monitor that is attached is here or out.
+pub here_or_out : (now : InputData) (old : BoxesData) (m : ℕ) → AreAttached now old → is_some (watch_at m now.monitors) ≡ true → (is_some (away_at m old.slots) ≡ true → ⊥) → (h : Held) × (place_at m old.slots ≡ Some (Here h)) × (watch_at m now.monitors ≡ Some h.watch)
+here_or_out now old m are some not = go (place_at m old.slots) refl
+  where
+    go : (p : Option Place) → place_at m old.slots ≡ p → (h : Held) × (place_at m old.slots ≡ Some (Here h)) × (watch_at m now.monitors ≡ Some h.watch)
+    go None at = absurd (let never : false ≡ true = sym (ap (λ o. is_some (option_and_then watch_of_place o)) at) ∙ ap is_some (are m) ∙ some in cc)
+    go (Some (Here h)) at = (h, at, sym (are m) ∙ ap (λ o. option_and_then watch_of_place o) at)
+    go (Some (Out a)) at = absurd (not (ap (λ o. is_some (option_and_then away_of o)) at))
+
+-- ---- a monitor that is lent for a check, and put back
+
+module _ (m : ℕ) (h g : Held) (old mid : BoxesData) (here : held_at m old.slots ≡ Some h) (goes : mid ≡ taken_at m 0 old) (watch : g.watch ≡ h.watch) where
+  lent : IsPlaced m (Some (Out (leaving 0 h))) old mid
+  lent = taken_placed m 0 h old mid here goes
+
+  pub lent_place : away_at m mid.slots ≡ Some (leaving 0 g)
+  lent_place = ap (λ o. option_and_then away_of o) lent.here ∙ ap (λ w. Some (record { ticket = 0; taken = w; watch = w; closing = None })) (sym watch)
+
+  pub lent_kept : (new : BoxesData) → g.closed_at ≡ h.closed_at → new ≡ placed_at m (Here g) mid → KeepsBoxes old new
+  lent_kept new closed comes =
+      kept_one old new m h g (place_here (place_at m old.slots) h here) watch closed
+      (ap (λ (b : BoxesData). b.ended) comes ∙ ap (λ (b : BoxesData). b.ended) goes ∙ ap (λ o. (option_map_or (λ x. placed_at m (Out (leaving 0 x)) old) o old).ended) here)
+      (record { here = put.here; others = λ n apart. put.others n apart ∙ lent.others n apart })
+    where
+      put : IsPlaced m (Some (Here g)) mid new
+      put = set_placed m (Out (leaving 0 h)) (Here g) mid new lent.here comes
+
+-- Those that are out are out as before.
+pub still_out : (old new : BoxesData) → KeepsBoxes old new → (n : ℕ) → is_some (away_at n new.slots) ≡ is_some (away_at n old.slots)
+still_out old new keeps n = sym (out (place_at n new.slots)) ∙ ap (λ o. is_some (option_and_then away_of o)) (keeps.places n) ∙ out (place_at n old.slots)
+  where
+    out : (p : Option Place) → is_some (option_and_then away_of (option_map without_tally p)) ≡ is_some (option_and_then away_of p)
+    out None = refl
+    out (Some (Here h)) = refl
+    out (Some (Out a)) = refl

@@ -1,7 +1,10 @@
 mod BoxLemmas
+mod FirstLemmas
 mod AttachedLemmas
+mod TicketLemmas
+mod EndLemmas
 mod ReportLemmas
 mod WatchLemmas
-mod TicketLemmas
 mod JobLemmas
+pub mod HereLemmas
 mod PlayLemmas

@@ -9,18 +9,25 @@ use Rattle.std.proofs.Math.Seq.{take-length}
 use Rattle.std.proofs.lemmas.List.{take-append-le, length-append}
 use Rattle.tl_definitions.specs.Report.{IsReport}
 use Rattle.tl_inputs.specs.Edits.{AnEdit}
+use Rattle.tl_inputs.specs.Inputs.{InputData, changed}
 use Rattle.tl_inputs.specs.Log.{LogData, inputs_after}
 use Rattle.tl_plain.specs.Captured.{captures_after}
 use Rattle.tl_span.specs.States.{SameSpan}
 use Rattle.tl_spans.specs.Recheck.{ChecksSome}
+use Rattle.tl_spans.specs.Spans as spans
+use Rattle.tl_spans.proofs.EditLemmas.{stands}
+use Rattle.tl_watches.specs.Edits.{EditsBoth}
 use Rattle.tl_watches.specs.Tally.{SameTally}
 use Rattle.tl_watches.specs.Watches.{WatchesData}
-use Rattle.tl_desk.specs.Boxes.{BoxesData}
+use Rattle.tl_windows.specs.Present.{IsPresent}
+use Rattle.tl_boxes.specs.Boxes.{BoxesData}
 use Rattle.tl_desk.specs.Steps.{KeepsBoxes}
-use Rattle.tl_desk.proofs.AttachedLemmas.{still_attached}
-use Rattle.tl_desk.proofs.TicketLemmas.{tickets_checked}
+use Rattle.tl_desk.specs.Ends.{HaveEnded}
+use Rattle.tl_desk.proofs.AttachedLemmas.{Keeps, still_attached}
+use Rattle.tl_desk.proofs.EndLemmas.{ends_still}
+use Rattle.tl_desk.proofs.TicketLemmas.{tickets_checked, tickets_edited}
 use Rattle.tl_report.specs.Output.{ReportData}
-use Rattle.tl_desk.specs.Core.{Core, AreLinked, IsOf, IsSound, AreAttached, AreVersions, log_of, standing, most_versions}
+use Rattle.tl_desk.specs.Core.{Core, AreLinked, IsOf, IsSound, AreAttached, AreKnown, AreVersions, log_of, standing, most_versions}
 
 still_of : (log : LogData) (e : AnEdit) (report : ReportData) → IsOf log report → IsOf (record log { edits = log.edits ++ e ∷ [] }) report
 still_of log e report is =
@@ -71,21 +78,42 @@ published old report sound version edit rows linked few =
     let longer : length (old.reports ++ report ∷ []) ≡ length old.reports + 1 = length-append old.reports (report ∷ []) in
     record {
       attached = sound.attached;
+      known = sound.known;
       reports = one_more (IsOf (log_of old)) old.reports report sound.reports
           (omega (arith, edit), subst (λ edits. IsReport (captures_after (inputs_after (log_of old).topo edits)) report.rows) (sym whole) rows, linked);
       versions = next_version 1 old.reports report sound.versions (omega (arith, version));
       few = omega (arith, few, longer);
       tickets = sound.tickets;
+      ends = sound.ends;
     }
 
 -- A desk whose log and reports are as they were, whose monitors are the same but for their tallies, and of whose windows some were checked.
 pub sound_still : (old : Core) (windows : WatchesData) (boxes : BoxesData) → IsSound old → windows.spans.log ≡ log_of old → KeepsBoxes old.boxes boxes
     → ChecksSome SameSpan old.windows.spans.board windows.spans.board → ChecksSome SameTally old.windows.board windows.board
     → IsSound (record { windows = windows; boxes = boxes; reports = old.reports; tickets = old.tickets })
-sound_still old windows boxes sound log keeps managers monitors = record {
-  attached = subst (λ (l : LogData). AreAttached (inputs_after l.topo l.edits) boxes.live) (sym log) (still_attached (standing old) old.boxes boxes keeps sound.attached);
-  reports = subst (λ (l : LogData). AllByRecursion (IsOf l) old.reports) (sym log) sound.reports;
-  versions = sound.versions;
-  few = sound.few;
-  tickets = tickets_checked old.windows windows old.tickets log managers monitors sound.tickets;
-}
+sound_still old windows boxes sound log keeps managers monitors =
+    let kept : Keeps (standing old) old.boxes boxes = still_attached (standing old) old.boxes boxes keeps sound.attached sound.known in
+    record {
+      attached = subst (λ (l : LogData). AreAttached (inputs_after l.topo l.edits) boxes) (sym log) kept.attached;
+      known = subst (λ (l : LogData). AreKnown (inputs_after l.topo l.edits) boxes) (sym log) kept.known;
+      reports = subst (λ (l : LogData). AllByRecursion (IsOf l) old.reports) (sym log) sound.reports;
+      versions = sound.versions;
+      few = sound.few;
+      tickets = tickets_checked old.windows windows old.boxes boxes old.tickets log managers monitors kept.tickets sound.tickets;
+      ends = ends_still (log_of old) windows.spans.log old.boxes boxes log keeps sound.ends;
+    }
+
+-- A desk with one edit more.
+pub sound_edited : (old : Core) (e : AnEdit) (windows : WatchesData) (boxes : BoxesData) → IsSound old → EditsBoth old.windows e windows → IsPresent (standing old).fragments → IsPresent (spans.standing windows.spans).fragments
+    → Keeps (changed (standing old) e) old.boxes boxes → HaveEnded windows.spans.log boxes → IsSound (record { windows = windows; boxes = boxes; reports = old.reports; tickets = old.tickets })
+sound_edited old e windows boxes sound edits before after kept ends =
+    let now : spans.standing windows.spans ≡ changed (standing old) e = stands old.windows.spans e windows.spans.log windows.spans.board edits.spans.log in
+    record {
+      attached = subst (λ (i : InputData). AreAttached i boxes) (sym now) kept.attached;
+      known = subst (λ (i : InputData). AreKnown i boxes) (sym now) kept.known;
+      reports = reports_stay (log_of old) windows.spans.log e old.reports edits.spans.log sound.reports;
+      versions = sound.versions;
+      few = sound.few;
+      tickets = tickets_edited old.windows e windows old.boxes boxes old.tickets edits before after kept.tickets sound.tickets;
+      ends = ends;
+    }

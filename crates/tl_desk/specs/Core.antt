@@ -1,13 +1,12 @@
 -- A desk as plain data.
-use Rattle.std.specs.Prelude.{ℕ, zero, suc, ◌≡◌, ◌<◌, ◌≤◌, ◌-◌, List, [], ◌∷◌, length, take, Option, None, slice_get}
-use Rattle.std.specs.Option.{option_map}
+use Rattle.std.specs.Prelude.{ℕ, zero, suc, ◌≡◌, ◌<◌, ◌≤◌, ◌-◌, true, List, [], ◌∷◌, length, take, Option, None, slice_get, is_some}
 use Rattle.std.specs.List.{All, AllByRecursion}
 use Rattle.tl_beats.specs.declared.Row.{Row}
+use Rattle.tl_boxes.specs.Boxes.{BoxesData, place_at, away_at, attached_watch}
 use Rattle.tl_definitions.specs.Report.{IsReport}
 use Rattle.tl_topology.specs.Topology.{Topology}
-use Rattle.tl_inputs.specs.Inputs.{InputData, watch_at}
+use Rattle.tl_inputs.specs.Inputs.{InputData, watch_at, was_attached}
 use Rattle.tl_inputs.specs.Log.{LogData, inputs_after}
-use Rattle.tl_monitor.specs.Held.{Held}
 use Rattle.tl_pieces.specs.Pieces.{IsSettled}
 use Rattle.tl_plain.specs.Captured.{captures_after}
 use Rattle.tl_report.specs.Output.{ReportData}
@@ -16,7 +15,7 @@ use Rattle.tl_span.specs.States.{SameSpan}
 use Rattle.tl_watches.specs.Tally.{SameTally}
 use Rattle.tl_watches.specs.Watches.{WatchesData}
 use Rattle.tl_tickets.specs.Tickets.{TicketsData}
-use Rattle.tl_desk.specs.Boxes.{BoxesData, held_at}
+use Rattle.tl_desk.specs.Ends.{HaveEnded}
 use Rattle.tl_desk.specs.Tickets.{HoldsTickets}
 
 -- The log of edits with the windows, the monitors with what they told, all reports, the oldest first, and the tickets that are out.
@@ -46,22 +45,37 @@ abbrev pub AreVersions : ℕ → List ReportData → Type 0
 AreVersions from [] = Unit {0}
 AreVersions from (report ∷ reports) = (report.version ≡ from) × AreVersions (suc from) reports
 
--- The monitors are those that are attached, each with its watch.
-abbrev pub AreAttached : InputData → List (ℕ × Held) → Type 0
-AreAttached now live = (number : ℕ) → option_map (λ (h : Held). h.watch) (held_at number live) ≡ watch_at number now.monitors
+-- The monitors, here or out, that were not detached are those that are attached, each with its watch.
+abbrev pub AreAttached : InputData → BoxesData → Type 0
+AreAttached now boxes = (number : ℕ) → attached_watch number boxes ≡ watch_at number now.monitors
+
+-- Each monitor, here or out, was attached once, under a number of 32 bits.
+abbrev pub AreKnown : InputData → BoxesData → Type 0
+AreKnown now boxes = (number : ℕ) → is_some (place_at number boxes.slots) ≡ true → (was_attached number now.monitors ≡ true) × (number < 4294967296)
+
+-- Numbers of monitors have 32 bits.
+abbrev pub HaveNumbers : BoxesData → Type 0
+HaveNumbers boxes = (number : ℕ) → is_some (place_at number boxes.slots) ≡ true → number < 4294967296
+
+-- No monitor is out.
+abbrev pub AllHere : BoxesData → Type 0
+AllHere boxes = (number : ℕ) → away_at number boxes.slots ≡ None
 
 -- As many reports as are published in all.
 abbrev pub most_versions : ℕ
 most_versions = 65536
 
--- What every desk keeps: each of its reports is that of its edits, and each live ticket is out for its window, which is since then what
--- it was.
+-- What every desk keeps: its monitors are those that are attached, each of its reports is that of its edits, each live ticket is out for
+-- its window, which is since then what it was, each monitor that is out is so under one ticket that is out, and each that ended told
+-- once what it had just before its end.
 pub record IsSound (core : Core) : Type 0 where
-  pub attached : AreAttached (standing core) core.boxes.live
+  pub attached : AreAttached (standing core) core.boxes
+  pub known : AreKnown (standing core) core.boxes
   pub reports : AllByRecursion (IsOf (log_of core)) core.reports
   pub versions : AreVersions 1 core.reports
   pub few : length core.reports ≤ most_versions
-  pub tickets : HoldsTickets (log_of core) core.windows.spans.board core.windows.board core.tickets
+  pub tickets : HoldsTickets (log_of core) core.windows.spans.board core.windows.board core.boxes core.tickets
+  pub ends : HaveEnded (log_of core) core.boxes
 
 -- the last report, and the one of a version
 abbrev pub latest_of : List ReportData → Option ReportData
@@ -80,6 +94,6 @@ pub record IsNew (topo : Topology) (core : Core) : Type 0 where
   pub log : log_of core ≡ record { topo = topo; edits = [] }
   pub spans : core.windows.spans.board.pieces ≡ []
   pub watches : core.windows.board ≡ record { openings = []; pieces = [] }
-  pub boxes : core.boxes ≡ record { live = []; ended = [] }
+  pub boxes : core.boxes ≡ record { slots = []; ended = [] }
   pub reports : core.reports ≡ []
   pub tickets : core.tickets ≡ record { out = []; last = 0 }

@@ -1,6 +1,6 @@
 pub mod Faults
-pub mod Boxes
 pub mod Tickets
+pub mod Ends
 pub mod Core
 pub mod Jobs
 pub mod Steps

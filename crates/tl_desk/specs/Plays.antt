@@ -7,16 +7,20 @@ use Rattle.tl_inputs.specs.Inputs.{refusal}
 use Rattle.tl_inputs.specs.declared.edit.Change.{Change}
 use Rattle.tl_inputs.specs.declared.fault.EditFault.{EditFault}
 use Rattle.tl_inputs.specs.declared.fault.EditFault.TheVariants as edit_fault
-use Rattle.tl_jobs.specs.Jobs.{JobData, DoneData, IsDone, piece_of}
+use Rattle.tl_jobs.specs.Works as works
+use Rattle.tl_jobs.specs.Works.{ticket_of, window_of, IsChecked, IsDoneFrom, ComesBack}
 use Rattle.tl_jobs.specs.declared.fault.TakeFault.{TakeFault}
 use Rattle.tl_jobs.specs.declared.fault.TakeFault.TheVariants as take_fault
+use Rattle.tl_jobs.specs.declared.job.Job.{Job}
+use Rattle.tl_jobs.specs.declared.job.Done.{Done}
 use Rattle.tl_jobs.specs.declared.job.HandIn.{HandIn}
 use Rattle.tl_jobs.specs.declared.job.HandIn.TheVariants as answer
-use Rattle.tl_tickets.specs.declared.tickets.Taken.{Taken}
-use Rattle.tl_tickets.specs.Tickets.{IsOutFor, most_tickets}
+use Rattle.tl_pieces.specs.Pieces.{IsFirstFree}
+use Rattle.tl_span.specs.States.{SameSpan}
+use Rattle.tl_tickets.specs.Tickets.{most_tickets}
 use Rattle.tl_desk.specs.Core.{Core, AllSettled, most_versions, log_of, standing}
-use Rattle.tl_desk.specs.Jobs.{Gives, HasFree, HandsBack, IsLive}
-use Rattle.tl_desk.specs.Steps.{Step}
+use Rattle.tl_desk.specs.Jobs.{Gives, HasFree, HandsBack, TakesBack, IsFirstFreeWatch, IsOutHere, IsLive}
+use Rattle.tl_desk.specs.Steps.{Step, HandInStep}
 use Rattle.tl_desk.specs.declared.call.Call.TheVariants as call
 use Rattle.tl_desk.specs.declared.fault.PublishFault.{PublishFault}
 use Rattle.tl_desk.specs.declared.fault.PublishFault.TheVariants as publish_fault
@@ -29,30 +33,31 @@ use Rattle.tl_desk.specs.declared.play.Step.TheVariants as step
 
 -- ---- places
 
--- the places with another thing at this one
-abbrev pub with_place : ℕ → Place → List Place → List Place
-with_place at thing places = slice_set places at thing
+module _ {M : Type 0} where
+  -- the places with another thing at this one
+  abbrev pub with_place : ℕ → Place M → List (Place M) → List (Place M)
+  with_place at thing places = slice_set places at thing
 
--- There is no job at the place that wasn't checked, or none that was.
-abbrev pub HasNoJob : ℕ → List Place → Type 0
-HasNoJob at places = (job : JobData) → slice_get places at ≡ Some (place.Job job) → ⊥
+  -- There is no job at the place that wasn't checked, or none that was.
+  abbrev pub HasNoJob : ℕ → List (Place M) → Type 0
+  HasNoJob at places = (job : Job M) → slice_get places at ≡ Some (place.Job job) → ⊥
 
-abbrev pub HasNoDone : ℕ → List Place → Type 0
-HasNoDone at places = (done : DoneData) → slice_get places at ≡ Some (place.Done done) → ⊥
+  abbrev pub HasNoDone : ℕ → List (Place M) → Type 0
+  HasNoDone at places = (done : Done M) → slice_get places at ≡ Some (place.Done done) → ⊥
 
--- the job of a place, checked or not
-abbrev pub job_of : Place → Option JobData
-job_of (place.Job job) = Some job
-job_of (place.Done done) = Some done.job
-job_of place.Empty = None
+  -- the job of a place, checked or not
+  abbrev pub job_of : Place M → Option (Job M)
+  job_of (place.Job job) = Some job
+  job_of (place.Done done) = Some (works.job_of done)
+  job_of place.Empty = None
 
-abbrev pub job_at : ℕ → List Place → Option JobData
-job_at at places = option_and_then job_of (slice_get places at)
+  abbrev pub job_at : ℕ → List (Place M) → Option (Job M)
+  job_at at places = option_and_then job_of (slice_get places at)
 
--- Each job is out under a ticket of its own.
-pub record AreOut (places : List Place) (out : List (ℕ × Taken)) : Type 0 where
-  pub each : (at : ℕ) (job : JobData) → job_at at places ≡ Some job → IsOutFor job.ticket (piece_of job) out
-  pub own : (at other : ℕ) (job same : JobData) → job_at at places ≡ Some job → job_at other places ≡ Some same → job.ticket ≡ same.ticket → at ≡ other
+  -- Each job is one that the desk takes back, under a ticket of its own.
+  pub record AreOut (places : List (Place M)) (core : Core) : Type 0 where
+    pub each : (at : ℕ) (job : Job M) → job_at at places ≡ Some job → IsOutHere core job
+    pub own : (at other : ℕ) (job same : Job M) → job_at at places ≡ Some job → job_at other places ≡ Some same → ticket_of job ≡ ticket_of same → at ≡ other
 
 -- ---- one step
 
@@ -71,42 +76,6 @@ AnswersAttach monitor w old (reply.Edited number) new = Step old (call.Attach mo
 AnswersAttach monitor w old (reply.EditRefused fault) new = IsEditRefusal old (attach monitor w) fault × (new ≡ old)
 AnswersAttach monitor w old _ new = ⊥
 
--- The fault is why no job is given though a window is wanted.
-abbrev pub IsTakeRefusal : Core → TakeFault → Type 0
-IsTakeRefusal old take_fault.TicketsSpent = HasFree old × (old.tickets.last ≡ most_tickets)
-IsTakeRefusal old take_fault.Memory = HasFree old × (old.tickets.last < most_tickets)
-
--- A job that is given stands in the place behind the last one.
-abbrev pub AnswersTake : List Place → Core → Reply → List Place → Core → Type 0
-AnswersTake places old (reply.Took ticket) left new = (job : JobData) × (job.ticket ≡ ticket) × Gives old (Some job) new × (left ≡ places ++ place.Job job ∷ [])
-AnswersTake places old reply.TookNone left new = Gives old None new × (left ≡ places)
-AnswersTake places old (reply.TakeRefused fault) left new = IsTakeRefusal old fault × (left ≡ places) × (new ≡ old)
-AnswersTake places old _ left new = ⊥
-
--- A job that was checked stands where it stood, with its result.
-abbrev pub AnswersWork : ℕ → List Place → Reply → List Place → Type 0
-AnswersWork at places reply.Worked left = (done : DoneData) × (slice_get places at ≡ Some (place.Job done.job)) × IsDone done × (left ≡ with_place at (place.Done done) places)
-AnswersWork at places reply.WorkRefused left = (job : JobData) × (slice_get places at ≡ Some (place.Job job)) × (left ≡ places)
-AnswersWork at places reply.Nothing left = HasNoJob at places × (left ≡ places)
-AnswersWork at places _ left = ⊥
-
--- what a hand-in answers, whether its result is taken or not
-abbrev pub handed_in : Bool → HandIn
-handed_in true = answer.Taken
-handed_in false = answer.Void
-
-abbrev pub AnswersHandIn : ℕ → List Place → Core → Reply → List Place → Core → Type 0
-AnswersHandIn at places old (reply.HandedIn taken) left new = (done : DoneData) × (slice_get places at ≡ Some (place.Done done)) × HandsBack old done (handed_in taken) new
-    × (left ≡ with_place at place.Empty places)
-AnswersHandIn at places old reply.Nothing left new = HasNoDone at places × (left ≡ places) × (new ≡ old)
-AnswersHandIn at places old _ left new = ⊥
-
-abbrev pub AnswersAbandon : ℕ → List Place → Core → Reply → List Place → Core → Type 0
-AnswersAbandon at places old reply.Abandoned left new = (job : JobData) × (slice_get places at ≡ Some (place.Job job)) × Step old (call.Abandon job.ticket (piece_of job)) new
-    × (left ≡ with_place at place.Empty places)
-AnswersAbandon at places old reply.Nothing left new = HasNoJob at places × (left ≡ places) × (new ≡ old)
-AnswersAbandon at places old _ left new = ⊥
-
 abbrev pub AnswersRecall : ℕ → Core → Reply → Core → Type 0
 AnswersRecall ticket old (reply.Recalled true) new = IsLive old ticket × Step old (call.Recall ticket) new
 AnswersRecall ticket old (reply.Recalled false) new = (IsLive old ticket → ⊥) × (new ≡ old)
@@ -123,36 +92,80 @@ AnswersPublish old (reply.Published version) new = Step old (call.Publish versio
 AnswersPublish old (reply.PublishRefused fault) new = IsPublishRefusal old fault × (new ≡ old)
 AnswersPublish old _ new = ⊥
 
--- One step: what it answers, and what it leaves in the places and at the desk.
-abbrev pub Answers : {M : Type 0} → (M → Watch) → AStep M → List Place → Core → Reply → List Place → Core → Type 0
-Answers watch_of (step.Edit change) places old reply left new = AnswersEdit change old reply new × (left ≡ places)
-Answers watch_of (step.Attach number monitor) places old reply left new = AnswersAttach number (watch_of monitor) old reply new × (left ≡ places)
-Answers watch_of step.Take places old reply left new = AnswersTake places old reply left new
-Answers watch_of (step.Work at) places old reply left new = AnswersWork at places reply left × (new ≡ old)
-Answers watch_of (step.HandIn at) places old reply left new = AnswersHandIn at places old reply left new
-Answers watch_of (step.Abandon at) places old reply left new = AnswersAbandon at places old reply left new
-Answers watch_of (step.Recall ticket) places old reply left new = AnswersRecall ticket old reply new × (left ≡ places)
-Answers watch_of step.Publish places old reply left new = AnswersPublish old reply new × (left ≡ places)
+-- The fault is why no job is given though a window is wanted.
+abbrev pub IsTakeRefusal : Core → TakeFault → Type 0
+IsTakeRefusal old take_fault.TicketsSpent = HasFree old × (old.tickets.last ≡ most_tickets)
+IsTakeRefusal old take_fault.Memory = HasFree old × (old.tickets.last < most_tickets)
 
--- ---- many
+-- No job is given: no window is wanted that has no live ticket, of a manager or of a monitor that is here.
+abbrev pub GivesNothing : Core → Core → Type 0
+GivesNothing old new = IsFirstFree SameSpan old.windows.spans.board None × IsFirstFreeWatch old None × (new ≡ old)
 
--- Steps, one after the other, each with its reply.
-abbrev pub Runs : {M : Type 0} → (M → Watch) → List (AStep M) → List Place → Core → List Reply → List Place → Core → Type 0
-Runs watch_of [] places old [] left new = (left ≡ places) × (new ≡ old)
-Runs watch_of (step ∷ steps) places old (reply ∷ replies) left new = (between : List Place) × (middle : Core) × Answers watch_of step places old reply between middle
-    × Runs watch_of steps between middle replies left new
-Runs watch_of _ places old _ left new = ⊥
+module _ {M : Type 0} where
+  -- A job that is given stands in the place behind the last one.
+  abbrev pub AnswersTake : List (Place M) → Core → Reply → List (Place M) → Core → Type 0
+  AnswersTake places old (reply.Took ticket) left new = (job : Job M) × (ticket_of job ≡ ticket) × Gives old (Some job) new × (left ≡ places ++ place.Job job ∷ [])
+  AnswersTake places old reply.TookNone left new = GivesNothing old new × (left ≡ places)
+  AnswersTake places old (reply.TakeRefused fault) left new = IsTakeRefusal old fault × (left ≡ places) × (new ≡ old)
+  AnswersTake places old _ left new = ⊥
 
--- The job of a place, if it has one, is abandoned.
-abbrev pub LeavesOne : Option JobData → Core → Core → Type 0
-LeavesOne None old new = new ≡ old
-LeavesOne (Some job) old new = Step old (call.Abandon job.ticket (piece_of job)) new
+  -- A job that was checked stands where it stood, with its result; where memory was refused the same one stands there again.
+  abbrev pub AnswersWork : ℕ → List (Place M) → Reply → List (Place M) → Type 0
+  AnswersWork at places reply.Worked left = (job : Job M) × (done : Done M) × (slice_get places at ≡ Some (place.Job job)) × IsDoneFrom job done × IsChecked done × (left ≡ with_place at (place.Done done) places)
+  AnswersWork at places reply.WorkRefused left = (job back : Job M) × (slice_get places at ≡ Some (place.Job job)) × ComesBack job back × (left ≡ with_place at (place.Job back) places)
+  AnswersWork at places reply.Nothing left = HasNoJob at places × (left ≡ places)
+  AnswersWork at places _ left = ⊥
 
--- So are those of all places, one after the other.
-abbrev pub Leaves : List Place → Core → Core → Type 0
-Leaves [] old new = new ≡ old
-Leaves (thing ∷ places) old new = (middle : Core) × LeavesOne (job_of thing) old middle × Leaves places middle new
+  -- what a hand-in answers, whether its result is taken or not
+  abbrev pub handed_in : Bool → HandIn M
+  handed_in true = answer.Taken
+  handed_in false = answer.Void
 
--- Steps run from no places on, and the jobs that they leave are abandoned.
-abbrev pub Plays : {M : Type 0} → (M → Watch) → Core → List (AStep M) → List Reply → Core → Type 0
-Plays watch_of old steps replies new = (places : List Place) × (middle : Core) × Runs watch_of steps [] old replies places middle × Leaves places middle new
+  abbrev pub AnswersHandIn : ℕ → List (Place M) → Core → Reply → List (Place M) → Core → Type 0
+  AnswersHandIn at places old (reply.HandedIn taken) left new = (done : Done M) × (slice_get places at ≡ Some (place.Done done)) × HandsBack old done (handed_in taken) new × HandInStep old done (handed_in taken) new
+      × (left ≡ with_place at place.Empty places)
+  AnswersHandIn at places old reply.Nothing left new = HasNoDone at places × (left ≡ places) × (new ≡ old)
+  AnswersHandIn at places old _ left new = ⊥
+
+  -- This very job is abandoned.
+  abbrev pub Abandons : Core → Job M → Core → Type 0
+  Abandons old job new = Step old (call.Abandon (ticket_of job) (window_of job)) new × TakesBack old job new
+
+  abbrev pub AnswersAbandon : ℕ → List (Place M) → Core → Reply → List (Place M) → Core → Type 0
+  AnswersAbandon at places old reply.Abandoned left new = (job : Job M) × (slice_get places at ≡ Some (place.Job job)) × Abandons old job new × (left ≡ with_place at place.Empty places)
+  AnswersAbandon at places old reply.Nothing left new = HasNoJob at places × (left ≡ places) × (new ≡ old)
+  AnswersAbandon at places old _ left new = ⊥
+
+  -- One step: what it answers, and what it leaves in the places and at the desk.
+  abbrev pub Answers : (M → Watch) → AStep M → List (Place M) → Core → Reply → List (Place M) → Core → Type 0
+  Answers watch_of (step.Edit change) places old reply left new = AnswersEdit change old reply new × (left ≡ places)
+  Answers watch_of (step.Attach number monitor) places old reply left new = AnswersAttach number (watch_of monitor) old reply new × (left ≡ places)
+  Answers watch_of step.Take places old reply left new = AnswersTake places old reply left new
+  Answers watch_of (step.Work at) places old reply left new = AnswersWork at places reply left × (new ≡ old)
+  Answers watch_of (step.HandIn at) places old reply left new = AnswersHandIn at places old reply left new
+  Answers watch_of (step.Abandon at) places old reply left new = AnswersAbandon at places old reply left new
+  Answers watch_of (step.Recall ticket) places old reply left new = AnswersRecall ticket old reply new × (left ≡ places)
+  Answers watch_of step.Publish places old reply left new = AnswersPublish old reply new × (left ≡ places)
+
+  -- ---- many
+
+  -- Steps, one after the other, each with its reply.
+  abbrev pub Runs : (M → Watch) → List (AStep M) → List (Place M) → Core → List Reply → List (Place M) → Core → Type 0
+  Runs watch_of [] places old [] left new = (left ≡ places) × (new ≡ old)
+  Runs watch_of (step ∷ steps) places old (reply ∷ replies) left new = (between : List (Place M)) × (middle : Core) × Answers watch_of step places old reply between middle
+      × Runs watch_of steps between middle replies left new
+  Runs watch_of _ places old _ left new = ⊥
+
+  -- The job of a place, if it has one, is abandoned.
+  abbrev pub LeavesOne : Option (Job M) → Core → Core → Type 0
+  LeavesOne None old new = new ≡ old
+  LeavesOne (Some job) old new = Abandons old job new
+
+  -- So are those of all places, one after the other.
+  abbrev pub Leaves : List (Place M) → Core → Core → Type 0
+  Leaves [] old new = new ≡ old
+  Leaves (thing ∷ places) old new = (middle : Core) × LeavesOne (job_of thing) old middle × Leaves places middle new
+
+  -- Steps run from no places on, and the jobs that they leave are abandoned.
+  abbrev pub Plays : (M → Watch) → Core → List (AStep M) → List Reply → Core → Type 0
+  Plays watch_of old steps replies new = (places : List (Place M)) × (middle : Core) × Runs watch_of steps [] old replies places middle × Leaves places middle new

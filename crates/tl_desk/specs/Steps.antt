@@ -1,34 +1,46 @@
 -- What each call makes of a desk.
-use Rattle.std.specs.Prelude.{ℕ, ◌≡◌, ◌<◌, ◌+◌, [], ◌∷◌, ◌++◌, length, min, None, true, false}
-use Rattle.std.specs.Ordering.{nat_cmp}
-use Rattle.std.specs.BTreeMap.{insert_entry}
+use Rattle.std.specs.Prelude.{ℕ, ◌≡◌, ◌<◌, ◌+◌, ◌⊎◌, Bool, [], ◌∷◌, ◌++◌, Option, length, min, List, None, Some, true, false, is_some}
+use Rattle.tl_beats.specs.declared.Row.{Row}
 use Rattle.tl_beats.specs.declared.watch.Watch.{Watch}
+use Rattle.tl_boxes.specs.Boxes.{BoxesData, place_at, away_at, attached_at, retuned_at, detached_at}
+use Rattle.tl_boxes.specs.Places.{Place, Here, Out}
 use Rattle.tl_definitions.specs.Report.{IsReport}
 use Rattle.tl_inputs.specs.Edits.{AnEdit, plain_change, add, replace, withdraw, clear_link, set_region, remove_region, attach, retune, detach}
 use Rattle.tl_inputs.specs.Inputs.{refusal}
 use Rattle.tl_jobs.specs.Jobs.{JobData, DoneData, piece_of}
+use Rattle.tl_jobs.specs.Monitors.{MonitorJobData, MonitorDoneData, monitor_piece}
+use Rattle.tl_jobs.specs.Works.{done_ticket, done_window}
+use Rattle.tl_jobs.specs.declared.job.Done.{Done}
 use Rattle.tl_jobs.specs.declared.job.HandIn.{HandIn}
 use Rattle.tl_jobs.specs.declared.job.HandIn.TheVariants as answer
 use Rattle.tl_monitor.specs.Held.{Held}
 use Rattle.std.specs.Option.{option_map}
+use Rattle.tl_pieces.specs.declared.key.PieceKey.{PieceKey}
+use Rattle.tl_pieces.specs.Pieces.{Board, IsFirst, IsWanted}
 use Rattle.tl_plain.specs.Captured.{captures_after}
 use Rattle.tl_report.specs.Output.{ReportData}
 use Rattle.tl_span.specs.States.{SameSpan}
 use Rattle.tl_spans.specs.Recheck.{Rechecks, ChecksSome}
+use Rattle.tl_spans.specs.Windows.{key_of}
+use Rattle.tl_tickets.specs.declared.piece.Piece.{Piece}
+use Rattle.tl_tickets.specs.declared.piece.Piece.TheVariants as piece
 use Rattle.tl_watches.specs.Edits.{EditsBoth}
+use Rattle.tl_watches.specs.declared.tally.Tally.{Tally}
 use Rattle.tl_watches.specs.Tally.{SameTally}
-use Rattle.tl_desk.specs.Boxes.{BoxesData, held_at, without_tally, retuned_at, ended_at}
 use Rattle.tl_desk.specs.Core.{Core, AllSettled, most_versions, log_of, standing}
-use Rattle.tl_desk.specs.Jobs.{IsFresh, Takes, Accepts, Ends, Recalls}
+use Rattle.tl_desk.specs.Jobs.{IsFresh, IsFreshWatch, Takes, TakesWatch, Accepts, AcceptsWatch, Ends, EndsWatch, Recalls, RecallsWatch}
 use Rattle.tl_desk.specs.declared.edits.BoxChange.{BoxChange}
 use Rattle.tl_desk.specs.declared.edits.BoxChange.TheVariants as change
+use Rattle.tl_desk.specs.declared.fault.RecheckFault.{RecheckFault}
+use Rattle.tl_desk.specs.declared.fault.RecheckFault.TheVariants as refused
 use Rattle.tl_desk.specs.declared.call.Call.{Call}
 use Rattle.tl_desk.specs.declared.call.Call.TheVariants as call
 
--- What a change of this number makes of the monitors: a retune reaches its monitor, and a detach ends its own.
+-- What a change of this number makes of the monitors: a retune reaches its monitor, and a detach ends its own, at once where it is here,
+-- else as it comes back.
 abbrev pub boxes_after : AnEdit → ℕ → BoxesData → BoxesData
-boxes_after (retune monitor limit) number boxes = record boxes { live = retuned_at monitor limit boxes.live }
-boxes_after (detach monitor) number boxes = ended_at monitor number boxes
+boxes_after (retune monitor limit) number boxes = retuned_at monitor limit boxes
+boxes_after (detach monitor) number boxes = detached_at monitor number boxes
 boxes_after (add f) number boxes = boxes
 boxes_after (replace f) number boxes = boxes
 boxes_after (withdraw name n) number boxes = boxes
@@ -40,8 +52,8 @@ boxes_after (attach monitor w) number boxes = boxes
 -- the same, as it is found of a change
 abbrev pub boxes_changed : BoxChange → ℕ → BoxesData → BoxesData
 boxes_changed change.Nothing number boxes = boxes
-boxes_changed (change.Retune monitor limit) number boxes = record boxes { live = retuned_at monitor limit boxes.live }
-boxes_changed (change.Detach monitor) number boxes = ended_at monitor number boxes
+boxes_changed (change.Retune monitor limit) number boxes = retuned_at monitor limit boxes
+boxes_changed (change.Detach monitor) number boxes = detached_at monitor number boxes
 
 -- An edit that nothing refuses stands at the log's end and has the number of edits; of the windows those that it touches lose their results.
 pub record Edits (old : Core) (e : AnEdit) (number : ℕ) (new : Core) : Type 0 where
@@ -53,7 +65,7 @@ pub record Edits (old : Core) (e : AnEdit) (number : ℕ) (new : Core) : Type 0 
 
 -- A monitor with this watch has come in under its number.
 abbrev pub Attaches : ℕ → Watch → BoxesData → BoxesData → Type 0
-Attaches monitor w old new = (held : Held) × (held.watch ≡ w) × (new ≡ record old { live = insert_entry nat_cmp old.live monitor held })
+Attaches monitor w old new = (held : Held) × (held.watch ≡ w) × (new ≡ attached_at monitor held old)
 
 -- The next report is published, where there is room for one and all windows are settled: it speaks of all edits.
 pub record Publishes (old : Core) (version : ℕ) (new : Core) : Type 0 where
@@ -66,10 +78,30 @@ pub record Publishes (old : Core) (version : ℕ) (new : Core) : Type 0 where
   pub rows : IsReport (captures_after (standing old)) report.rows
   pub rest : new ≡ record old { reports = old.reports ++ report ∷ [] }
 
--- The monitors are the same, but for their tallies.
+-- a place, but for the tally of a monitor that is here
+abbrev pub without_tally : Place → Place
+without_tally (Here held) = Here (record held { tally = 0 })
+without_tally (Out away) = Out away
+
+-- The monitors are the same and where they were, but for the tallies of those that are here.
 pub record KeepsBoxes (old new : BoxesData) : Type 0 where
   pub ended : new.ended ≡ old.ended
-  pub live : (number : ℕ) → option_map without_tally (held_at number new.live) ≡ option_map without_tally (held_at number old.live)
+  pub places : (number : ℕ) → option_map without_tally (place_at number new.slots) ≡ option_map without_tally (place_at number old.slots)
+
+-- The monitor of a number is out.
+abbrev pub IsOut : BoxesData → ℕ → Type 0
+IsOut boxes number = is_some (away_at number boxes.slots) ≡ true
+
+-- The first window that is wanted of a monitor that is out.
+abbrev pub IsFirstOutOf : BoxesData → Board Tally (List Row) → Option PieceKey → Type 0
+IsFirstOutOf boxes board found = IsFirst (λ l k p. IsOut boxes k.owner × IsWanted SameTally board.openings l k p) None board.pieces found
+
+abbrev pub IsFirstOut : Core → Option PieceKey → Type 0
+IsFirstOut core found = IsFirstOutOf core.boxes core.windows.board found
+
+-- No window that is wanted is of a monitor that is out.
+abbrev pub NoneIsOut : BoxesData → Board Tally (List Row) → Type 0
+NoneIsOut boxes board = IsFirstOutOf boxes board None
 
 -- Exactly the windows that had no result, or one that did not begin with what stands before it, are checked, and their tickets end; all
 -- are settled. They are counted, up to the greatest 64-bit number.
@@ -94,19 +126,41 @@ pub record RechecksSome (old new : Core) : Type 0 where
   pub reports : new.reports ≡ old.reports
   pub tickets : new.tickets ≡ old.tickets
 
+-- Why nothing, or not all, is checked: the first window that is wanted of a monitor that is out is one of this monitor, and nothing has
+-- changed; or there is none, and memory was refused.
+abbrev pub RefusesRecheck : Core → RecheckFault → Core → Type 0
+RefusesRecheck old (refused.BoxOut number) new = ((key : PieceKey) × (key.owner ≡ number) × IsFirstOut old (Some key)) × (new ≡ old)
+RefusesRecheck old refused.Memory new = IsFirstOut old None × RechecksSome old new
+
+-- A window goes out under a ticket: that of a manager alone, and that of a monitor with its monitor.
+abbrev pub TakesPiece : Core → ℕ → Piece → Core → Type 0
+TakesPiece old ticket (piece.Manager owner window) new = Takes old ticket (key_of owner window) new
+TakesPiece old ticket (piece.Monitor number window) new = TakesWatch old ticket (key_of number window) new
+
+-- A window comes back checked whose ticket is out: whether its result is taken.
+abbrev pub HandsInPiece : Core → ℕ → Piece → Bool → Core → Type 0
+HandsInPiece old ticket (piece.Manager owner window) true new = (done : DoneData) × (done.job.ticket ≡ ticket) × (piece_of done.job ≡ piece.Manager owner window) × Accepts old done new
+HandsInPiece old ticket (piece.Manager owner window) false new = (job : JobData) × (job.ticket ≡ ticket) × (piece_of job ≡ piece.Manager owner window) × (IsFresh old job → ⊥) × Ends old job new
+HandsInPiece old ticket (piece.Monitor number window) true new = (done : MonitorDoneData) × (done.job.ticket ≡ ticket) × (monitor_piece done.job ≡ piece.Monitor number window) × AcceptsWatch old done new
+HandsInPiece old ticket (piece.Monitor number window) false new = (job : MonitorJobData) × (job.ticket ≡ ticket) × (monitor_piece job ≡ piece.Monitor number window) × (IsFreshWatch old job → ⊥) × EndsWatch old job new
+
+-- A window comes back unchecked whose ticket is out.
+abbrev pub AbandonsPiece : Core → ℕ → Piece → Core → Type 0
+AbandonsPiece old ticket (piece.Manager owner window) new = (job : JobData) × (job.ticket ≡ ticket) × (piece_of job ≡ piece.Manager owner window) × Ends old job new
+AbandonsPiece old ticket (piece.Monitor number window) new = (job : MonitorJobData) × (job.ticket ≡ ticket) × (monitor_piece job ≡ piece.Monitor number window) × EndsWatch old job new
+
 abbrev pub Step : Core → Call → Core → Type 0
 Step old (call.Edit change number) new = Edits old (plain_change change) number new × (new.boxes ≡ boxes_after (plain_change change) number old.boxes)
 Step old (call.Attach monitor w number) new = Edits old (attach monitor w) number new × Attaches monitor w old.boxes new.boxes
 Step old (call.Recheck count) new = RechecksAll old count new
 Step old (call.Publish version) new = Publishes old version new
-Step old (call.Take ticket piece) new = Takes old ticket piece new
-Step old (call.HandIn ticket piece true) new = (done : DoneData) × (done.job.ticket ≡ ticket) × (piece_of done.job ≡ piece) × Accepts old done new
-Step old (call.HandIn ticket piece false) new = (job : JobData) × (job.ticket ≡ ticket) × (piece_of job ≡ piece) × (IsFresh old job → ⊥) × Ends old job new
-Step old (call.Abandon ticket piece) new = (job : JobData) × (job.ticket ≡ ticket) × (piece_of job ≡ piece) × Ends old job new
-Step old (call.Recall ticket) new = Recalls old ticket new
+Step old (call.Take ticket piece) new = TakesPiece old ticket piece new
+Step old (call.HandIn ticket piece taken) new = HandsInPiece old ticket piece taken new
+Step old (call.Abandon ticket piece) new = AbandonsPiece old ticket piece new
+Step old (call.Recall ticket) new = Recalls old ticket new ⊎ RecallsWatch old ticket new
 
 -- The step of a job that was handed in, if it was not a stranger's.
-abbrev pub HandInStep : Core → DoneData → HandIn → Core → Type 0
-HandInStep old done answer.Taken new = Step old (call.HandIn done.job.ticket (piece_of done.job) true) new
-HandInStep old done answer.Void new = Step old (call.HandIn done.job.ticket (piece_of done.job) false) new
+abbrev pub HandInStep : {M : Type 0} → Core → Done M → HandIn M → Core → Type 0
+HandInStep old done answer.Taken new = Step old (call.HandIn (done_ticket done) (done_window done) true) new
+HandInStep old done answer.Void new = Step old (call.HandIn (done_ticket done) (done_window done) false) new
 HandInStep old done (answer.Stranger same) new = new ≡ old

@@ -1,8 +1,11 @@
 -- What the tickets of a desk are out for.
-use Rattle.std.specs.Prelude.{ℕ, ◌≡◌, ◌≤◌, List, None, Some, length, take}
+use Rattle.std.specs.Prelude.{ℕ, ◌≡◌, ◌≤◌, List, Option, Some, length, take}
+use Rattle.std.specs.Option.{option_map}
 use Rattle.tl_beats.specs.declared.Row.{Row}
+use Rattle.tl_boxes.specs.Boxes.{BoxesData, away_at}
+use Rattle.tl_boxes.specs.declared.away.Away.{Away}
 use Rattle.tl_definitions.specs.Captures.{manager_beats}
-use Rattle.tl_inputs.specs.Inputs.{InputData}
+use Rattle.tl_inputs.specs.Inputs.{InputData, watch_at}
 use Rattle.tl_inputs.specs.Log.{LogData, inputs_after}
 use Rattle.tl_pieces.specs.declared.key.PieceKey.{PieceKey}
 use Rattle.tl_pieces.specs.Pieces.{Board, piece_at, live_of}
@@ -11,17 +14,21 @@ use Rattle.tl_span.specs.declared.state.SpanState.{SpanState}
 use Rattle.tl_tickets.specs.declared.piece.Piece.{Piece}
 use Rattle.tl_tickets.specs.declared.piece.Piece.TheVariants as piece
 use Rattle.tl_tickets.specs.declared.tickets.Taken.{Taken}
-use Rattle.tl_tickets.specs.Tickets.{TicketsData, AreTickets, taken_at}
+use Rattle.tl_tickets.specs.Tickets.{TicketsData, AreTickets, IsOutFor, taken_at}
 use Rattle.tl_watches.specs.declared.tally.Tally.{Tally}
+use Rattle.tl_watches.specs.Watches.{beats_for}
 use Rattle.tl_windows.specs.Windows.{beats_in}
 
 -- what the first so many edits leave
 abbrev pub left_by : LogData → ℕ → InputData
 left_by log edits = inputs_after log.topo (take edits log.edits)
 
--- the window of a manager that a key names
+-- the window of a manager that a key names, and that of a monitor
 abbrev pub window_of : PieceKey → Piece
 window_of key = piece.Manager key.owner key.window
+
+abbrev pub watch_window_of : PieceKey → Piece
+watch_window_of key = piece.Monitor key.owner key.window
 
 -- Since the first so many edits the beats of the window and the regions of its manager are the same.
 pub record IsSince (log : LogData) (owner window edits : ℕ) : Type 0 where
@@ -30,16 +37,35 @@ pub record IsSince (log : LogData) (owner window edits : ℕ) : Type 0 where
   pub beats : beats_in window (manager_beats (inputs_after log.topo log.edits).topo (inputs_after log.topo log.edits).fragments owner)
       ≡ beats_in window (manager_beats (left_by log edits).topo (left_by log edits).fragments owner)
 
--- The ticket is out for the window, which is since then what it was.
+-- Since the first so many edits the watch of the number and the beats of the window, on the link that the watch names, are the same.
+pub record IsSinceWatch (log : LogData) (number window edits : ℕ) : Type 0 where
+  pub within : edits ≤ length log.edits
+  pub watch : watch_at number (inputs_after log.topo log.edits).monitors ≡ watch_at number (left_by log edits).monitors
+  pub beats : beats_in window (beats_for (inputs_after log.topo log.edits) number) ≡ beats_in window (beats_for (left_by log edits) number)
+
+-- The ticket is out for the window of a manager, which is since then what it was.
 pub record IsLiveFor (log : LogData) (out : List (ℕ × Taken)) (key : PieceKey) (ticket : ℕ) : Type 0 where
   pub taken : Taken
   pub is : taken_at ticket out ≡ Some taken
   pub window : taken.piece ≡ window_of key
   pub since : IsSince log key.owner key.window taken.edits
 
--- Each live ticket of a manager's window is out for that window, which is since then what it was. No window of a monitor has a live
--- ticket.
-pub record HoldsTickets (log : LogData) (managers : Board SpanState (List Row)) (monitors : Board Tally (List Row)) (tickets : TicketsData) : Type 0 where
+-- The ticket is out for the window of a monitor, which is since then what it was.
+pub record IsLiveForWatch (log : LogData) (out : List (ℕ × Taken)) (key : PieceKey) (ticket : ℕ) : Type 0 where
+  pub taken : Taken
+  pub is : taken_at ticket out ≡ Some taken
+  pub window : taken.piece ≡ watch_window_of key
+  pub since : IsSinceWatch log key.owner key.window taken.edits
+
+-- the ticket under which the monitor of a number is out
+abbrev pub ticket_away : ℕ → BoxesData → Option ℕ
+ticket_away number boxes = option_map (λ (a : Away). a.ticket) (away_at number boxes.slots)
+
+-- Each live ticket is out for its window, which is since then what it was. A monitor that is out is so under a ticket that is out for one
+-- of its windows, and each ticket that is out for a window of a monitor is the one under which that monitor is out.
+pub record HoldsTickets (log : LogData) (managers : Board SpanState (List Row)) (monitors : Board Tally (List Row)) (boxes : BoxesData) (tickets : TicketsData) : Type 0 where
   pub are : AreTickets tickets
   pub live : (key : PieceKey) (ticket : ℕ) → live_of (piece_at key managers) ≡ Some ticket → IsLiveFor log tickets.out key ticket
-  pub none : (key : PieceKey) → live_of (piece_at key monitors) ≡ None
+  pub watched : (key : PieceKey) (ticket : ℕ) → live_of (piece_at key monitors) ≡ Some ticket → IsLiveForWatch log tickets.out key ticket
+  pub away : (number ticket : ℕ) → ticket_away number boxes ≡ Some ticket → (window : ℕ) × IsOutFor ticket (piece.Monitor number window) tickets.out
+  pub held : (number window ticket : ℕ) → IsOutFor ticket (piece.Monitor number window) tickets.out → ticket_away number boxes ≡ Some ticket

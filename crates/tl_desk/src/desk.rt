@@ -1,19 +1,20 @@
 //! The desk, and what is read of it.
 
-ghost use Rattle.std.specs.Prelude.{◌≡◌, ◌≤◌, ◌++◌, map, length, take, IfOk, IfSome};
+ghost use Rattle.std.specs.Prelude.{◌≡◌, ◌≤◌, ◌++◌, map, length, take, IfOk, IfErr, IfSome, OnOk, None, Some};
 ghost use Rattle.std.specs.Bool.{Decides};
 ghost use Rattle.std.specs.Option.{option_map};
 ghost use Rattle.tl_definitions.specs.Report.{IsReport};
 ghost use Rattle.tl_inputs.specs.Log.{inputs_after};
 ghost use Rattle.tl_plain.specs.Captured.{captures_after};
-ghost use Rattle.tl_desk.specs.Boxes.{told};
 ghost use Rattle.tl_spans.specs.Spans as spans;
 ghost use Rattle.tl_watches.specs.Watches.{AreWatches};
+ghost use Rattle.tl_boxes.specs.Boxes.{IsBoxes, told, here_in, first_out};
 ghost use Rattle.tl_desk.specs.Core.{log_of, standing, latest_of, report_of, AllSettled, AreLinked, IsNew, IsSound};
+ghost use Rattle.tl_desk.specs.Ends.{HaveEnded};
 
-use crate::boxes::Boxes;
 use std::alloc::{AllocError, Global};
 use std::marker::Model;
+use tl_boxes::Boxes;
 use tl_inputs::Log;
 use tl_monitor::{Monitor, Settlement};
 use tl_report::Report;
@@ -118,7 +119,12 @@ impl<M: Monitor> Desk<M> {
 
     /// What each monitor told that ended, with its number, in the order of their ends.
     pub fn settlements(&self) -> &[(u32, Settlement)]
-        ensures { result.now ≡ self.now.boxes.ended }
+        ensures exact { result.now ≡ self.now.boxes.ended }
+        // Each monitor that ended is neither here nor out. It told once what it had just before the edit that detached it, with that
+        // edit's number; one that is out and was detached meanwhile is to end so.
+        ensures once { HaveEnded (log_of self.now) self.now.boxes }
+        // The numbers of monitors rise.
+        ensures kept { IsBoxes self.now.boxes }
     {
         let _ = &self.windows;
         let _ = &self.reports;
@@ -127,11 +133,18 @@ impl<M: Monitor> Desk<M> {
     }
 
     /// Ends all monitors, in the order of their numbers, with the number of the last edit, and answers the log, with what each
-    /// monitor told that ended, before or now.
-    pub fn finish(self) -> (Log, Vec<(u32, Settlement)>)
-        ensures log { result.0 ≡ log_of self }
-        ensures told { result.1.items ≡ self.boxes.ended ++ map (λ e. (e.0, told e.1 (length (log_of self).edits))) self.boxes.live }
+    /// monitor told that ended, before or now. Where a monitor is out with a job the same desk comes back, with the lowest number of
+    /// such a one.
+    pub fn finish(self) -> Result<(Log, Vec<(u32, Settlement)>), (Desk<M>, u32)>
+        ensures here { OnOk result (first_out self.boxes.slots ≡ None) }
+        ensures log { IfOk result (λ done. done.0 ≡ log_of self) }
+        ensures told { IfOk result (λ done. done.1.items ≡ self.boxes.ended ++ map (λ e. (e.0, told e.1 (length (log_of self).edits))) (here_in self.boxes.slots)) }
+        ensures out { IfErr result (λ back. first_out self.boxes.slots ≡ Some back.1) }
+        ensures back { IfErr result (λ back. back.0 ≡ self) }
     {
+        if let Some(number) = self.first_away() {
+            return Err((self, number));
+        }
         let Desk {
             windows,
             boxes,
@@ -140,6 +153,16 @@ impl<M: Monitor> Desk<M> {
         } = self;
         let log = windows.into_log();
         let told = boxes.finish(log.len());
-        (log, told)
+        Ok((log, told))
+    }
+
+    /// The lowest number of a monitor that is out.
+    pub(crate) fn first_away(&self) -> Option<u32>
+        ensures { result ≡ first_out self.now.boxes.slots }
+    {
+        let _ = &self.windows;
+        let _ = &self.reports;
+        let _ = &self.tickets;
+        self.boxes.first_away()
     }
 }

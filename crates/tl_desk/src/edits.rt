@@ -7,14 +7,14 @@ ghost use Rattle.std.specs.List.Sorted.{IsStrictlySortedBy};
 ghost use Rattle.std.specs.Map.{keys_of};
 ghost use Rattle.tl_inputs.specs.Edits.{plain_change, attach};
 ghost use Rattle.tl_inputs.specs.Inputs.{refusal};
-ghost use Rattle.tl_desk.specs.Boxes.{BoxesData};
+ghost use Rattle.tl_boxes.specs.Boxes.{BoxesData};
 ghost use Rattle.tl_desk.specs.Core.{log_of, standing};
 ghost use Rattle.tl_desk.specs.Steps.{boxes_after, boxes_changed, Step};
 ghost use Rattle.tl_desk.specs.declared.call.Call.TheVariants as call;
 
-use crate::boxes::Boxes;
 use crate::desk::Desk;
 use std::alloc::Global;
+use tl_boxes::Boxes;
 use tl_inputs::{Change, Edit, EditFault};
 use tl_monitor::{Monitor, Watched};
 
@@ -49,7 +49,7 @@ impl BoxChange {
     /// Does it, for an edit of this number.
     fn apply<M: Monitor>(self, boxes: &mut Boxes<M>, number: u64)
         ensures made { boxes.new ≡ boxes_changed self number boxes.old }
-        ensures order { IsStrictlySortedBy nat_cmp (keys_of boxes.old.live) }
+        ensures order { IsStrictlySortedBy nat_cmp (keys_of boxes.old.slots) }
     {
         let _ = boxes.settlements();
         match self {
@@ -63,7 +63,8 @@ impl BoxChange {
 impl<M: Monitor> Desk<M> {
     /// Accepts a change and answers its number as an edit, or refuses it: the first cause of `EditFault`, which stands then, or
     /// Memory where no cause stands and memory is refused. The windows that it touches lose their results, and no other does; a
-    /// retune reaches its monitor, and a detach ends its own. A refused change is dropped, and nothing has changed.
+    /// retune reaches its monitor, and a detach ends its own, each of which waits for one that is out until it comes back. A refused
+    /// change is dropped, and nothing has changed.
     pub fn edit(&mut self, alloc: Global, change: Change) -> Result<u64, EditFault>
         ensures step { IfOk result (λ number. Step self.old (call.Edit change number) self.new) }
         ensures refused { IfErr result (λ fault. (fault ≡ EditFault.Memory → ⊥) → refusal (length (log_of self.old).edits) (standing self.old) (plain_change change) ≡ Some fault) }

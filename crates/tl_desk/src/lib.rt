@@ -2,12 +2,13 @@
 //! that are out to be checked.
 #![tactic(auto)]
 
-mod boxes;
 mod call;
 mod desk;
 mod edits;
 mod fault;
 mod jobs;
+mod manager_jobs;
+mod monitor_jobs;
 mod places;
 mod play;
 mod publish;
@@ -15,7 +16,9 @@ mod recheck;
 
 pub use call::Call;
 pub use desk::Desk;
-pub use fault::PublishFault;
+pub use fault::{PublishFault, RecheckFault};
 pub use play::{Reply, Step};
-pub use tl_jobs::{Done, HandIn, Job, Piece, TakeFault, work};
+pub use tl_jobs::{
+    Done, HandIn, Job, ManagerDone, ManagerJob, MonitorDone, MonitorJob, Piece, TakeFault, work,
+};
 pub use tl_report::Report;

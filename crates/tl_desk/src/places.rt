@@ -1,27 +1,28 @@
 //! The places in which jobs stand that a list of steps has taken.
 
-ghost use Rattle.std.specs.Prelude.{◌≡◌, IfSome, IfNone, Some, slice_get, vec_capacity, vec_len, List, ℕ};
-ghost use Rattle.tl_tickets.specs.declared.tickets.Taken.{Taken};
+ghost use Rattle.std.specs.Prelude.{◌≡◌, IfSome, IfNone, Some, slice_get, vec_capacity, vec_len};
+ghost use Rattle.tl_desk.specs.Core.{Core};
 ghost use Rattle.tl_desk.specs.Plays.{AnswersWork, AreOut, with_place, job_of, HasNoJob, HasNoDone};
 ghost use Rattle.tl_desk.specs.declared.places.Place.TheVariants as place;
 
 use crate::play::Reply;
 use std::alloc::Global;
 use tl_jobs::{Done, Job, work};
+use tl_monitor::Monitor;
 
 /// A place of a list of steps: a job, one that was checked, or nothing any more. It must be spent, as the job.
-pub(crate) enum Place {
+pub(crate) enum Place<M: Monitor> {
     /// A job that was taken.
-    Job(Job),
+    Job(Job<M>),
     /// A job that was checked.
-    Done(Done),
+    Done(Done<M>),
     /// Nothing: the job that stood here was handed in or abandoned.
     Empty,
 }
 
-impl Place {
+impl<M: Monitor> Place<M> {
     /// The job of the place, checked or not, if it has one. The result of a checked job is dropped.
-    pub(crate) fn into_job(self) -> Option<Job>
+    pub(crate) fn into_job(self) -> Option<Job<M>>
         ensures { result ≡ job_of self }
     {
         match self {
@@ -33,7 +34,7 @@ impl Place {
 }
 
 /// The job of a place, if that has one that wasn't checked. The place is empty then; else nothing has changed.
-pub(crate) fn job_out(places: &mut Vec<Place>, at: usize) -> Option<Job>
+pub(crate) fn job_out<M: Monitor>(places: &mut Vec<Place<M>>, at: usize) -> Option<Job<M>>
     ensures some { IfSome result (λ job. (slice_get places.old.items at ≡ Some (place.Job job)) × (places.new.items ≡ with_place at place.Empty places.old.items)) }
     ensures none { IfNone result (HasNoJob at places.old.items × (places.new.items ≡ places.old.items)) }
     ensures room { (vec_capacity places.new ≡ vec_capacity places.old) × (vec_len places.new ≡ vec_len places.old) }
@@ -49,7 +50,7 @@ pub(crate) fn job_out(places: &mut Vec<Place>, at: usize) -> Option<Job>
 }
 
 /// The checked job of a place, if that has one. The place is empty then; else nothing has changed.
-pub(crate) fn done_out(places: &mut Vec<Place>, at: usize) -> Option<Done>
+pub(crate) fn done_out<M: Monitor>(places: &mut Vec<Place<M>>, at: usize) -> Option<Done<M>>
     ensures some { IfSome result (λ done. (slice_get places.old.items at ≡ Some (place.Done done)) × (places.new.items ≡ with_place at place.Empty places.old.items)) }
     ensures none { IfNone result (HasNoDone at places.old.items × (places.new.items ≡ places.old.items)) }
     ensures room { (vec_capacity places.new ≡ vec_capacity places.old) × (vec_len places.new ≡ vec_len places.old) }
@@ -65,7 +66,7 @@ pub(crate) fn done_out(places: &mut Vec<Place>, at: usize) -> Option<Done>
 }
 
 /// Fills an empty place.
-fn fill(places: &mut Vec<Place>, at: usize, thing: Place)
+fn fill<M: Monitor>(places: &mut Vec<Place<M>>, at: usize, thing: Place<M>)
     requires { slice_get places.old.items at ≡ Some place.Empty }
     ensures filled { places.new.items ≡ with_place at thing places.old.items }
     ensures room { (vec_capacity places.new ≡ vec_capacity places.old) × (vec_len places.new ≡ vec_len places.old) }
@@ -75,9 +76,9 @@ fn fill(places: &mut Vec<Place>, at: usize, thing: Place)
 }
 
 /// Checks the job of a place, if that has one that wasn't checked, and leaves it there.
-pub(crate) fn work_at(alloc: Global, places: &mut Vec<Place>, at: usize) -> Reply
+pub(crate) fn work_at<M: Monitor>(alloc: Global, places: &mut Vec<Place<M>>, at: usize) -> Reply
     ensures answers { AnswersWork at places.old.items result places.new.items }
-    ensures out { (out : List (ℕ × Taken)) → AreOut places.old.items out → AreOut places.new.items out }
+    ensures out { (core : Core) → AreOut places.old.items core → AreOut places.new.items core }
     ensures room { (vec_capacity places.new ≡ vec_capacity places.old) × (vec_len places.new ≡ vec_len places.old) }
 {
     let Some(job) = job_out(places, at) else {
@@ -85,7 +86,6 @@ pub(crate) fn work_at(alloc: Global, places: &mut Vec<Place>, at: usize) -> Repl
     };
     match work(alloc, job) {
         Ok(done) => {
-            let _ = done.job();
             fill(places, at, Place::Done(done));
             Reply::Worked
         }

@@ -1,8 +1,8 @@
 //! Lists of steps that run on a desk.
 
 ghost use Rattle.std.specs.Prelude.{◌≡◌, ◌≤◌, ◌<◌, ◌+◌, List, [], ◌∷◌, IfOk, IfErr, IfSome, OnErr, vec_capacity, vec_len};
-ghost use Rattle.tl_jobs.specs.Jobs.{piece_of};
-ghost use Rattle.tl_tickets.specs.Tickets.{IsOutFor};
+ghost use Rattle.tl_desk.specs.Jobs.{IsOutHere};
+ghost use Rattle.tl_desk.specs.declared.places.Place.{Place};
 ghost use Rattle.tl_desk.specs.Plays.{Answers, AnswersEdit, AnswersAttach, AnswersTake, AnswersHandIn, AnswersAbandon, AnswersRecall, AnswersPublish, Runs, Leaves, LeavesOne, Plays, job_of, AreOut};
 
 use crate::desk::Desk;
@@ -94,14 +94,14 @@ impl<M: Monitor> Desk<M> {
         &mut self,
         alloc: Global,
         steps: Vec<Step<M>>,
-        places: &mut Vec<Place>,
+        places: &mut Vec<Place<M>>,
         replies: Vec<Reply>,
     ) -> Vec<Reply>
         requires none { (places.old.items ≡ []) × (replies.items ≡ []) }
         requires places { vec_len places.old + vec_len steps ≤ vec_capacity places.old }
         requires replies { vec_len replies + vec_len steps ≤ vec_capacity replies }
         ensures ran { Runs (λ m. (M.held m).watch) steps.items places.old.items self.old result.items places.new.items self.new }
-        ensures out { AreOut places.new.items self.new.tickets.out }
+        ensures out { AreOut places.new.items self.new }
     {
         let mut replies = replies;
         let mut steps = steps.into_iter();
@@ -113,11 +113,11 @@ impl<M: Monitor> Desk<M> {
     }
 
     /// Runs one step.
-    fn answer(&mut self, alloc: Global, step: Step<M>, places: &mut Vec<Place>) -> Reply
-        requires out { AreOut places.old.items self.old.tickets.out }
+    fn answer(&mut self, alloc: Global, step: Step<M>, places: &mut Vec<Place<M>>) -> Reply
+        requires out { AreOut places.old.items self.old }
         requires room { vec_len places.old < vec_capacity places.old }
         ensures answers { Answers (λ m. (M.held m).watch) step places.old.items self.old result places.new.items self.new }
-        ensures out { AreOut places.new.items self.new.tickets.out }
+        ensures out { AreOut places.new.items self.new }
         ensures room { (vec_capacity places.new ≡ vec_capacity places.old) × (vec_len places.new ≤ vec_len places.old + 1) }
     {
         match step {
@@ -134,8 +134,10 @@ impl<M: Monitor> Desk<M> {
 
     fn answer_edit(&mut self, alloc: Global, change: Change) -> Reply
         ensures answers { AnswersEdit change self.old result self.new }
-        ensures tickets { self.new.tickets ≡ self.old.tickets }
+        ensures out { (places : List (Place M)) → AreOut places self.old → AreOut places self.new }
     {
+        let _ = self.log();
+        let _ = self.settlements();
         match self.edit(alloc, change) {
             Ok(number) => Reply::Edited(number),
             Err(fault) => Reply::EditRefused(fault),
@@ -144,22 +146,25 @@ impl<M: Monitor> Desk<M> {
 
     fn answer_attach(&mut self, alloc: Global, number: u32, monitor: M) -> Reply
         ensures answers { AnswersAttach number (M.held monitor).watch self.old result self.new }
-        ensures tickets { self.new.tickets ≡ self.old.tickets }
+        ensures out { (places : List (Place M)) → AreOut places self.old → AreOut places self.new }
     {
+        let _ = self.log();
+        let _ = self.settlements();
         match self.attach(alloc, number, monitor) {
             Ok(number) => Reply::Edited(number),
             Err((fault, _monitor)) => Reply::EditRefused(fault),
         }
     }
 
-    fn answer_take(&mut self, alloc: Global, places: &mut Vec<Place>) -> Reply
-        requires out { AreOut places.old.items self.old.tickets.out }
+    fn answer_take(&mut self, alloc: Global, places: &mut Vec<Place<M>>) -> Reply
+        requires out { AreOut places.old.items self.old }
         requires room { vec_len places.old < vec_capacity places.old }
         ensures answers { AnswersTake places.old.items self.old result places.new.items self.new }
-        ensures out { AreOut places.new.items self.new.tickets.out }
+        ensures out { AreOut places.new.items self.new }
         ensures room { (vec_capacity places.new ≡ vec_capacity places.old) × (vec_len places.new ≤ vec_len places.old + 1) }
     {
-        let _ = &self.tickets;
+        let _ = self.log();
+        let _ = self.settlements();
         match self.take(alloc) {
             Ok(Some(job)) => {
                 let ticket = job.ticket();
@@ -171,13 +176,14 @@ impl<M: Monitor> Desk<M> {
         }
     }
 
-    fn answer_hand_in(&mut self, places: &mut Vec<Place>, at: usize) -> Reply
-        requires { AreOut places.old.items self.old.tickets.out }
+    fn answer_hand_in(&mut self, places: &mut Vec<Place<M>>, at: usize) -> Reply
+        requires { AreOut places.old.items self.old }
         ensures answers { AnswersHandIn at places.old.items self.old result places.new.items self.new }
-        ensures out { AreOut places.new.items self.new.tickets.out }
+        ensures out { AreOut places.new.items self.new }
         ensures room { (vec_capacity places.new ≡ vec_capacity places.old) × (vec_len places.new ≡ vec_len places.old) }
     {
-        let _ = &self.tickets;
+        let _ = self.log();
+        let _ = self.settlements();
         let Some(done) = done_out(places, at) else {
             return Reply::Nothing;
         };
@@ -188,13 +194,14 @@ impl<M: Monitor> Desk<M> {
         }
     }
 
-    fn answer_abandon(&mut self, places: &mut Vec<Place>, at: usize) -> Reply
-        requires { AreOut places.old.items self.old.tickets.out }
+    fn answer_abandon(&mut self, places: &mut Vec<Place<M>>, at: usize) -> Reply
+        requires { AreOut places.old.items self.old }
         ensures answers { AnswersAbandon at places.old.items self.old result places.new.items self.new }
-        ensures out { AreOut places.new.items self.new.tickets.out }
+        ensures out { AreOut places.new.items self.new }
         ensures room { (vec_capacity places.new ≡ vec_capacity places.old) × (vec_len places.new ≡ vec_len places.old) }
     {
-        let _ = &self.tickets;
+        let _ = self.log();
+        let _ = self.settlements();
         let Some(job) = job_out(places, at) else {
             return Reply::Nothing;
         };
@@ -204,14 +211,14 @@ impl<M: Monitor> Desk<M> {
 
     fn answer_recall(&mut self, ticket: u64) -> Reply
         ensures answers { AnswersRecall ticket self.old result self.new }
-        ensures tickets { self.new.tickets ≡ self.old.tickets }
+        ensures out { (places : List (Place M)) → AreOut places self.old → AreOut places self.new }
     {
         Reply::Recalled(self.recall(ticket))
     }
 
     fn answer_publish(&mut self, alloc: Global) -> Reply
         ensures answers { AnswersPublish self.old result self.new }
-        ensures tickets { self.new.tickets ≡ self.old.tickets }
+        ensures out { (places : List (Place M)) → AreOut places self.old → AreOut places self.new }
     {
         match self.publish(alloc) {
             Ok(version) => Reply::Published(version),
@@ -220,8 +227,8 @@ impl<M: Monitor> Desk<M> {
     }
 
     /// Abandons the jobs that are left, the first place first.
-    fn leave(&mut self, places: Vec<Place>)
-        requires { AreOut places.items self.old.tickets.out }
+    fn leave(&mut self, places: Vec<Place<M>>)
+        requires { AreOut places.items self.old }
         ensures { Leaves places.items self.old self.new }
     {
         let mut places = places.into_iter();
@@ -232,13 +239,14 @@ impl<M: Monitor> Desk<M> {
     }
 
     /// Abandons the job of a place, if it has one.
-    fn leave_one(&mut self, place: Place)
-        requires { IfSome (job_of place) (λ job. IsOutFor job.ticket (piece_of job) self.old.tickets.out) }
+    fn leave_one(&mut self, place: Place<M>)
+        requires { IfSome (job_of place) (IsOutHere self.old) }
         ensures left { LeavesOne (job_of place) self.old self.new }
         // The jobs of other places stay out.
-        ensures out { (rest : List Place) → AreOut (place ∷ rest) self.old.tickets.out → AreOut rest self.new.tickets.out }
+        ensures out { (rest : List (Place M)) → AreOut (place ∷ rest) self.old → AreOut rest self.new }
     {
-        let _ = &self.tickets;
+        let _ = self.log();
+        let _ = self.settlements();
         let Some(job) = place.into_job() else {
             return;
         };

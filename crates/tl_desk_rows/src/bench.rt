@@ -9,9 +9,9 @@ use std::sync::Arc;
 use std::sync::atomic::Ordering;
 use std::test::Fail;
 use tl_beats::{Fragment, parse_whole_fragment};
-use tl_desk::{Desk, HandIn, Job, Piece, Report, work};
-use tl_inputs::Change;
-use tl_monitor::Monitor;
+use tl_desk::{Desk, HandIn, Job, Piece, RecheckFault, Report, work};
+use tl_inputs::{Change, Log};
+use tl_monitor::{Monitor, Settlement};
 use tl_topology::{Name, Permits, Region, read_topo};
 
 /// A call on a desk, and what it answers.
@@ -36,7 +36,7 @@ pub(crate) enum Step<'a> {
     Retune(u32, u32),
     /// Takes a monitor off.
     Detach(u32),
-    /// Checks all windows that are wanted: `checked` and how many those were.
+    /// Checks all windows that are wanted: `checked` and how many those were; or `refused`, the code, and the monitor that is out.
     Recheck,
     /// Publishes: `version` and its number, or `refused` and the code.
     Publish,
@@ -70,6 +70,15 @@ pub(crate) struct Bench {
     pub(crate) calls: Calls,
     text: String,
     shelf: Shelf,
+}
+
+/// What a bench leaves whose desk was finished.
+#[derive(Drop)]
+struct Left {
+    log: Log,
+    told: Vec<(u32, Settlement)>,
+    calls: Calls,
+    text: String,
 }
 
 /// The fragment with a text.
@@ -115,7 +124,12 @@ pub(crate) fn change_of(alloc: Global, step: Step<'_>) -> Result<Option<Change>,
 impl Bench {
     /// A desk without edits.
     pub(crate) fn new(alloc: Global) -> Result<Bench, Fail> {
-        let (topo, _) = read_topo(alloc, TOPOLOGY.as_bytes())?;
+        Bench::on(alloc, TOPOLOGY)
+    }
+
+    /// A desk without edits on the topology with a text.
+    fn on(alloc: Global, topology: &str) -> Result<Bench, Fail> {
+        let (topo, _) = read_topo(alloc, topology.as_bytes())?;
         Ok(Bench {
             desk: Desk::new(alloc, topo)?,
             calls: Calls::new(alloc)?,
@@ -161,8 +175,14 @@ impl Bench {
 
     /// A check of all.
     fn recheck(&mut self, alloc: Global) -> Result<(), Fail> {
-        let count = self.desk.recheck_now(alloc)?;
-        self.say(alloc, "checked", count)
+        match self.desk.recheck_now(alloc) {
+            Ok(count) => self.say(alloc, "checked", count),
+            Err(RecheckFault::BoxOut(number)) => {
+                let code = RecheckFault::BoxOut(number).code();
+                self.tell(&format!(in alloc; "refused {code} {number}")?)
+            }
+            Err(fault) => self.say(alloc, "refused", u64::from(fault.code())),
+        }
     }
 
     /// A publish.
@@ -223,7 +243,7 @@ impl Bench {
     }
 
     /// Puts a job on the shelf.
-    fn shelve(&mut self, alloc: Global, job: Job) -> Result<(), Fail> {
+    fn shelve(&mut self, alloc: Global, job: Job<Counting>) -> Result<(), Fail> {
         let (ticket, piece) = (job.ticket(), job.piece());
         self.shelf.add(Shelved::Job(job))?;
         let line = match piece {
@@ -369,39 +389,119 @@ impl Bench {
         text
     }
 
-    /// Finishes the desk: what all its monitors told, and how often these were called.
-    fn finish(self, alloc: Global) -> Result<String, Fail> {
+    /// Finishes the desk, and then gives up what is still out. Where a monitor is out all comes back, with its number.
+    fn finish(self) -> Result<Left, (Bench, u32)> {
         let Bench {
             desk,
             calls,
-            text: _,
+            text,
             shelf,
         } = self;
-        let (_, told) = desk.finish();
-        shelf.clear();
-        let told = ends_text(alloc, &told)?;
-        let ends = calls.ends.load(Ordering::SeqCst);
+        match desk.finish() {
+            Ok((log, told)) => {
+                shelf.clear();
+                Ok(Left {
+                    log,
+                    told,
+                    calls,
+                    text,
+                })
+            }
+            Err((desk, number)) => {
+                let bench = Bench {
+                    desk,
+                    calls,
+                    text,
+                    shelf,
+                };
+                Err((bench, number))
+            }
+        }
+    }
+
+    /// Goes on where the desk was not finished, since a monitor is out.
+    fn go_on(&mut self, alloc: Global, number: u32, steps: &[Step<'_>]) -> Result<(), Fail> {
+        self.say(alloc, "out", u64::from(number))?;
+        self.run(alloc, steps)
+    }
+}
+
+impl Left {
+    /// What monitors told: number, limit and last edit of each; and how many ended.
+    fn ends(&self, alloc: Global) -> Result<String, Fail> {
+        let told = ends_text(alloc, &self.told)?;
+        let ends = self.calls.ends.load(Ordering::SeqCst);
         Ok(format!(in alloc; "{told}ends {ends}\n")?)
+    }
+
+    /// What calls answered, how many edits the log has, and what monitors told.
+    fn all(&self, alloc: Global) -> Result<String, Fail> {
+        let (text, edits, ends) = (self.text.as_str(), self.log.len(), self.ends(alloc)?);
+        Ok(format!(in alloc; "{text}log {edits}\n{ends}")?)
+    }
+}
+
+/// A desk on the topology with a text, which has taken these calls.
+fn bench_after(alloc: Global, topology: &str, steps: &[Step<'_>]) -> Result<Bench, Fail> {
+    let mut bench = Bench::on(alloc, topology)?;
+    match bench.run(alloc, steps) {
+        Ok(()) => Ok(bench),
+        Err(fail) => {
+            bench.leave();
+            Err(fail)
+        }
+    }
+}
+
+/// What calls answer on a desk without edits, on the topology with a text.
+pub(crate) fn answers_on(
+    alloc: Global,
+    topology: &str,
+    steps: &[Step<'_>],
+) -> Result<String, Fail> {
+    let bench = bench_after(alloc, topology, steps)?;
+    Ok(bench.leave())
+}
+
+/// What calls answer on such a desk, and what it leaves that is then finished: `log` and how many edits it has, and what monitors
+/// told. Where a monitor is out, `out` and its number, and what the further calls answer behind which it is finished.
+pub(crate) fn answers_to_the_end(
+    alloc: Global,
+    topology: &str,
+    steps: [&[Step<'_>]; 2],
+) -> Result<String, Fail> {
+    let bench = bench_after(alloc, topology, steps[0])?;
+    let (mut bench, number) = match bench.finish() {
+        Ok(left) => return left.all(alloc),
+        Err(back) => back,
+    };
+    let ran = bench.go_on(alloc, number, steps[1]);
+    match bench.finish() {
+        Ok(left) => {
+            ran?;
+            left.all(alloc)
+        }
+        Err((bench, _)) => {
+            bench.leave();
+            ran?;
+            Err(Fail::new("a monitor is out"))
+        }
     }
 }
 
 /// What calls answer on a desk without edits.
 pub(crate) fn answers(alloc: Global, steps: &[Step<'_>]) -> Result<String, Fail> {
-    let mut bench = Bench::new(alloc)?;
-    let ran = bench.run(alloc, steps);
-    let text = bench.leave();
-    ran?;
-    Ok(text)
+    answers_on(alloc, TOPOLOGY, steps)
 }
 
 /// What monitors told once the desk is finished behind these calls: number, limit and last edit of each; and how many ended.
 pub(crate) fn finished(alloc: Global, steps: &[Step<'_>]) -> Result<String, Fail> {
-    let mut bench = Bench::new(alloc)?;
-    match bench.run(alloc, steps) {
-        Ok(()) => bench.finish(alloc),
-        Err(fail) => {
+    let bench = bench_after(alloc, TOPOLOGY, steps)?;
+    match bench.finish() {
+        Ok(left) => left.ends(alloc),
+        Err((bench, _)) => {
             bench.leave();
-            Err(fail)
+            Err(Fail::new("a monitor is out"))
         }
     }
 }

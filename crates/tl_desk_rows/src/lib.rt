@@ -6,6 +6,8 @@ mod bench;
 #[cfg(test)]
 mod boxes;
 #[cfg(test)]
+mod boxes_out;
+#[cfg(test)]
 mod checks;
 #[cfg(test)]
 mod counting;
@@ -13,6 +15,8 @@ mod counting;
 mod ends;
 #[cfg(test)]
 mod plays;
+#[cfg(test)]
+mod refusals;
 #[cfg(test)]
 mod reports;
 #[cfg(test)]

@@ -1,5 +1,6 @@
 //! Windows that are out, where a test keeps them.
 
+use crate::counting::Counting;
 use std::alloc::{AllocFailed, Global};
 use std::test::Fail;
 use tl_desk::{Done, Job};
@@ -7,9 +8,9 @@ use tl_desk::{Done, Job};
 /// What stands at a place.
 pub(crate) enum Shelved {
     /// A window that wasn't checked.
-    Job(Job),
+    Job(Job<Counting>),
     /// One that was.
-    Done(Done),
+    Done(Done<Counting>),
     /// Nothing any more.
     Gone,
 }
@@ -24,7 +25,7 @@ impl Shelved {
     fn forfeit(self) {
         match self {
             Shelved::Job(job) => job.forfeit(),
-            Shelved::Done(done) => done.back().forfeit(),
+            Shelved::Done(done) => done.forfeit(),
             Shelved::Gone => {}
         }
     }

@@ -10,6 +10,20 @@ link dma0 m0 ul 8 3 2\n\
 link dma1 m1 ul 8 3 2\n\
 end\n";
 
+/// One manager with two caches and a reader.
+pub(crate) const ONE_MANAGER: &str = "topo 1\n\
+manager m0 64\n\
+link cpu0 m0 c 8 6 4\n\
+link cpu1 m0 c 8 6 4\n\
+link dma0 m0 ul 8 3 2\n\
+end\n";
+
+/// A Get of dma0 with its reply, in window 0, and nothing in the others.
+pub(crate) const ONE_GET: &str = "fragment dma0 1 0 99999\n\
+10 A 4 0 3 0 1000 ff 0\n\
+10 D 1 0 3 0 0 0 0\n\
+end\n";
+
 /// A Get of dma0 with its reply, in each of the windows 0 to 3.
 pub(crate) const GETS: [&str; 4] = [
     "fragment dma0 1 0 4095\n\

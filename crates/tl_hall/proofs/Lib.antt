@@ -4,4 +4,6 @@ pub mod Running
 pub mod Keeping
 pub mod Seating
 pub mod Passing
+pub mod JobSteps
 pub mod Tellings
+pub mod Rounds

@@ -15,19 +15,15 @@ use Rattle.tl_inputs.specs.Edits.{AnEdit, plain_change, attach}
 use Rattle.tl_inputs.specs.Inputs.{most_edits}
 use Rattle.tl_inputs.proofs.LogLaws.{few_more}
 use Rattle.tl_inputs.specs.Log.{LogData}
-use Rattle.tl_jobs.specs.Jobs.{JobData, DoneData}
-use Rattle.tl_pieces.specs.declared.key.PieceKey.{PieceKey}
-use Rattle.tl_tickets.specs.declared.piece.Piece.{Piece}
 use Rattle.tl_tickets.specs.declared.tickets.Taken.{Taken}
-use Rattle.tl_tickets.specs.Tickets.{TicketsData, taken_at, most_tickets}
+use Rattle.tl_tickets.specs.Tickets.{TicketsData, most_tickets}
 use Rattle.tl_desk.specs.Core.{Core, IsNew, log_of, standing, most_versions}
-use Rattle.tl_desk.specs.Jobs.{Takes, Accepts, Ends, Recalls, ended}
 use Rattle.tl_desk.specs.Steps.{Step, Edits, Publishes}
 use Rattle.tl_desk.specs.declared.call.Call.{Call}
 use Rattle.tl_desk.specs.declared.call.Call.TheVariants as call
 use Rattle.tl_hall.specs.declared.entry.Entry.{Entry}
 use Rattle.tl_hall.specs.History.{entry, call_of, IsOfHall, Runs, Leads}
-use Rattle.tl_hall.proofs.Tickets.{live_at, IsQuiet, same_quiet, edited_quiet, ended_quiet, accepted_quiet, ended_log, accepted_log, recalled_quiet, recalled_gone, taken_live, none_live, one_less, one_more}
+use Rattle.tl_hall.proofs.Tickets.{Window, live_at, IsQuiet, same_quiet, edited_quiet, none_live, GivesOne, take_gives, EndsOne, hand_in_ends, abandon_ends, CallsBack, recall_calls, one_less, one_more}
 
 pub runs_then : (ks : List Call) (c d e : Core) (k : Call) → Runs c ks d → IsOfHall k → Step d k e → Runs c (ks ++ k ∷ []) e
 runs_then [] c d e k r of_hall s = (of_hall, e, subst (λ (x : Core). Step x k e) (sym r) s, refl)
@@ -110,10 +106,10 @@ record Counts (core : Core) (count : ℕ) : Type 0 where
   recalls : ℕ
   fit : recalls ≤ marks recalled core.tickets.last
   sum : count ≡ length (log_of core).edits + length core.reports + core.tickets.last + ends + recalls
-  low : (key : PieceKey) (t : ℕ) → live_at key core.windows.spans ≡ Some t → t ≤ core.tickets.last
-  one : (key other : PieceKey) (t : ℕ) → live_at key core.windows.spans ≡ Some t → live_at other core.windows.spans ≡ Some t → key ≡ other
+  low : (window : Window) (t : ℕ) → live_at window core.windows ≡ Some t → t ≤ core.tickets.last
+  one : (window other : Window) (t : ℕ) → live_at window core.windows ≡ Some t → live_at other core.windows ≡ Some t → window ≡ other
   past : (t : ℕ) → recalled t ≡ true → t ≤ core.tickets.last
-  dead : (t : ℕ) (key : PieceKey) → recalled t ≡ true → live_at key core.windows.spans ≡ Some t → ⊥
+  dead : (t : ℕ) (window : Window) → recalled t ≡ true → live_at window core.windows ≡ Some t → ⊥
 
 at_first : (topo : Topology) (core : Core) → IsNew topo core → Counts core 0
 at_first topo core fresh =
@@ -138,7 +134,7 @@ at_first topo core fresh =
     }
 
 -- A call that leaves the tickets as they are.
-still : (c d : Core) (n m : ℕ) → Counts c n → IsQuiet c.windows.spans d.windows.spans → d.tickets ≡ c.tickets → length (log_of d).edits ≤ most_edits → length d.reports ≤ most_versions
+still : (c d : Core) (n m : ℕ) → Counts c n → IsQuiet c.windows d.windows → d.tickets ≡ c.tickets → length (log_of d).edits ≤ most_edits → length d.reports ≤ most_versions
     → m + length (log_of c).edits + length c.reports ≡ n + length (log_of d).edits + length d.reports → Counts d m
 still c d n m h quiet same edits reports more =
     let last : d.tickets.last ≡ c.tickets.last = ap (λ (t : TicketsData). t.last) same in
@@ -173,19 +169,19 @@ published c version d n publishes h =
     let edits : length (log_of d).edits ≡ length (log_of c).edits = ap (λ (x : Core). length (log_of x).edits) publishes.rest in
     let room : length c.reports < most_versions = publishes.room in
     let few : length (log_of c).edits ≤ most_edits = h.edits in
-    still c d n (n + 1) h (same_quiet c.windows.spans d.windows.spans (ap (λ (x : Core). x.windows.spans) publishes.rest)) (ap (λ (x : Core). x.tickets) publishes.rest) (omega (arith, edits, few)) (omega (arith, long, room))
+    still c d n (n + 1) h (same_quiet c.windows d.windows (ap (λ (x : Core). x.windows) publishes.rest)) (ap (λ (x : Core). x.tickets) publishes.rest) (omega (arith, edits, few)) (omega (arith, long, room))
     (omega (arith, long, edits))
 
-took : (c : Core) (ticket : ℕ) (piece : Piece) (d : Core) (n : ℕ) → Takes c ticket piece d → Counts c n → Counts d (n + 1)
-took c ticket piece d n takes h =
-    let edits : length (log_of d).edits ≡ length (log_of c).edits = ap (λ (x : Core). length (log_of x).edits) takes.rest in
-    let reports : length d.reports ≡ length c.reports = ap (λ (x : Core). length x.reports) takes.rest in
-    let last : d.tickets.last ≡ c.tickets.last + 1 = ap (λ (x : Core). x.tickets.last) takes.rest in
-    let taken : Taken = record { piece = piece; edits = length (log_of c).edits } in
-    let out : length d.tickets.out ≡ length (insert_entry nat_cmp c.tickets.out (c.tickets.last + 1) taken) = ap (λ (x : Core). length x.tickets.out) takes.rest in
+took : (c : Core) (ticket : ℕ) (d : Core) (n : ℕ) → GivesOne c ticket d → Counts c n → Counts d (n + 1)
+took c ticket d n gives h =
+    let edits : length (log_of d).edits ≡ length (log_of c).edits = ap (λ (l : LogData). length l.edits) gives.log in
+    let reports : length d.reports ≡ length c.reports = ap length gives.reports in
+    let last : d.tickets.last ≡ c.tickets.last + 1 = ap (λ (t : TicketsData). t.last) gives.tickets in
+    let taken : Taken = record { piece = gives.window_is; edits = length (log_of c).edits } in
+    let out : length d.tickets.out ≡ length (insert_entry nat_cmp c.tickets.out (c.tickets.last + 1) taken) = ap (λ (t : TicketsData). length t.out) gives.tickets in
     let most : length (insert_entry nat_cmp c.tickets.out (c.tickets.last + 1) taken) ≤ length c.tickets.out + 1 = one_more nat_cmp c.tickets.out (c.tickets.last + 1) taken in
-    let room : c.tickets.last < most_tickets = takes.few in
-    let next : ticket ≡ c.tickets.last + 1 = takes.next in
+    let room : c.tickets.last < most_tickets = gives.few in
+    let next : ticket ≡ c.tickets.last + 1 = gives.next in
     let few : length (log_of c).edits ≤ most_edits = h.edits in
     let fewer : length c.reports ≤ most_versions = h.reports in
     let rest : h.ends + length c.tickets.out ≤ c.tickets.last = h.out in
@@ -203,38 +199,37 @@ took c ticket piece d n takes h =
       fit = omega (arith, fit, grow);
       sum = omega (arith, sum, edits, reports, last);
       low = λ key t live. ⊎_elim
-          (λ (x : (key ≡ takes.key) × (t ≡ ticket)). let is : t ≡ ticket = x.1 in let le : t ≤ d.tickets.last = omega (arith, is, next, last) in le)
-          (λ (x : live_at key c.windows.spans ≡ Some t). let old : t ≤ c.tickets.last = h.low key t x in let le : t ≤ d.tickets.last = omega (arith, old, last) in le)
-          (taken_live c ticket piece d takes key t live);
+          (λ (x : (key ≡ gives.window) × (t ≡ ticket)). let is : t ≡ ticket = x.1 in let le : t ≤ d.tickets.last = omega (arith, is, next, last) in le)
+          (λ (x : live_at key c.windows ≡ Some t). let old : t ≤ c.tickets.last = h.low key t x in let le : t ≤ d.tickets.last = omega (arith, old, last) in le)
+          (gives.live key t live);
       one = λ key other t a b. ⊎_elim
-          (λ (x : (key ≡ takes.key) × (t ≡ ticket)). ⊎_elim
-          (λ (y : (other ≡ takes.key) × (t ≡ ticket)). x.0 ∙ sym y.0)
-          (λ (y : live_at other c.windows.spans ≡ Some t). absurd (newer t x.1 (h.low other t y)))
-          (taken_live c ticket piece d takes other t b))
-          (λ (x : live_at key c.windows.spans ≡ Some t). ⊎_elim
-          (λ (y : (other ≡ takes.key) × (t ≡ ticket)). absurd (newer t y.1 (h.low key t x)))
-          (λ (y : live_at other c.windows.spans ≡ Some t). h.one key other t x y)
-          (taken_live c ticket piece d takes other t b))
-          (taken_live c ticket piece d takes key t a);
+          (λ (x : (key ≡ gives.window) × (t ≡ ticket)). ⊎_elim
+          (λ (y : (other ≡ gives.window) × (t ≡ ticket)). x.0 ∙ sym y.0)
+          (λ (y : live_at other c.windows ≡ Some t). absurd (newer t x.1 (h.low other t y)))
+          (gives.live other t b))
+          (λ (x : live_at key c.windows ≡ Some t). ⊎_elim
+          (λ (y : (other ≡ gives.window) × (t ≡ ticket)). absurd (newer t y.1 (h.low key t x)))
+          (λ (y : live_at other c.windows ≡ Some t). h.one key other t x y)
+          (gives.live other t b))
+          (gives.live key t a);
       past = λ t is. let old : t ≤ c.tickets.last = h.past t is in omega (arith, old, last);
       dead = λ t key is live. ⊎_elim
-          (λ (x : (key ≡ takes.key) × (t ≡ ticket)). newer t x.1 (h.past t is))
-          (λ (x : live_at key c.windows.spans ≡ Some t). h.dead t key is x)
-          (taken_live c ticket piece d takes key t live);
+          (λ (x : (key ≡ gives.window) × (t ≡ ticket)). newer t x.1 (h.past t is))
+          (λ (x : live_at key c.windows ≡ Some t). h.dead t key is x)
+          (gives.live key t live);
     }
   where
     newer : (t : ℕ) → t ≡ ticket → t ≤ c.tickets.last → ⊥
-    newer t is old = let next : ticket ≡ c.tickets.last + 1 = takes.next in absurd (omega (arith, is, old, next))
+    newer t is old = let next : ticket ≡ c.tickets.last + 1 = gives.next in absurd (omega (arith, is, old, next))
 
 -- A ticket ends.
-ends_one : (c d : Core) (n ticket : ℕ) (taken : Taken) → taken_at ticket c.tickets.out ≡ Some taken → d.tickets ≡ ended ticket c.tickets → log_of d ≡ log_of c → d.reports ≡ c.reports → IsQuiet c.windows.spans d.windows.spans
-    → Counts c n → Counts d (n + 1)
-ends_one c d n ticket taken found tickets log same quiet h =
-    let edits : length (log_of d).edits ≡ length (log_of c).edits = ap (λ (l : LogData). length l.edits) log in
-    let reports : length d.reports ≡ length c.reports = ap length same in
-    let last : d.tickets.last ≡ c.tickets.last = ap (λ (t : TicketsData). t.last) tickets in
-    let out : length d.tickets.out ≡ length (remove_entry (is_at (nat_cmp ticket)) c.tickets.out) = ap (λ (t : TicketsData). length t.out) tickets in
-    let less : length (remove_entry (is_at (nat_cmp ticket)) c.tickets.out) + 1 ≡ length c.tickets.out = one_less (is_at (nat_cmp ticket)) c.tickets.out taken found in
+ends_one : (c d : Core) (n : ℕ) → EndsOne c d → Counts c n → Counts d (n + 1)
+ends_one c d n ends h =
+    let edits : length (log_of d).edits ≡ length (log_of c).edits = ap (λ (l : LogData). length l.edits) ends.log in
+    let reports : length d.reports ≡ length c.reports = ap length ends.reports in
+    let last : d.tickets.last ≡ c.tickets.last = ap (λ (t : TicketsData). t.last) ends.tickets in
+    let out : length d.tickets.out ≡ length (remove_entry (is_at (nat_cmp ends.ticket)) c.tickets.out) = ap (λ (t : TicketsData). length t.out) ends.tickets in
+    let less : length (remove_entry (is_at (nat_cmp ends.ticket)) c.tickets.out) + 1 ≡ length c.tickets.out = one_less (is_at (nat_cmp ends.ticket)) c.tickets.out ends.taken ends.out in
     let few : length (log_of c).edits ≤ most_edits = h.edits in
     let fewer : length c.reports ≤ most_versions = h.reports in
     let most : c.tickets.last ≤ most_tickets = h.last in
@@ -250,33 +245,25 @@ ends_one c d n ticket taken found tickets log same quiet h =
       recalls = h.recalls;
       fit = subst (λ (x : ℕ). h.recalls ≤ marks h.recalled x) (sym last) h.fit;
       sum = omega (arith, sum, edits, reports, last);
-      low = λ key t live. let old : t ≤ c.tickets.last = h.low key t (quiet key t live) in omega (arith, old, last);
-      one = λ key other t a b. h.one key other t (quiet key t a) (quiet other t b);
+      low = λ key t live. let old : t ≤ c.tickets.last = h.low key t (ends.quiet key t live) in omega (arith, old, last);
+      one = λ key other t a b. h.one key other t (ends.quiet key t a) (ends.quiet other t b);
       past = λ t is. let old : t ≤ c.tickets.last = h.past t is in omega (arith, old, last);
-      dead = λ t key is live. h.dead t key is (quiet key t live);
+      dead = λ t key is live. h.dead t key is (ends.quiet key t live);
     }
 
-job_ends : (c : Core) (job : JobData) (d : Core) (n : ℕ) → Ends c job d → Counts c n → Counts d (n + 1)
-job_ends c job d n ends h =
-    ends_one c d n job.ticket ends.out.0 ends.out.1 (ap (λ (x : Core). x.tickets) ends.rest) (ended_log c job d ends) (ap (λ (x : Core). x.reports) ends.rest) (ended_quiet c job d ends) h
-
-accepted : (c : Core) (done : DoneData) (d : Core) (n : ℕ) → Accepts c done d → Counts c n → Counts d (n + 1)
-accepted c done d n accepts h =
-    ends_one c d n done.job.ticket accepts.out.0 accepts.out.1 (ap (λ (x : Core). x.tickets) accepts.rest) (accepted_log c done d accepts) (ap (λ (x : Core). x.reports) accepts.rest) (accepted_quiet c done d accepts) h
-
-called_back : (c : Core) (ticket : ℕ) (d : Core) (n : ℕ) → Recalls c ticket d → Counts c n → Counts d (n + 1)
+called_back : (c : Core) (ticket : ℕ) (d : Core) (n : ℕ) → CallsBack c ticket d → Counts c n → Counts d (n + 1)
 called_back c ticket d n recalls h =
-    let edits : length (log_of d).edits ≡ length (log_of c).edits = ap (λ (x : Core). length (log_of x).edits) recalls.rest in
-    let reports : length d.reports ≡ length c.reports = ap (λ (x : Core). length x.reports) recalls.rest in
-    let last : d.tickets.last ≡ c.tickets.last = ap (λ (x : Core). x.tickets.last) recalls.rest in
-    let out : length d.tickets.out ≡ length c.tickets.out = ap (λ (x : Core). length x.tickets.out) recalls.rest in
-    let quiet : IsQuiet c.windows.spans d.windows.spans = recalled_quiet c ticket d recalls in
+    let edits : length (log_of d).edits ≡ length (log_of c).edits = ap (λ (l : LogData). length l.edits) recalls.log in
+    let reports : length d.reports ≡ length c.reports = ap length recalls.reports in
+    let last : d.tickets.last ≡ c.tickets.last = ap (λ (t : TicketsData). t.last) recalls.tickets in
+    let out : length d.tickets.out ≡ length c.tickets.out = ap (λ (t : TicketsData). length t.out) recalls.tickets in
+    let quiet : IsQuiet c.windows d.windows = recalls.quiet in
     let few : length (log_of c).edits ≤ most_edits = h.edits in
     let fewer : length c.reports ≤ most_versions = h.reports in
     let most : c.tickets.last ≤ most_tickets = h.last in
     let rest : h.ends + length c.tickets.out ≤ c.tickets.last = h.out in
     let fit : h.recalls ≤ marks h.recalled c.tickets.last = h.fit in
-    let new : marks (with_mark ticket h.recalled) c.tickets.last ≡ marks h.recalled c.tickets.last + 1 = marks_new ticket c.tickets.last h.recalled (h.low recalls.key ticket recalls.live) (unmarked (h.recalled ticket) refl) in
+    let new : marks (with_mark ticket h.recalled) c.tickets.last ≡ marks h.recalled c.tickets.last + 1 = marks_new ticket c.tickets.last h.recalled (h.low recalls.window ticket recalls.live) (unmarked (h.recalled ticket) refl) in
     let more : h.recalls + 1 ≤ marks (with_mark ticket h.recalled) c.tickets.last = omega (arith, fit, new) in
     let sum : n ≡ length (log_of c).edits + length c.reports + c.tickets.last + h.ends + h.recalls = h.sum in
     record {
@@ -292,15 +279,15 @@ called_back c ticket d n recalls h =
       low = λ key t live. let old : t ≤ c.tickets.last = h.low key t (quiet key t live) in omega (arith, old, last);
       one = λ key other t a b. h.one key other t (quiet key t a) (quiet other t b);
       past = λ t is. dite (ℕ_discrete t ticket)
-          (λ (same : t ≡ ticket). let old : ticket ≤ c.tickets.last = h.low recalls.key ticket recalls.live in let le : t ≤ d.tickets.last = omega (arith, same, old, last) in le)
+          (λ (same : t ≡ ticket). let old : ticket ≤ c.tickets.last = h.low recalls.window ticket recalls.live in let le : t ≤ d.tickets.last = omega (arith, same, old, last) in le)
           (λ (apart : t ≡ ticket → ⊥). let old : t ≤ c.tickets.last = h.past t (older t apart is) in let le : t ≤ d.tickets.last = omega (arith, old, last) in le);
       dead = λ t key is live. dite (ℕ_discrete t ticket)
-          (λ (same : t ≡ ticket). recalled_gone c ticket d recalls t (subst (λ (k : PieceKey). live_at k d.windows.spans ≡ Some t) (h.one key recalls.key t (quiet key t live) (recalls.live ∙ ap Some (sym same))) live))
+          (λ (same : t ≡ ticket). recalls.gone t (subst (λ (w : Window). live_at w d.windows ≡ Some t) (h.one key recalls.window t (quiet key t live) (recalls.live ∙ ap Some (sym same))) live))
           (λ (apart : t ≡ ticket → ⊥). h.dead t key (older t apart is) (quiet key t live));
     }
   where
     unmarked : (b : Bool) → h.recalled ticket ≡ b → h.recalled ticket ≡ false
-    unmarked true is = absurd (h.dead ticket recalls.key is recalls.live)
+    unmarked true is = absurd (h.dead ticket recalls.window is recalls.live)
     unmarked false is = is
 
     older : (t : ℕ) → (t ≡ ticket → ⊥) → with_mark ticket h.recalled t ≡ true → h.recalled t ≡ true
@@ -311,11 +298,10 @@ step_counts c (call.Edit change number) d n of_hall s h = edited c (plain_change
 step_counts c (call.Attach monitor w number) d n of_hall s h = edited c (attach monitor w) number d n s.0 h
 step_counts c (call.Recheck count) d n of_hall s h = absurd of_hall
 step_counts c (call.Publish version) d n of_hall s h = published c version d n s h
-step_counts c (call.Take ticket piece) d n of_hall s h = took c ticket piece d n s h
-step_counts c (call.HandIn ticket piece true) d n of_hall s h = accepted c s.0 d n s.3 h
-step_counts c (call.HandIn ticket piece false) d n of_hall s h = job_ends c s.0 d n s.4 h
-step_counts c (call.Abandon ticket piece) d n of_hall s h = job_ends c s.0 d n s.3 h
-step_counts c (call.Recall ticket) d n of_hall s h = called_back c ticket d n s h
+step_counts c (call.Take ticket piece) d n of_hall s h = took c ticket d n (take_gives c ticket piece d s) h
+step_counts c (call.HandIn ticket piece taken) d n of_hall s h = ends_one c d n (hand_in_ends c ticket piece taken d s) h
+step_counts c (call.Abandon ticket piece) d n of_hall s h = ends_one c d n (abandon_ends c ticket piece d s) h
+step_counts c (call.Recall ticket) d n of_hall s h = called_back c ticket d n (recall_calls c ticket d s) h
 
 runs_count : (ks : List Call) (c d : Core) (n : ℕ) → Runs c ks d → Counts c n → Counts d (n + length ks)
 runs_count [] c d n r h = subst (λ (x : Core). Counts x (n + 0)) r (subst (λ (m : ℕ). Counts c m) (let e : n ≡ n + 0 = omega arith in e) h)

@@ -1,5 +1,5 @@
 -- A history tells what the desk has that it leads to.
-use Rattle.std.proofs.Common.{◌≡◌, ℕ, ◌+◌, ◌-◌, true, false, List, [], ◌∷◌, ◌++◌, Option, Some, length, map, refl, sym, ap, ◌∙◌, arith, length-append}
+use Rattle.std.proofs.Common.{◌≡◌, ℕ, ◌+◌, ◌-◌, List, [], ◌∷◌, ◌++◌, Option, Some, length, map, refl, sym, ap, ◌∙◌, arith, length-append}
 use Rattle.std.specs.Prelude.{slice_get}
 use Rattle.std.specs.Option.{option_map}
 use Rattle.tl_topology.specs.Topology.{Topology}
@@ -13,7 +13,7 @@ use Rattle.tl_desk.specs.declared.call.Call.TheVariants as call
 use Rattle.tl_hall.specs.declared.entry.Entry.{Entry}
 use Rattle.tl_hall.specs.History.{call_of, IsOfHall, Runs}
 use Rattle.tl_hall.specs.Telling.{Told, nothing_told, told_more, told_after, told_of, version_and_edit, HistoriesTell, EditsAreCounted, AttachesAreCounted, VersionsAreCounted}
-use Rattle.tl_hall.proofs.Tickets.{ended_log, accepted_log}
+use Rattle.tl_hall.proofs.Tickets.{GivesOne, EndsOne, CallsBack, take_gives, hand_in_ends, abandon_ends, recall_calls}
 
 abbrev told_with : List AnEdit → ℕ → Option (ℕ × ℕ) → Told
 told_with edits versions latest = record { edits = edits; versions = versions; latest = latest }
@@ -64,11 +64,10 @@ step_tells c (call.Edit change number) d of_hall s = edited c (plain_change chan
 step_tells c (call.Attach monitor w number) d of_hall s = edited c (attach monitor w) number d s.0
 step_tells c (call.Recheck count) d of_hall s = absurd of_hall
 step_tells c (call.Publish version) d of_hall s = published c version d s
-step_tells c (call.Take ticket piece) d of_hall s = still c d (ap (λ (x : Core). log_of x) s.rest) (ap (λ (x : Core). x.reports) s.rest)
-step_tells c (call.HandIn ticket piece true) d of_hall s = still c d (accepted_log c s.0 d s.3) (ap (λ (x : Core). x.reports) s.3.rest)
-step_tells c (call.HandIn ticket piece false) d of_hall s = still c d (ended_log c s.0 d s.4) (ap (λ (x : Core). x.reports) s.4.rest)
-step_tells c (call.Abandon ticket piece) d of_hall s = still c d (ended_log c s.0 d s.3) (ap (λ (x : Core). x.reports) s.3.rest)
-step_tells c (call.Recall ticket) d of_hall s = still c d (ap (λ (x : Core). log_of x) s.rest) (ap (λ (x : Core). x.reports) s.rest)
+step_tells c (call.Take ticket piece) d of_hall s = let made : GivesOne c ticket d = take_gives c ticket piece d s in still c d made.log made.reports
+step_tells c (call.HandIn ticket piece taken) d of_hall s = let made : EndsOne c d = hand_in_ends c ticket piece taken d s in still c d made.log made.reports
+step_tells c (call.Abandon ticket piece) d of_hall s = let made : EndsOne c d = abandon_ends c ticket piece d s in still c d made.log made.reports
+step_tells c (call.Recall ticket) d of_hall s = let made : CallsBack c ticket d = recall_calls c ticket d s in still c d made.log made.reports
 
 run_tells : (log : List Entry) (c d : Core) → Runs c (map call_of log) d → (told_of d ≡ told_after (told_of c) log) × ((log_of d).topo ≡ (log_of c).topo)
 run_tells [] c d r = (ap told_of (sym r), ap (λ (x : Core). (log_of x).topo) (sym r))

@@ -2,3 +2,4 @@ pub mod History
 pub mod Rule
 pub mod Passes
 pub mod Telling
+pub mod Working

@@ -9,19 +9,20 @@ use Rattle.tl_inputs.specs.Inputs.{refusal}
 use Rattle.tl_inputs.specs.Log.{inputs_after}
 use Rattle.tl_inputs.specs.declared.fault.EditFault.{EditFault}
 use Rattle.tl_inputs.specs.declared.fault.EditFault.TheVariants as edit_fault
-use Rattle.tl_jobs.specs.Jobs.{JobData, DoneData, piece_of}
 use Rattle.tl_jobs.specs.declared.fault.TakeFault.{TakeFault}
 use Rattle.tl_jobs.specs.declared.fault.TakeFault.TheVariants as take_fault
+use Rattle.tl_jobs.specs.declared.job.Job.{Job}
+use Rattle.tl_jobs.specs.declared.job.Done.{Done}
 use Rattle.tl_jobs.specs.declared.job.HandIn.{HandIn}
 use Rattle.tl_jobs.specs.declared.job.HandIn.TheVariants as answer
+use Rattle.tl_jobs.specs.Works.{job_of, done_ticket, done_window}
 use Rattle.tl_pieces.specs.Pieces.{IsFirstFree}
 use Rattle.tl_plain.specs.Captured.{captures_after}
 use Rattle.tl_report.specs.Output.{ReportData}
 use Rattle.tl_span.specs.States.{SameSpan}
-use Rattle.tl_spans.specs.Tickets.{IsTaskFor}
-use Rattle.tl_tickets.specs.Tickets.{IsOutFor, most_tickets}
+use Rattle.tl_tickets.specs.Tickets.{most_tickets}
 use Rattle.tl_desk.specs.Core.{Core, AllSettled, most_versions, log_of, latest_of, standing}
-use Rattle.tl_desk.specs.Jobs.{key_for, HasFree, IsFresh, IsLive, Accepts, Ends}
+use Rattle.tl_desk.specs.Jobs.{Gives, HasFree, HandsBack, TakesBack, IsFirstFreeWatch, IsLive, IsOutHere}
 use Rattle.tl_desk.specs.Steps.{Step}
 use Rattle.tl_desk.specs.declared.call.Call.{Call}
 use Rattle.tl_desk.specs.declared.call.Call.TheVariants as call
@@ -129,34 +130,35 @@ IsLatest found core = (found ≡ latest_of core.reports) × IsExact found core
 abbrev pub NoWord : Core → Type 0
 NoWord core = Unit {0}
 
--- The window goes out with what stands for it.
-abbrev pub Takes : JobData → Core → Core → Type 0
-Takes job from to = IsTaskFor from.windows.spans (key_for job) job.task
+-- This very job goes out, with what stands for its window, and one of a window of a monitor with the monitor that was here.
+abbrev pub Takes : {M : Type 0} → Job M → Core → Core → Type 0
+Takes job from to = Gives from (Some job) to
 
--- No window of a manager is wanted that has no live ticket.
+-- No window is wanted that has no live ticket, of a manager or of a monitor that is here.
 abbrev pub HasNone : Core → Type 0
-HasNone core = IsFirstFree SameSpan core.windows.spans.board None
+HasNone core = IsFirstFree SameSpan core.windows.spans.board None × IsFirstFreeWatch core None
 
 -- Some window is to be taken, and no ticket is left; or one is left, and memory was refused.
 abbrev pub IsUntaken : TakeFault → Core → Type 0
 IsUntaken take_fault.TicketsSpent core = HasFree core × (core.tickets.last ≡ most_tickets)
 IsUntaken take_fault.Memory core = HasFree core × (core.tickets.last < most_tickets)
 
--- The job's ticket isn't out for its window.
-abbrev pub IsStranger : JobData → Core → Type 0
-IsStranger job core = IsOutFor job.ticket (piece_of job) core.tickets.out → ⊥
+-- The job's ticket isn't out for its window, or its monitor hasn't the watch with which that of its number left.
+abbrev pub IsStranger : {M : Type 0} → Job M → Core → Type 0
+IsStranger job core = IsOutHere core job → ⊥
 
--- A job that was live and of what stands is taken; one that wasn't is void.
-abbrev pub IsTaken : DoneData → Core → Core → Type 0
-IsTaken done from to = Accepts from done to
+-- This very job comes back unchecked: its ticket ends, and its monitor is here again, or ends where it was detached meanwhile.
+abbrev pub IsAbandoned : {M : Type 0} → Job M → Core → Core → Type 0
+IsAbandoned job from to = TakesBack from job to
 
-abbrev pub IsVoid : DoneData → Core → Core → Type 0
-IsVoid done from to = (IsFresh from done.job → ⊥) × Ends from done.job to
+-- This very job comes back checked. One that was live and of what stands is taken; one that wasn't is void.
+abbrev pub ComesTo : {M : Type 0} → Done M → HandIn M → Core → Core → Type 0
+ComesTo done answer from to = HandsBack from done answer to
 
-abbrev pub HandsIn : PassData → DoneData → HandIn → PassData → Type 0
-HandsIn p done answer.Taken q = Made p (call.HandIn done.job.ticket (piece_of done.job) true) (IsTaken done) q
-HandsIn p done answer.Void q = Made p (call.HandIn done.job.ticket (piece_of done.job) false) (IsVoid done) q
-HandsIn p done (answer.Stranger same) q = (same ≡ done) × Looked p (IsStranger done.job) q
+abbrev pub HandsIn : {M : Type 0} → PassData → Done M → HandIn M → PassData → Type 0
+HandsIn p done answer.Taken q = Made p (call.HandIn (done_ticket done) (done_window done) true) (ComesTo done answer.Taken) q
+HandsIn p done answer.Void q = Made p (call.HandIn (done_ticket done) (done_window done) false) (ComesTo done answer.Void) q
+HandsIn p done (answer.Stranger same) q = (same ≡ done) × Looked p (IsStranger (job_of done)) q
 
 -- The ticket is no window's live one.
 abbrev pub IsDead : ℕ → Core → Type 0

@@ -1,9 +1,9 @@
 //! Windows that go out to be checked, and come back.
 
 ghost use Rattle.std.specs.Prelude.{◌≡◌, IfOk, IfErr, OnOk, OnErr, IfSome, IfNone, true, false};
-ghost use Rattle.tl_jobs.specs.Jobs.{piece_of};
+ghost use Rattle.tl_jobs.specs.Works.{ticket_of, window_of};
 ghost use Rattle.tl_desk.specs.declared.call.Call.TheVariants as call;
-ghost use Rattle.tl_hall.specs.Passes.{Made, NoMore, Looked, Takes, HasNone, IsUntaken, IsStranger, HandsIn, IsDead};
+ghost use Rattle.tl_hall.specs.Passes.{Made, NoMore, Looked, Takes, HasNone, IsUntaken, IsStranger, IsAbandoned, HandsIn, IsDead};
 
 use crate::hall::{Hall, Pass};
 use std::alloc::Global;
@@ -14,15 +14,16 @@ use tl_monitor::Monitor;
 
 impl<M: Monitor> Hall<M> {
     /// Gives the first window that is to be checked, with all that its check asks, under the next ticket, or None, or refuses it, as
-    /// `Desk::take` does. It may wait for another thread; the check stands outside the turn.
+    /// `Desk::take` does: a window of a monitor takes its monitor along. It may wait for another thread; the check stands outside
+    /// the turn.
     pub fn take<R: Wait>(
         &self,
         rt: &R,
         alloc: Global,
         pass: Pass<M>,
-    ) -> (Pass<M>, Result<Option<Job>, TakeFault>)
+    ) -> (Pass<M>, Result<Option<Job<M>>, TakeFault>)
         requires { pass.hall ≡ self.now.hall }
-        ensures some { IfOk result.1 (λ found. IfSome found (λ job. Made pass (call.Take job.ticket (piece_of job)) (Takes job) result.0)) }
+        ensures some { IfOk result.1 (λ found. IfSome found (λ job. Made pass (call.Take (ticket_of job) (window_of job)) (Takes job) result.0)) }
         ensures none { IfOk result.1 (λ found. IfNone found (Looked pass HasNone result.0)) }
         ensures err { IfErr result.1 (λ fault. Looked pass (IsUntaken fault) result.0) }
     {
@@ -48,7 +49,7 @@ impl<M: Monitor> Hall<M> {
 
     /// Takes a checked window in, as `Desk::hand_in` does. A stranger's job comes back, and is no entry of the history. It takes no
     /// memory, and may wait for another thread.
-    pub fn hand_in<R: Wait>(&self, rt: &R, pass: Pass<M>, done: Done) -> (Pass<M>, HandIn)
+    pub fn hand_in<R: Wait>(&self, rt: &R, pass: Pass<M>, done: Done<M>) -> (Pass<M>, HandIn<M>)
         requires { pass.hall ≡ self.now.hall }
         ensures { HandsIn pass done result.1 result.0 }
     {
@@ -80,11 +81,16 @@ impl<M: Monitor> Hall<M> {
         }
     }
 
-    /// Takes a window back that wasn't checked, as `Desk::abandon` does: a job whose ticket isn't out for its window comes back, and
-    /// is no entry of the history. It takes no memory, and may wait for another thread.
-    pub fn abandon<R: Wait>(&self, rt: &R, pass: Pass<M>, job: Job) -> (Pass<M>, Result<(), Job>)
+    /// Takes a window back that wasn't checked, as `Desk::abandon` does: a stranger's job comes back, and is no entry of the history.
+    /// It takes no memory, and may wait for another thread.
+    pub fn abandon<R: Wait>(
+        &self,
+        rt: &R,
+        pass: Pass<M>,
+        job: Job<M>,
+    ) -> (Pass<M>, Result<(), Job<M>>)
         requires { pass.hall ≡ self.now.hall }
-        ensures ok { OnOk result.1 (Made pass (call.Abandon job.ticket (piece_of job)) NoMore result.0) }
+        ensures ok { OnOk result.1 (Made pass (call.Abandon (ticket_of job) (window_of job)) (IsAbandoned job) result.0) }
         ensures back { IfErr result.1 (λ same. same ≡ job) }
         ensures err { OnErr result.1 (Looked pass (IsStranger job) result.0) }
     {

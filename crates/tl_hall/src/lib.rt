@@ -8,7 +8,9 @@ mod jobs;
 pub mod laws;
 mod passes;
 mod rule;
+mod working;
 
 pub use entry::{Entry, View};
 pub use hall::{Hall, Note, Pass};
 pub use rule::HallRule;
+pub use working::{Gate, WorkCount, worker};

@@ -1,2 +1,4 @@
 pub mod Faults
 pub mod Jobs
+pub mod Monitors
+pub mod Works

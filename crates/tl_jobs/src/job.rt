@@ -1,156 +1,134 @@
 //! Jobs, and the check of one.
 
 ghost use Rattle.std.specs.Prelude.{◌≡◌, IfOk, IfErr};
-ghost use Rattle.tl_jobs.specs.Jobs.{piece_of, IsDone};
-ghost use Rattle.tl_pieces.specs.Marks.{pass_of};
+ghost use Rattle.tl_jobs.specs.Works.{ticket_of, window_of, done_ticket, done_window, job_of, IsChecked, IsDoneFrom, ComesBack};
 
+use crate::manager::{ManagerDone, ManagerJob, work_manager};
+use crate::monitor::{MonitorDone, MonitorJob, work_monitor};
 use std::alloc::Global;
-use std::marker::Model;
-use tl_pieces::Stored;
-use tl_span::SpanState;
-use tl_tasks::{Rows, SpanTask};
+use tl_monitor::Monitor;
 use tl_tickets::Piece;
 
 /// A window that went out to be checked, with its ticket. It must be spent: by `work`, by its desk, which takes it back, or by
 /// `forfeit`. It can't be let go.
-pub struct Job {
-    ticket: u64,
-    task: SpanTask,
+pub enum Job<M: Monitor> {
+    /// A window of a manager.
+    Manager(ManagerJob),
+    /// A window of a monitor, with the monitor itself.
+    Monitor(MonitorJob<M>),
 }
 
-impl Model for Job {
-    ghost use Rattle.std.specs.Coded.{codes};
-    ghost use Rattle.tl_jobs.specs.Jobs.{JobData};
-    ghost use Rattle.tl_span.specs.contracts.state.SpanState as state;
-
-    ghost Value = { JobData };
-
-    ghost coded = { Prim.hlevel (codes, state.the_row.coded) };
-
-    ghost view = { λ j. record { ticket = j.ticket; task = j.task } };
-}
-
-impl Job {
-    /// A window that goes out under a ticket.
-    pub fn new(ticket: u64, task: SpanTask) -> Job
-        ensures { result ≡ record { ticket = ticket; task = task } }
-    {
-        Job { ticket, task }
-    }
-
+impl<M: Monitor> Job<M> {
     /// The number of its ticket.
     pub fn ticket(&self) -> u64
-        ensures { result ≡ self.now.ticket }
+        ensures { result ≡ ticket_of self.now }
     {
-        self.ticket
+        match self {
+            Job::Manager(job) => job.ticket(),
+            Job::Monitor(job) => job.ticket(),
+        }
     }
 
     /// Whose window it is.
     pub fn piece(&self) -> Piece
-        ensures { result ≡ piece_of self.now }
+        ensures { result ≡ window_of self.now }
     {
-        Piece::Manager(self.task.manager(), self.task.window())
+        match self {
+            Job::Manager(job) => job.piece(),
+            Job::Monitor(job) => job.piece(),
+        }
     }
 
-    /// The window with all that its check asks.
-    pub fn task(&self) -> &SpanTask
-        ensures { result.now ≡ self.now.task }
-    {
-        &self.task
-    }
-
-    /// Gives the job up. Its desk hears nothing of it: the ticket stays out there, and live until it is recalled.
+    /// Gives the job up; a monitor is dropped, and no edit has closed it. Its desk hears nothing of it: the ticket stays out there,
+    /// and live until it is recalled.
     pub fn forfeit(self) {
-        let Job { ticket: _, task: _ } = self;
+        match self {
+            Job::Manager(job) => job.forfeit(),
+            Job::Monitor(job) => job.forfeit(),
+        }
     }
 }
 
-/// A job that was checked. Its result is the pass of its own window, from the state that it was to be checked from, whoever
-/// checked it. It must be spent, as a job.
-pub struct Done {
-    job: Job,
-    stored: Stored<SpanState, Rows>,
+/// A job that was checked. Its result is the pass of its own window, from what it was to be checked from, whoever checked it. It
+/// must be spent, as a job.
+pub enum Done<M: Monitor> {
+    /// A window of a manager.
+    Manager(ManagerDone),
+    /// A window of a monitor, with the monitor itself.
+    Monitor(MonitorDone<M>),
 }
 
-impl Model for Done {
-    ghost use Rattle.std.specs.Coded.{codes};
-    ghost use Rattle.tl_jobs.specs.Jobs.{DoneData, IsDone};
-    ghost use Rattle.tl_pieces.specs.Marks.{pass_of};
-    ghost use Rattle.tl_span.specs.contracts.state.SpanState as state;
-
-    ghost Value = { DoneData };
-
-    ghost coded = { Prim.hlevel (codes, state.the_row.coded) };
-
-    ghost view = { λ d. record { job = d.job; result = pass_of d.stored } };
-
-    ghost invariant = { λ d. IsDone (record { job = d.job; result = pass_of d.stored }) };
-}
-
-impl Done {
+impl<M: Monitor> Done<M> {
     /// The number of its ticket.
     pub fn ticket(&self) -> u64
-        ensures { result ≡ self.now.job.ticket }
+        ensures { result ≡ done_ticket self.now }
     {
-        let _ = &self.stored;
-        self.job.ticket()
+        match self {
+            Done::Manager(done) => done.ticket(),
+            Done::Monitor(done) => done.ticket(),
+        }
     }
 
     /// Whose window it is.
     pub fn piece(&self) -> Piece
-        ensures { result ≡ piece_of self.now.job }
+        ensures { result ≡ done_window self.now }
     {
-        let _ = &self.stored;
-        self.job.piece()
-    }
-
-    /// The job that was checked.
-    pub fn job(&self) -> &Job
-        ensures exact { result.now ≡ self.now.job }
-        ensures kept { IsDone self.now }
-    {
-        let _ = &self.stored;
-        &self.job
+        match self {
+            Done::Manager(done) => done.piece(),
+            Done::Monitor(done) => done.piece(),
+        }
     }
 
     /// The job again, with its result dropped. It takes no memory.
-    pub fn back(self) -> Job
-        ensures { result ≡ self.job }
+    pub fn back(self) -> Job<M>
+        ensures { result ≡ job_of self }
     {
-        let Done { job, stored: _ } = self;
-        job
+        match self {
+            Done::Manager(done) => Job::Manager(done.back()),
+            Done::Monitor(done) => Job::Monitor(done.back()),
+        }
     }
 
-    /// The ticket, the window and the result.
-    pub fn into_parts(self) -> (u64, SpanTask, Stored<SpanState, Rows>)
-        ensures ticket { result.0 ≡ self.job.ticket }
-        ensures task { result.1 ≡ self.job.task }
-        ensures result { pass_of result.2 ≡ self.result }
-        ensures kept { IsDone self }
-    {
-        let Done { job, stored } = self;
-        let Job { ticket, task } = job;
-        (ticket, task, stored)
+    /// Gives the job up with its result, as a job.
+    pub fn forfeit(self) {
+        match self {
+            Done::Manager(done) => done.forfeit(),
+            Done::Monitor(done) => done.forfeit(),
+        }
     }
 }
 
-/// Checks a job. For want of memory the same job comes back.
-pub fn work(alloc: Global, job: Job) -> Result<Done, Job>
-    ensures ok { IfOk result (λ done. done.job ≡ job) }
-    ensures err { IfErr result (λ back. back ≡ job) }
+/// Checks a job: its ticket and its window stay, and so does a monitor but for its tally. For want of memory the same job comes
+/// back, a monitor with the tally of some of its beats.
+pub fn work<M: Monitor>(alloc: Global, job: Job<M>) -> Result<Done<M>, Job<M>>
+    ensures ok { IfOk result (IsDoneFrom job) }
+    ensures pass { IfOk result IsChecked }
+    ensures err { IfErr result (ComesBack job) }
 {
-    match job.task.check(alloc) {
-        Ok(stored) => Ok(Done { job, stored }),
-        Err(_) => Err(job),
+    match job {
+        Job::Manager(job) => match work_manager(alloc, job) {
+            Ok(done) => {
+                let _ = done.job();
+                Ok(Done::Manager(done))
+            }
+            Err(job) => Err(Job::Manager(job)),
+        },
+        Job::Monitor(job) => match work_monitor(alloc, job) {
+            Ok(done) => {
+                let _ = done.job();
+                Ok(Done::Monitor(done))
+            }
+            Err(job) => Err(Job::Monitor(job)),
+        },
     }
 }
 
 /// What a desk makes of a job that comes back checked.
-pub enum HandIn {
+pub enum HandIn<M: Monitor> {
     /// The result is of what stands, and the ticket was the window's live one.
     Taken,
     /// The ticket was out, and the result stands for nothing any more.
     Void,
     /// The ticket isn't out at this desk: the job comes back.
-    Stranger(Done),
+    Stranger(Done<M>),
 }

@@ -17,7 +17,7 @@ use Rattle.tl_beats.specs.declared.watch.Watch.{Watch}
 use Rattle.tl_run.specs.Commands.{asked, attached_by, watches_of}
 use Rattle.tl_inputs.specs.Edits.{AnEdit}
 use Rattle.tl_run.specs.Audits.{edits_of, IsStopAt}
-use Rattle.tl_run.specs.Output.{Progress, RunData, start, IsStep, IsOutput, TakesBox, LacksBox, accepted, edits_with}
+use Rattle.tl_run.specs.Output.{Progress, start, IsStep, IsOutput, TakesBox, LacksBox, accepted, edits_with}
 use Rattle.tl_script.specs.Text.{IsCommand}
 use Rattle.tl_script.proofs.CommandTexts.{reads_are_spelled}
 use Rattle.tl_script.specs.declared.fault.ScriptFault.TheVariants as fault

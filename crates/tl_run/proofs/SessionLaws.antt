@@ -1,11 +1,9 @@
 -- What calls on a desk make of a run.
-use Rattle.std.proofs.Common.{◌≡◌, ℕ, ◌+◌, ◌-◌, ◌<◌, Bool, true, false, List, [], ◌∷◌, ◌++◌, length, length-append, Option, Some, None, refl, sym, ap, ◌∙◌, subst, arith, nat_lt}
+use Rattle.std.proofs.Common.{◌≡◌, ℕ, ◌+◌, ◌-◌, ◌<◌, true, false, List, [], ◌∷◌, ◌++◌, length, length-append, Option, Some, None, Result, Ok, Err, IfOk, OnErr, refl, sym, ap, ◌∙◌, subst, arith, nat_lt}
 use Rattle.std.specs.Prelude.{slice_get}
 use Rattle.std.specs.Option.{option_map_or}
 use Rattle.std.proofs.lemmas.Bool.Decides.{nat_tests}
 use Rattle.tl_topology.specs.Topology.{Topology}
-use Rattle.tl_beats.specs.declared.Row.{Row}
-use Rattle.tl_beats.specs.declared.watch.Watch.{Watch}
 use Rattle.tl_definitions.specs.Report.{IsReport}
 use Rattle.tl_inputs.specs.Edits.{AnEdit, plain_change, code_of, number_of}
 use Rattle.tl_inputs.specs.Inputs.{refusal}
@@ -15,8 +13,9 @@ use Rattle.tl_inputs.specs.declared.edit.Change.TheVariants as change
 use Rattle.tl_inputs.specs.declared.fault.EditFault.{EditFault}
 use Rattle.tl_plain.specs.Captured.{captures_after}
 use Rattle.tl_report.specs.Output.{ReportData, report_bytes}
-use Rattle.tl_desk.specs.Core.{Core, IsNew, AllSettled, latest_of, log_of, standing, most_versions}
-use Rattle.tl_desk.specs.Steps.{Edits, Publishes, RechecksAll}
+use Rattle.tl_desk.specs.Core.{Core, AllHere, IsNew, AllSettled, latest_of, log_of, standing, most_versions}
+use Rattle.tl_desk.specs.Steps.{Edits, Publishes, RechecksAll, Step}
+use Rattle.tl_desk.specs.declared.call.Call.TheVariants as call
 use Rattle.tl_run.specs.Commands.{an_edit, a_report, attached_in}
 use Rattle.tl_run.specs.Output.{Progress, IsEdit, IsPublish, IsRenewed, IsStep, edit_text, progress_of, refused_text, start}
 
@@ -62,6 +61,12 @@ pub refusal_step : (old new : Core) (e : AnEdit) (fault : EditFault) (line : Lis
     → IsStep (log_of old).topo (progress_of old) (an_edit e) line (progress_of new)
 unfolding IsStep
 refusal_step old new e fault line why same said = subst (λ found. IsEdit (progress_of old) e found line (progress_of new)) (sym why) (said, ap progress_of same)
+
+-- An edit, also one that is refused, sends no monitor out.
+pub here_behind_edit : (old new : Core) (c : Change) (r : Result ℕ EditFault) → ((number : ℕ) → Step old (call.Edit c number) new → AllHere old.boxes → AllHere new.boxes)
+    → IfOk r (λ number. Step old (call.Edit c number) new) → OnErr r (new ≡ old) → AllHere old.boxes → AllHere new.boxes
+here_behind_edit old new c (Ok number) kept step same all = kept number step all
+here_behind_edit old new c (Err fault) kept step same all = subst (λ (core : Core). AllHere core.boxes) (sym same) all
 
 -- ---- reports
 

@@ -6,7 +6,6 @@ mod audit;
 pub mod laws;
 mod lines;
 mod run;
-mod same_watch;
 mod session;
 mod stop;
 

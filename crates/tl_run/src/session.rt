@@ -13,17 +13,17 @@ ghost use Rattle.tl_run.specs.Output.{start, edit_text, refused_text, IsStep, Ta
 ghost use Rattle.tl_run.specs.declared.session.CommandFault.TheVariants.{Memory};
 
 use crate::asked::Asked;
-use crate::same_watch::is_watch;
 use std::alloc::{AllocError, Global};
 use std::collections::VecDeque;
 use std::marker::Model;
 use thiserror::Error;
 use tl_beats::Watch;
-use tl_desk::{Desk, PublishFault};
+use tl_desk::{Desk, PublishFault, RecheckFault};
 use tl_inputs::{Change, EditFault, Inputs};
 use tl_monitor::Monitor;
 use tl_report::{Report, report_text};
 use tl_topology::Topo;
+use tl_watches::is_watch;
 
 /// Why a command has no lines.
 #[derive(Clone, Copy, Debug, Drop, Error, PartialEq, Eq)]
@@ -63,8 +63,8 @@ fn refused(alloc: Global, code: u8, number: Option<u32>) -> Result<String, Alloc
     }
 }
 
-/// A desk with the edits that were accepted and the reports that were published, and the monitors that no command has attached
-/// yet, the next one first.
+/// A desk with the edits that were accepted and the reports that were published, which gives no jobs, so that each of its monitors
+/// is here; and the monitors that no command has attached yet, the next one first.
 #[derive(Drop)]
 pub struct Session<M: Monitor> {
     desk: Desk<M>,
@@ -72,13 +72,15 @@ pub struct Session<M: Monitor> {
 }
 
 impl<M: Monitor> Model for Session<M> {
-    ghost use Rattle.tl_desk.specs.Core.{log_of};
+    ghost use Rattle.tl_desk.specs.Core.{log_of, AllHere};
     ghost use Rattle.tl_run.specs.Boxes.{watches_in};
     ghost use Rattle.tl_run.specs.Output.{RunData, progress_of};
 
     ghost Value = { RunData };
 
     ghost view = { λ s. record { topo = (log_of s.desk).topo; now = progress_of s.desk; boxes = watches_in M.held s.boxes.items } };
+
+    ghost invariant = { λ s. AllHere s.desk.boxes };
 }
 
 impl<M: Monitor> Session<M> {
@@ -129,6 +131,7 @@ impl<M: Monitor> Session<M> {
         ensures step { IfOk result (λ line. IsStep self.old.topo self.old.now (an_edit (plain_change change)) (string_bytes line) self.new.now) }
     {
         let _ = &self.boxes;
+        let _ = self.desk.settlements();
         match self.desk.edit(alloc, change) {
             Ok(number) => accepted(alloc, number),
             Err(EditFault::Memory) => Err(AllocError),
@@ -178,14 +181,17 @@ impl<M: Monitor> Session<M> {
         ensures step { IfOk result (λ lines. IsStep self.old.topo self.old.now a_report (string_bytes lines) self.new.now) }
     {
         let _ = &self.boxes;
-        self.desk.recheck_now(alloc)?;
-        match self.desk.publish(alloc) {
-            Ok(version) => {
-                let report = self.desk.report(version).unwrap();
-                report_text(alloc, self.desk.log().inputs().topo(), report)
-            }
-            Err(PublishFault::Memory) => Err(AllocError),
-            Err(fault) => refused(alloc, fault.code(), None),
+        match self.desk.recheck_now(alloc) {
+            Ok(_) => match self.desk.publish(alloc) {
+                Ok(version) => {
+                    let report = self.desk.report(version).unwrap();
+                    report_text(alloc, self.desk.log().inputs().topo(), report)
+                }
+                Err(PublishFault::Memory) => Err(AllocError),
+                Err(fault) => refused(alloc, fault.code(), None),
+            },
+            Err(RecheckFault::Memory) => Err(AllocError),
+            Err(RecheckFault::BoxOut(_)) => unreachable!(),
         }
     }
 
@@ -210,7 +216,11 @@ impl<M: Monitor> Session<M> {
     /// Ends the run: each monitor that is still attached is closed with the number of the last edit, and all are dropped.
     pub fn finish(self) {
         let Session { desk, boxes } = self;
-        drop(desk.finish());
+        let _ = desk.settlements();
+        match desk.finish() {
+            Ok(done) => drop(done),
+            Err(_) => unreachable!(),
+        }
         drop(boxes);
     }
 }

@@ -151,10 +151,10 @@ kept_zero (watch.After link first second) = refl
 -- ---- what is left of an untouched window
 
 module _ (now : InputData) (e : AnEdit) (before : IsPresent now.fragments) (after : IsPresent (changed now e).fragments) where
-  same_watch : (number window : ℕ) → (TouchesWatch now e number window → ⊥) → watch_at number (changed now e).monitors ≡ watch_at number now.monitors
+  pub same_watch : (number window : ℕ) → (TouchesWatch now e number window → ⊥) → watch_at number (changed now e).monitors ≡ watch_at number now.monitors
   same_watch number window not = others_left now e number (λ edited. not (inl edited))
 
-  same_beats : (number window : ℕ) → (TouchesWatch now e number window → ⊥) → beats_in window (beats_for (changed now e) number) ≡ beats_in window (beats_for now number)
+  pub same_beats : (number window : ℕ) → (TouchesWatch now e number window → ⊥) → beats_in window (beats_for (changed now e) number) ≡ beats_in window (beats_for now number)
   same_beats number window not =
       ap (λ o. beats_in window (option_map_or (watched_beats (changed now e).topo (changed now e).fragments) o [])) (same_watch number window not)
       ∙ ap (λ t. beats_in window (option_map_or (watched_beats t (changed now e).fragments) (watch_at number now.monitors) [])) (same_topology now e)

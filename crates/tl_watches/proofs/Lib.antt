@@ -2,7 +2,7 @@ mod MonitorLemmas
 mod PassLemmas
 mod RowLemmas
 mod TouchLemmas
-mod AfterLemmas
+pub mod AfterLemmas
 mod KeyLemmas
 mod OwnerLemmas
 mod TaskLemmas

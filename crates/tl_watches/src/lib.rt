@@ -15,6 +15,7 @@ mod touched;
 mod watches;
 
 pub use outside::watch_key;
+pub use same_watch::is_watch;
 pub use tally::Tally;
 pub use task::{WatchTask, WatchWindow};
 pub use watches::Watches;

@@ -6,7 +6,7 @@ ghost use Rattle.std.specs.Bool.{Decides};
 use tl_beats::Watch;
 
 /// Whether both watch the same link for the same.
-pub(crate) fn is_watch(one: &Watch, other: &Watch) -> bool
+pub fn is_watch(one: &Watch, other: &Watch) -> bool
     ensures { Decides result (one.now ≡ other.now) }
 {
     match (one, other) {

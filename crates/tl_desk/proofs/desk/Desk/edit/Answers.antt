@@ -1,27 +1,25 @@
 use Rattle.std.proofs.Common.{◌≡◌, sym, subst, ◌∙◌}
+use Rattle.tl_boxes.specs.Boxes.{BoxesData}
 use Rattle.tl_inputs.specs.Edits.{AnEdit, plain_change}
 use Rattle.tl_inputs.specs.Inputs.{changed}
-use Rattle.tl_spans.specs.Spans.{standing}
 use Rattle.tl_spans.proofs.EditLemmas.{stands}
-use Rattle.tl_desk.specs.Boxes.{BoxesData}
-use Rattle.tl_desk.specs.Core.{AreAttached}
+use Rattle.tl_desk.specs.Core.{Core, log_of, standing}
+use Rattle.tl_desk.specs.Ends.{HaveEnded}
 use Rattle.tl_desk.specs.Steps.{boxes_after}
-use Rattle.tl_desk.proofs.AttachedLemmas.{attached_after}
-use Rattle.tl_desk.proofs.ReportLemmas.{reports_stay}
-use Rattle.tl_desk.proofs.TicketLemmas.{tickets_edited}
+use Rattle.tl_desk.proofs.AttachedLemmas.{Keeps, attached_after}
+use Rattle.tl_desk.proofs.EndLemmas.{ends_changed}
+use Rattle.tl_desk.proofs.ReportLemmas.{sound_edited}
 use Rattle.tl_desk.proofs.desk.Desk.edit.Goals as goal
 
 pub invariant_of-self-2 : goal.invariant_of-self-2
 invariant_of-self-2 g c =
     let e : AnEdit = plain_change c.args.change in
-    let old = c.self.inside in
-    let ok = c.in_ok-number.ensures.ok in
+    let old : Core = record { windows = c.self.inside.windows; boxes = c.self.inside.boxes; reports = c.self.inside.reports.items; tickets = c.self.inside.tickets } in
     let boxes : c.apply.new.boxes ≡ boxes_after e c.in_ok-number.number old.boxes = c.apply.ensures.made ∙ sym (c.of-of_boxes.ensures c.in_ok-number.number old.boxes) in
-    record {
-      attached = subst (λ now. AreAttached now c.apply.new.boxes.live) (sym (stands old.windows.spans e c.edit.new.self.spans.log c.edit.new.self.spans.board ok.spans.log))
-          (subst (λ (b : BoxesData). AreAttached (changed (standing old.windows.spans) e) b.live) (sym boxes) (attached_after (standing old.windows.spans) c.args.change c.in_ok-number.number old.boxes c.apply.ensures.order c.self.invariant.attached));
-      reports = reports_stay old.windows.spans.log c.edit.new.self.spans.log e old.reports.items ok.spans.log c.self.invariant.reports;
-      versions = c.self.invariant.versions;
-      few = c.self.invariant.few;
-      tickets = tickets_edited old.windows e c.edit.new.self old.tickets ok c.present.ensures.kept c.present-2.ensures.kept c.self.invariant.tickets;
-    }
+    let kept : Keeps (changed (standing old) e) old.boxes (boxes_after e c.in_ok-number.number old.boxes) =
+    attached_after (standing old) c.args.change c.in_ok-number.number old.boxes c.apply.ensures.order c.self.invariant.attached c.self.invariant.known in
+    let ends : HaveEnded c.edit.new.self.spans.log (boxes_after e c.in_ok-number.number old.boxes) =
+    ends_changed (log_of old) c.edit.new.self.spans.log c.args.change c.in_ok-number.number old.boxes c.apply.ensures.order c.self.invariant.attached c.self.invariant.ends c.in_ok-number.ensures.accepted
+    c.in_ok-number.ensures.ok.spans.log c.in_ok-number.ensures.number (stands old.windows.spans e c.edit.new.self.spans.log c.edit.new.self.spans.board c.in_ok-number.ensures.ok.spans.log) in
+    sound_edited old e c.edit.new.self c.apply.new.boxes c.self.invariant c.in_ok-number.ensures.ok c.present.ensures.kept c.present-2.ensures.kept
+    (subst (λ (b : BoxesData). Keeps (changed (standing old) e) old.boxes b) (sym boxes) kept) (subst (HaveEnded c.edit.new.self.spans.log) (sym boxes) ends)

@@ -1,13 +1,14 @@
-use Rattle.std.proofs.Common.{◌≡◌, true, false, refl, sym, subst, ◌∙◌}
-use Rattle.tl_jobs.specs.Jobs.{JobData}
-use Rattle.tl_desk.specs.Jobs.{IsFresh, Ends}
+use Rattle.std.proofs.Common.{sym, subst}
+use Rattle.tl_desk.specs.Jobs.{HandsBack}
+use Rattle.tl_desk.proofs.JobLemmas.{hand_step}
 use Rattle.tl_desk.proofs.desk.Desk.hand_in.Goals as goal
 
-pub returns-else-is_fresh-clause-step : goal.returns-else-is_fresh-clause-step
-returns-else-is_fresh-clause-step g c = (
-  c.args.done.job,
-  refl,
-  refl,
-  (λ fresh. let yes : c.is_fresh.result ≡ true = c.is_fresh.ensures.1 (subst (λ (j : JobData). IsFresh c.args.self.now j) (sym c.job.ensures.exact) fresh) in let never : true ≡ false = sym yes ∙ c.if-is_fresh.false in cc),
-  subst (λ (j : JobData). Ends c.args.self.now j c.end.new.self) c.back.ensures c.end.ensures,
-)
+pub returns-in-Manager-clause-step : goal.returns-in-Manager-clause-step
+returns-in-Manager-clause-step g c =
+    hand_step c.args.self.now c.args.done c.hand_in_manager.result c.hand_in_manager.new.self
+    (subst (λ d. HandsBack c.args.self.now d c.hand_in_manager.result c.hand_in_manager.new.self) (sym c.in-Manager.is) c.hand_in_manager.ensures)
+
+pub returns-in-Monitor-clause-step : goal.returns-in-Monitor-clause-step
+returns-in-Monitor-clause-step g c =
+    hand_step c.args.self.now c.args.done c.hand_in_monitor.result c.hand_in_monitor.new.self
+    (subst (λ d. HandsBack c.args.self.now d c.hand_in_monitor.result c.hand_in_monitor.new.self) (sym c.in-Monitor.is) c.hand_in_monitor.ensures)

@@ -7,7 +7,7 @@ use Rattle.tl_desk.proofs.desk.Desk.leave.Given as goal
 -- the jobs that are left are out, and nothing but them is to be abandoned
 abbrev pub invariant-loop-place : goal.invariant-loop-place
 invariant-loop-place g l = record {
-  out : AreOut (into_iter_items l.places) l.self.tickets.out;
+  out : AreOut (into_iter_items l.places) l.self;
   len : into_iter_len l.places ≡ length (into_iter_items l.places);
   left : Left l.fn.places.items l.fn.self (into_iter_items l.places) l.self;
 }

@@ -1,9 +1,9 @@
 use Rattle.std.proofs.Common.{◌≡◌, Some, sym, subst, ◌∙◌}
 use Rattle.std.specs.Option.{IfSome}
 use Rattle.std.specs.Result.{OnOk}
-use Rattle.tl_jobs.specs.Jobs.{JobData, piece_of}
-use Rattle.tl_tickets.specs.Tickets.{AreTickets, IsOutFor}
+use Rattle.tl_jobs.specs.Works.{ticket_of, window_of}
 use Rattle.tl_desk.specs.Core.{Core}
+use Rattle.tl_desk.specs.Jobs.{IsOutHere, TakesBack}
 use Rattle.tl_desk.specs.Plays.{LeavesOne, job_of}
 use Rattle.tl_desk.specs.Steps.{Step}
 use Rattle.tl_desk.specs.declared.call.Call.TheVariants as call
@@ -14,30 +14,30 @@ pub returns-in_default-clause-left : goal.returns-in_default-clause-left
 returns-in_default-clause-left g c = left_none c.args.place c.args.self.now (sym c.into_job.ensures ∙ c.in_default.is)
 
 pub returns-in_default-clause-out : goal.returns-in_default-clause-out
-returns-in_default-clause-out g c = λ rest are. out_rest c.args.place rest c.args.self.now.tickets.out are
+returns-in_default-clause-out g c = λ rest are. out_rest c.args.place rest c.args.self.now are
 
 pub unwrap-requires : goal.unwrap-requires
 unwrap-requires g c =
-    let job : JobData = c.in-Some.job in
+    let job = c.in-Some.job in
     let is : job_of c.args.place ≡ Some job = sym c.into_job.ensures ∙ c.in-Some.is in
-    let out : IsOutFor job.ticket (piece_of job) c.args.self.now.tickets.out = subst (λ o. IfSome o (λ one. IsOutFor one.ticket (piece_of one) c.args.self.now.tickets.out)) is c.requires in
-    not_refused (IsOutFor job.ticket (piece_of job) c.args.self.now.tickets.out) c.abandon.result c.abandon.ensures.stranger out
+    let out : IsOutHere c.args.self.now job = subst (λ o. IfSome o (IsOutHere c.args.self.now)) is c.requires in
+    not_refused (IsOutHere c.args.self.now job) c.abandon.result c.abandon.ensures.stranger out
 
 pub returns-clause-left : goal.returns-clause-left
 returns-clause-left g c =
     let old : Core = c.args.self.now in
     let new : Core = c.abandon.new.self in
-    let job : JobData = c.in-Some.job in
+    let job = c.in-Some.job in
     let is : job_of c.args.place ≡ Some job = sym c.into_job.ensures ∙ c.in-Some.is in
-    let step : Step old (call.Abandon job.ticket (piece_of job)) new = subst (λ r. OnOk r (Step old (call.Abandon job.ticket (piece_of job)) new)) c.unwrap.ensures c.abandon.ensures.step in
-    subst (λ o. LeavesOne o old new) (sym is) step
+    let step : Step old (call.Abandon (ticket_of job) (window_of job)) new = subst (λ r. OnOk r (Step old (call.Abandon (ticket_of job) (window_of job)) new)) c.unwrap.ensures c.abandon.ensures.step in
+    let back : TakesBack old job new = subst (λ r. OnOk r (TakesBack old job new)) c.unwrap.ensures c.abandon.ensures.ended in
+    subst (λ o. LeavesOne o old new) (sym is) (step, back)
 
 pub returns-clause-out : goal.returns-clause-out
 returns-clause-out g c = λ rest are. (
     let old : Core = c.args.self.now in
     let new : Core = c.abandon.new.self in
-    let job : JobData = c.in-Some.job in
+    let job = c.in-Some.job in
     let is : job_of c.args.place ≡ Some job = sym c.into_job.ensures ∙ c.in-Some.is in
-    let step : Step old (call.Abandon job.ticket (piece_of job)) new = subst (λ r. OnOk r (Step old (call.Abandon job.ticket (piece_of job)) new)) c.unwrap.ensures c.abandon.ensures.step in
-    let are_tickets : AreTickets old.tickets = subst (λ (k : Core). AreTickets k.tickets) c.self.view_is c.self.invariant.tickets.are in
-    left_out c.args.place rest job old new is are_tickets are step)
+    let back : TakesBack old job new = subst (λ r. OnOk r (TakesBack old job new)) c.unwrap.ensures c.abandon.ensures.ended in
+    left_out c.args.place rest job old new is c.log.ensures.kept c.settlements.ensures.kept are back)

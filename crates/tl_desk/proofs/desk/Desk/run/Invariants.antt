@@ -11,7 +11,7 @@ invariant-loop-step g l = record {
   places : vec_len l.places + into_iter_len l.steps ≤ vec_capacity l.places;
   replies : vec_len l.replies + into_iter_len l.steps ≤ vec_capacity l.replies;
   len : into_iter_len l.steps ≡ length (into_iter_items l.steps);
-  out : AreOut l.places.items l.self.tickets.out;
+  out : AreOut l.places.items l.self;
   ran : Ran (λ m. (g.M.Monitor.held m).watch) l.fn.steps.items l.fn.places.items l.fn.self (into_iter_items l.steps) l.replies.items l.places.items l.self;
 }
 

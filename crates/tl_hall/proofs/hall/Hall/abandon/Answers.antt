@@ -1,9 +1,9 @@
 use Rattle.std.proofs.Common.{◌≡◌, ap, sym, ◌∙◌, subst}
-use Rattle.tl_jobs.specs.Jobs.{piece_of}
+use Rattle.tl_jobs.specs.Works.{ticket_of, window_of}
 use Rattle.tl_desk.specs.declared.call.Call.{Call}
 use Rattle.tl_desk.specs.declared.call.Call.TheVariants as call
 use Rattle.tl_hall.specs.History.{Leads}
-use Rattle.tl_hall.specs.Passes.{PassData, passed, Made, NoMore}
+use Rattle.tl_hall.specs.Passes.{PassData, passed, Made, IsAbandoned}
 use Rattle.tl_hall.proofs.Passing.{made, rests_with, recorded_as, written}
 use Rattle.tl_hall.proofs.hall.Hall.abandon.Goals as goal
 
@@ -14,8 +14,8 @@ leave_with-requires-clause-desk g c =
     let job = c.args.job in
     let led = subst (λ r. Leads r now.seen c.enter-desk.result) (sym e.saw.topo_is) e.desk in
     let told : Call = call.Abandon c.ticket-ticket.result c.piece-piece.result in
-    let made_call : Call = call.Abandon job.ticket (piece_of job) in
-    let same : made_call ≡ told = ap (λ t. call.Abandon t (piece_of job)) (sym c.ticket-ticket.ensures) ∙ ap (λ p. call.Abandon c.ticket-ticket.result p) (sym c.piece-piece.ensures) in
+    let made_call : Call = call.Abandon (ticket_of job) (window_of job) in
+    let same : made_call ≡ told = ap (λ t. call.Abandon t (window_of job)) (sym c.ticket-ticket.ensures) ∙ ap (λ p. call.Abandon c.ticket-ticket.result p) (sym c.piece-piece.ensures) in
     recorded_as now c.enter-desk.result c.abandon.new.self made_call told same led tt c.in-Ok.ensures.step
 
 pub invariant_of-result : goal.invariant_of-result
@@ -26,9 +26,9 @@ returns-in-Ok-clause-ok g c =
     let e = c.enter-desk.ensures in
     let job = c.args.job in
     let told : Call = call.Abandon c.ticket-ticket.result c.piece-piece.result in
-    let made_call : Call = call.Abandon job.ticket (piece_of job) in
-    let same : told ≡ made_call = ap (λ t. call.Abandon t c.piece-piece.result) c.ticket-ticket.ensures ∙ ap (λ p. call.Abandon job.ticket p) c.piece-piece.ensures in
+    let made_call : Call = call.Abandon (ticket_of job) (window_of job) in
+    let same : told ≡ made_call = ap (λ t. call.Abandon t c.piece-piece.result) c.ticket-ticket.ensures ∙ ap (λ p. call.Abandon (ticket_of job) p) c.piece-piece.ensures in
     let after = c.leave_with.new.seat in
-    subst (λ (p : PassData). Made p made_call NoMore (passed after.table_id after.me.0)) c.pass.view_is
-    (made c.pass.inside.seat.table_id after.table_id c.pass.inside.seat.me.0 c.enter-desk.new.seat.me after.me c.enter-desk.result c.abandon.new.self made_call NoMore (c.leave_with.ensures.hall ∙ e.hall) e.saw e.desk tt c.in-Ok.ensures.step tt
+    subst (λ (p : PassData). Made p made_call (IsAbandoned job) (passed after.table_id after.me.0)) c.pass.view_is
+    (made c.pass.inside.seat.table_id after.table_id c.pass.inside.seat.me.0 c.enter-desk.new.seat.me after.me c.enter-desk.result c.abandon.new.self made_call (IsAbandoned job) (c.leave_with.ensures.hall ∙ e.hall) e.saw e.desk tt c.in-Ok.ensures.step c.in-Ok.ensures.ended
     (written c.enter-desk.new.seat.me after.me told made_call same c.leave_with.ensures.now))

@@ -1,9 +1,10 @@
 use Rattle.std.proofs.Common.{◌≡◌, ap, sym, ◌∙◌, subst, true, false}
-use Rattle.tl_jobs.specs.Jobs.{piece_of}
+use Rattle.tl_jobs.specs.Works.{done_ticket, done_window}
+use Rattle.tl_jobs.specs.declared.job.HandIn.TheVariants as answer
 use Rattle.tl_desk.specs.declared.call.Call.{Call}
 use Rattle.tl_desk.specs.declared.call.Call.TheVariants as call
 use Rattle.tl_hall.specs.History.{Leads}
-use Rattle.tl_hall.specs.Passes.{PassData, passed, Made, IsTaken, IsVoid}
+use Rattle.tl_hall.specs.Passes.{PassData, passed, Made, ComesTo}
 use Rattle.tl_hall.proofs.Passing.{made, rests_with, recorded_as, written}
 use Rattle.tl_hall.proofs.hall.Hall.hand_in.Goals as goal
 
@@ -11,22 +12,22 @@ pub leave_with-requires-clause-desk : goal.leave_with-requires-clause-desk
 leave_with-requires-clause-desk g c =
     let e = c.enter-desk.ensures in
     let now = c.enter-desk.new.seat.me.0 in
-    let job = c.args.done.job in
+    let done = c.args.done in
     let led = subst (λ r. Leads r now.seen c.enter-desk.result) (sym e.saw.topo_is) e.desk in
     let told : Call = call.HandIn c.ticket-ticket.result c.piece-piece.result true in
-    let made_call : Call = call.HandIn job.ticket (piece_of job) true in
-    let same : made_call ≡ told = ap (λ t. call.HandIn t (piece_of job) true) (sym c.ticket-ticket.ensures) ∙ ap (λ p. call.HandIn c.ticket-ticket.result p true) (sym c.piece-piece.ensures) in
+    let made_call : Call = call.HandIn (done_ticket done) (done_window done) true in
+    let same : made_call ≡ told = ap (λ t. call.HandIn t (done_window done) true) (sym c.ticket-ticket.ensures) ∙ ap (λ p. call.HandIn c.ticket-ticket.result p true) (sym c.piece-piece.ensures) in
     recorded_as now c.enter-desk.result c.hand_in.new.self made_call told same led tt c.in-Taken.ensures.step
 
 pub leave_with-requires-in-Void-clause-desk : goal.leave_with-requires-in-Void-clause-desk
 leave_with-requires-in-Void-clause-desk g c =
     let e = c.enter-desk.ensures in
     let now = c.enter-desk.new.seat.me.0 in
-    let job = c.args.done.job in
+    let done = c.args.done in
     let led = subst (λ r. Leads r now.seen c.enter-desk.result) (sym e.saw.topo_is) e.desk in
     let told : Call = call.HandIn c.ticket-ticket.result c.piece-piece.result false in
-    let made_call : Call = call.HandIn job.ticket (piece_of job) false in
-    let same : made_call ≡ told = ap (λ t. call.HandIn t (piece_of job) false) (sym c.ticket-ticket.ensures) ∙ ap (λ p. call.HandIn c.ticket-ticket.result p false) (sym c.piece-piece.ensures) in
+    let made_call : Call = call.HandIn (done_ticket done) (done_window done) false in
+    let same : made_call ≡ told = ap (λ t. call.HandIn t (done_window done) false) (sym c.ticket-ticket.ensures) ∙ ap (λ p. call.HandIn c.ticket-ticket.result p false) (sym c.piece-piece.ensures) in
     recorded_as now c.enter-desk.result c.hand_in.new.self made_call told same led tt c.in-Void.ensures.step
 
 pub invariant_of-result : goal.invariant_of-result
@@ -38,23 +39,23 @@ invariant_of-result-in-Void g c = rests_with c.enter-desk.new.seat.me c.leave_wi
 pub returns-in-Taken : goal.returns-in-Taken
 returns-in-Taken g c =
     let e = c.enter-desk.ensures in
-    let job = c.args.done.job in
+    let done = c.args.done in
     let told : Call = call.HandIn c.ticket-ticket.result c.piece-piece.result true in
-    let made_call : Call = call.HandIn job.ticket (piece_of job) true in
-    let same : told ≡ made_call = ap (λ t. call.HandIn t c.piece-piece.result true) c.ticket-ticket.ensures ∙ ap (λ p. call.HandIn job.ticket p true) c.piece-piece.ensures in
+    let made_call : Call = call.HandIn (done_ticket done) (done_window done) true in
+    let same : told ≡ made_call = ap (λ t. call.HandIn t c.piece-piece.result true) c.ticket-ticket.ensures ∙ ap (λ p. call.HandIn (done_ticket done) p true) c.piece-piece.ensures in
     let after = c.leave_with.new.seat in
-    subst (λ (p : PassData). Made p made_call (IsTaken c.args.done) (passed after.table_id after.me.0)) c.pass.view_is
-    (made c.pass.inside.seat.table_id after.table_id c.pass.inside.seat.me.0 c.enter-desk.new.seat.me after.me c.enter-desk.result c.hand_in.new.self made_call (IsTaken c.args.done) (c.leave_with.ensures.hall ∙ e.hall) e.saw e.desk tt
+    subst (λ (p : PassData). Made p made_call (ComesTo done answer.Taken) (passed after.table_id after.me.0)) c.pass.view_is
+    (made c.pass.inside.seat.table_id after.table_id c.pass.inside.seat.me.0 c.enter-desk.new.seat.me after.me c.enter-desk.result c.hand_in.new.self made_call (ComesTo done answer.Taken) (c.leave_with.ensures.hall ∙ e.hall) e.saw e.desk tt
     c.in-Taken.ensures.step c.in-Taken.ensures.back (written c.enter-desk.new.seat.me after.me told made_call same c.leave_with.ensures.now))
 
 pub returns-in-Void : goal.returns-in-Void
 returns-in-Void g c =
     let e = c.enter-desk.ensures in
-    let job = c.args.done.job in
+    let done = c.args.done in
     let told : Call = call.HandIn c.ticket-ticket.result c.piece-piece.result false in
-    let made_call : Call = call.HandIn job.ticket (piece_of job) false in
-    let same : told ≡ made_call = ap (λ t. call.HandIn t c.piece-piece.result false) c.ticket-ticket.ensures ∙ ap (λ p. call.HandIn job.ticket p false) c.piece-piece.ensures in
+    let made_call : Call = call.HandIn (done_ticket done) (done_window done) false in
+    let same : told ≡ made_call = ap (λ t. call.HandIn t c.piece-piece.result false) c.ticket-ticket.ensures ∙ ap (λ p. call.HandIn (done_ticket done) p false) c.piece-piece.ensures in
     let after = c.leave_with-in-Void.new.seat in
-    subst (λ (p : PassData). Made p made_call (IsVoid c.args.done) (passed after.table_id after.me.0)) c.pass.view_is
-    (made c.pass.inside.seat.table_id after.table_id c.pass.inside.seat.me.0 c.enter-desk.new.seat.me after.me c.enter-desk.result c.hand_in.new.self made_call (IsVoid c.args.done) (c.leave_with-in-Void.ensures.hall ∙ e.hall) e.saw e.desk tt
+    subst (λ (p : PassData). Made p made_call (ComesTo done answer.Void) (passed after.table_id after.me.0)) c.pass.view_is
+    (made c.pass.inside.seat.table_id after.table_id c.pass.inside.seat.me.0 c.enter-desk.new.seat.me after.me c.enter-desk.result c.hand_in.new.self made_call (ComesTo done answer.Void) (c.leave_with-in-Void.ensures.hall ∙ e.hall) e.saw e.desk tt
     c.in-Void.ensures.step c.in-Void.ensures.back (written c.enter-desk.new.seat.me after.me told made_call same c.leave_with-in-Void.ensures.now))

@@ -1,0 +1,28 @@
+use Rattle.std.proofs.Common.{◌≡◌, Some, refl, sym, ap, subst, ◌∙◌}
+use Rattle.std.specs.Option.{IsSome, option_and_then}
+use Rattle.tl_boxes.specs.Places.{held_of}
+use Rattle.tl_spans.specs.Spans.{standing}
+use Rattle.tl_desk.proofs.AttachedLemmas.{here_or_out, lent_place, lent_kept}
+use Rattle.tl_desk.proofs.recheck.check_here.Goals as goal
+
+pub unwrap-monitor-requires : goal.unwrap-monitor-requires
+unwrap-monitor-requires g c =
+    let found = here_or_out (standing c.args.windows.now.spans) c.args.boxes.now c.args.key.owner c.requires.attached c.requires.owner c.requires.here in
+    subst IsSome (sym (c.take_here.ensures.monitor ∙ ap (λ o. option_and_then held_of o) found.1)) refl
+
+pub check_watch-checked-requires-clause-watch : goal.check_watch-checked-requires-clause-watch
+check_watch-checked-requires-clause-watch g c =
+    let found = here_or_out (standing c.args.windows.now.spans) c.args.boxes.now c.args.key.owner c.requires.attached c.requires.owner c.requires.here in
+    let both : Some found.0 ≡ Some c.unwrap-monitor.result = sym (ap (λ o. option_and_then held_of o) found.1) ∙ sym c.take_here.ensures.monitor ∙ c.unwrap-monitor.ensures in
+    let same : found.0 ≡ c.unwrap-monitor.result = cc in
+    found.2 ∙ ap (λ h. Some h.watch) same
+
+pub put_here-requires : goal.put_here-requires
+put_here-requires g c =
+    lent_place c.args.key.owner c.unwrap-monitor.result c.check_watch-checked.new.monitor c.args.boxes.now c.take_here.new.self (sym c.take_here.ensures.monitor ∙ c.unwrap-monitor.ensures) c.take_here.ensures.rest
+    c.check_watch-checked.ensures.watch
+
+pub returns-clause-kept : goal.returns-clause-kept
+returns-clause-kept g c =
+    lent_kept c.args.key.owner c.unwrap-monitor.result c.check_watch-checked.new.monitor c.args.boxes.now c.take_here.new.self (sym c.take_here.ensures.monitor ∙ c.unwrap-monitor.ensures) c.take_here.ensures.rest
+    c.check_watch-checked.ensures.watch c.put_here.new.self c.check_watch-checked.ensures.closed_at c.put_here.ensures

@@ -1,0 +1,26 @@
+-- What the monitors told that ended.
+use Rattle.std.specs.Prelude.{ℕ, ◌≡◌, ◌≤◌, ◌+◌, true, Some, None, length, slice_get}
+use Rattle.tl_beats.specs.declared.watch.Watch.{Watch}
+use Rattle.tl_boxes.specs.Boxes.{BoxesData, place_at, away_at}
+use Rattle.tl_boxes.specs.declared.away.Away.{Away}
+use Rattle.tl_inputs.specs.Inputs.{watch_at, was_attached}
+use Rattle.tl_inputs.specs.Log.{LogData, inputs_after}
+use Rattle.tl_monitor.specs.declared.monitor.Settlement.{Settlement}
+use Rattle.tl_desk.specs.Tickets.{left_by}
+
+-- The edit of this number detached the monitor: just before it the monitor had this watch, and behind it none.
+pub record IsEndOf (log : LogData) (number : ℕ) (w : Watch) (edit : ℕ) : Type 0 where
+  pub before : ℕ
+  pub next : edit ≡ before + 1
+  pub within : edit ≤ length log.edits
+  pub had : watch_at number (left_by log before).monitors ≡ Some w
+  pub none : watch_at number (left_by log edit).monitors ≡ None
+
+-- Each monitor that ended is neither here nor out, and told once what it had just before the edit that detached it, with that edit's
+-- number. One that is out and was detached meanwhile is to end so.
+pub record HaveEnded (log : LogData) (boxes : BoxesData) : Type 0 where
+  pub gone : (at : ℕ) (e : ℕ × Settlement) → slice_get boxes.ended at ≡ Some e → place_at e.0 boxes.slots ≡ None
+  pub known : (at : ℕ) (e : ℕ × Settlement) → slice_get boxes.ended at ≡ Some e → was_attached e.0 (inputs_after log.topo log.edits).monitors ≡ true
+  pub once : (at other : ℕ) (e f : ℕ × Settlement) → slice_get boxes.ended at ≡ Some e → slice_get boxes.ended other ≡ Some f → e.0 ≡ f.0 → at ≡ other
+  pub told : (at : ℕ) (e : ℕ × Settlement) → slice_get boxes.ended at ≡ Some e → IsEndOf log e.0 e.1.watch e.1.closed_at
+  pub closing : (number edit : ℕ) (away : Away) → away_at number boxes.slots ≡ Some away → away.closing ≡ Some edit → IsEndOf log number away.watch edit

@@ -5,8 +5,6 @@ mod away;
 mod boxes;
 pub mod laws;
 mod slot;
-#[cfg(test)]
-mod tests;
 mod watch;
 
 pub use away::Away;

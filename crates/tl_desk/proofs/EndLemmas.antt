@@ -1,5 +1,5 @@
 -- What the monitors told that ended, behind one step more.
-use Rattle.std.proofs.Common.{◌≡◌, ℕ, zero, suc, ◌+◌, ◌≤◌, ◌⊎◌, inl, inr, true, false, Bool, List, [], ◌∷◌, ◌++◌, Option, Some, None, length, take, refl, sym, ap, subst, ◌∙◌, arith}
+use Rattle.std.proofs.Common.{◌≡◌, ℕ, zero, suc, ◌+◌, ◌≤◌, ◌⊎◌, inl, inr, true, false, Bool, List, [], ◌∷◌, ◌++◌, Option, Some, None, length, refl, sym, ap, subst, ◌∙◌, arith}
 use Rattle.std.specs.Prelude.{slice_get, is_some, if◌then◌else◌, nat_le}
 use Rattle.std.specs.Option.{option_map, option_map_or, option_and_then}
 use Rattle.std.specs.Ordering.{nat_cmp}
@@ -8,8 +8,8 @@ use Rattle.std.specs.Map.{keys_of}
 use Rattle.std.proofs.Math.Seq.{take-length}
 use Rattle.std.proofs.lemmas.List.{take-append-le, length-append}
 use Rattle.tl_beats.specs.declared.watch.Watch.{Watch}
-use Rattle.tl_boxes.specs.Boxes.{BoxesData, IsBoxes, place_at, held_at, away_at, attached_watch, placed_at, attached_at, retuned_at, detached_from, detached_at, taken_at, ended_at, back_with, brought_back, told}
-use Rattle.tl_boxes.specs.Places.{Place, Here, Out, away_of, held_of, watch_of_place, watch_unless_closing, limit_of, tuned, place_tuned, leaving}
+use Rattle.tl_boxes.specs.Boxes.{BoxesData, IsBoxes, place_at, held_at, away_at, placed_at, attached_at, retuned_at, detached_from, detached_at, taken_at, ended_at, back_with, brought_back, told}
+use Rattle.tl_boxes.specs.Places.{Place, Here, Out, away_of, watch_of_place, watch_unless_closing, limit_of, tuned, place_tuned, leaving}
 use Rattle.tl_boxes.specs.declared.away.Away.{Away}
 use Rattle.tl_boxes.proofs.KeptLemmas.{found_kept}
 use Rattle.tl_definitions.specs.Watching.{retuned}
@@ -18,7 +18,6 @@ use Rattle.tl_inputs.specs.Inputs.{InputData, watch_at, was_attached, refusal, l
 use Rattle.tl_inputs.specs.Log.{LogData, inputs_after}
 use Rattle.tl_inputs.specs.declared.edit.Change.{Change}
 use Rattle.tl_inputs.specs.declared.edit.Change.TheVariants as change
-use Rattle.tl_inputs.specs.declared.fault.EditFault.{EditFault}
 use Rattle.tl_inputs.specs.declared.fault.EditFault.TheVariants as fault
 use Rattle.tl_monitor.specs.Held.{Held}
 use Rattle.tl_monitor.specs.declared.monitor.Settlement.{Settlement}

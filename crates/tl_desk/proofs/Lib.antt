@@ -8,3 +8,4 @@ mod WatchLemmas
 mod JobLemmas
 pub mod HereLemmas
 mod PlayLemmas
+mod OldestLemmas

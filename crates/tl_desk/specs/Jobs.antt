@@ -1,5 +1,5 @@
 -- What each call on jobs makes of a desk.
-use Rattle.std.specs.Prelude.{ℕ, ◌≡◌, ◌<◌, ◌+◌, ◌⊎◌, List, Option, None, Some, length, is_some, true}
+use Rattle.std.specs.Prelude.{ℕ, ◌≡◌, ◌<◌, ◌≤◌, ◌+◌, ◌⊎◌, List, Option, None, Some, length, is_some, true}
 use Rattle.std.specs.Option.{option_map}
 use Rattle.std.specs.Ordering.{nat_cmp}
 use Rattle.std.specs.BTreeMap.{insert_entry, is_at}
@@ -68,6 +68,11 @@ IsLiveAtWatch windows key ticket = live_of (piece_at key windows.board) ≡ Some
 -- The ticket is the live one of some window.
 abbrev pub IsLive : Core → ℕ → Type 0
 IsLive core ticket = (key : PieceKey) × (IsLiveAt core.windows.spans key ticket ⊎ IsLiveAtWatch core.windows key ticket)
+
+-- It is the lowest live ticket; or none is live.
+abbrev pub IsOldestLive : Core → Option ℕ → Type 0
+IsOldestLive core None = (ticket : ℕ) → IsLive core ticket → ⊥
+IsOldestLive core (Some oldest) = IsLive core oldest × ((ticket : ℕ) → IsLive core ticket → oldest ≤ ticket)
 
 -- The monitor of a number is here.
 abbrev pub IsHere : BoxesData → ℕ → Type 0

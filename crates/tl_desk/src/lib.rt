@@ -9,6 +9,7 @@ mod fault;
 mod jobs;
 mod manager_jobs;
 mod monitor_jobs;
+mod oldest;
 mod places;
 mod play;
 mod publish;
@@ -22,3 +23,4 @@ pub use tl_jobs::{
     Done, HandIn, Job, ManagerDone, ManagerJob, MonitorDone, MonitorJob, Piece, TakeFault, work,
 };
 pub use tl_report::Report;
+pub use tl_watches::is_watch;

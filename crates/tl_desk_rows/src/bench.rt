@@ -60,6 +60,8 @@ pub(crate) enum Step<'a> {
     Back(usize),
     /// Calls a ticket back: `recalled`, or `nothing` where it isn't live.
     Recall(u64),
+    /// The oldest live ticket: `oldest` and its number; or `none`.
+    Oldest,
     /// Whether all windows are settled: `settled` or `open`.
     Settled,
 }
@@ -329,6 +331,14 @@ impl Bench {
         }
     }
 
+    /// The oldest live ticket.
+    fn say_oldest(&mut self, alloc: Global) -> Result<(), Fail> {
+        match self.desk.oldest_live() {
+            Some(ticket) => self.say(alloc, "oldest", ticket),
+            None => self.tell("none"),
+        }
+    }
+
     /// Whether all is settled.
     fn say_settled(&mut self) -> Result<(), Fail> {
         if self.desk.settled() {
@@ -354,6 +364,7 @@ impl Bench {
             Step::Abandon(place) => self.abandon(place),
             Step::Back(place) => self.back(place),
             Step::Recall(ticket) => self.recall(ticket),
+            Step::Oldest => self.say_oldest(alloc),
             Step::Settled => self.say_settled(),
             _ => match change_of(alloc, step)? {
                 Some(change) => self.edit(alloc, change),

@@ -59,6 +59,41 @@ fn a_recalled_ticket_is_void_and_its_window_goes_out_again(rt: HostRuntime) -> R
 }
 
 #[test]
+fn the_oldest_ticket_is_the_lowest_that_is_live(rt: HostRuntime) -> Result<(), Fail> {
+    let steps = [
+        Step::Oldest,
+        Step::Add(GETS[0]),
+        Step::Add(GETS[1]),
+        Step::Add(GETS[2]),
+        Step::Oldest,
+        Step::Take,
+        Step::Take,
+        Step::Take,
+        Step::Oldest,
+        Step::Replace(MISALIGNED_GET),
+        Step::Oldest,
+        Step::Recall(2),
+        Step::Oldest,
+        Step::Work(2),
+        Step::HandIn(2),
+        Step::Oldest,
+        Step::Take,
+        Step::Oldest,
+        Step::Abandon(3),
+        Step::Oldest,
+    ];
+    let told = answers(rt.alloc(), &steps)?;
+    assert!(rt;
+        told.as_str()
+            == "none\nedit 1\nedit 2\nedit 3\nnone\nticket 1 manager 0 0\n\
+                ticket 2 manager 0 1\nticket 3 manager 0 2\noldest 1\nedit 4\noldest 2\n\
+                recalled\noldest 3\nworked\ntaken\nnone\nticket 4 manager 0 0\noldest 4\n\
+                abandoned\nnone\n"
+    );
+    Ok(())
+}
+
+#[test]
 fn a_job_that_is_abandoned_stores_nothing(rt: HostRuntime) -> Result<(), Fail> {
     let steps = [
         Step::Add(GETS[0]),

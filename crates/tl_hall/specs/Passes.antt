@@ -22,7 +22,7 @@ use Rattle.tl_report.specs.Output.{ReportData}
 use Rattle.tl_span.specs.States.{SameSpan}
 use Rattle.tl_tickets.specs.Tickets.{most_tickets}
 use Rattle.tl_desk.specs.Core.{Core, AllSettled, most_versions, log_of, latest_of, standing}
-use Rattle.tl_desk.specs.Jobs.{Gives, HasFree, HandsBack, TakesBack, IsFirstFreeWatch, IsLive, IsOutHere}
+use Rattle.tl_desk.specs.Jobs.{Gives, HasFree, HandsBack, TakesBack, IsFirstFreeWatch, IsLive, IsOldestLive, IsOutHere}
 use Rattle.tl_desk.specs.Steps.{Step}
 use Rattle.tl_desk.specs.declared.call.Call.{Call}
 use Rattle.tl_desk.specs.declared.call.Call.TheVariants as call
@@ -163,6 +163,10 @@ HandsIn p done (answer.Stranger same) q = (same ≡ done) × Looked p (IsStrange
 -- The ticket is no window's live one.
 abbrev pub IsDead : ℕ → Core → Type 0
 IsDead ticket core = IsLive core ticket → ⊥
+
+-- It is the lowest live ticket; or none is live.
+abbrev pub IsOldest : Option ℕ → Core → Type 0
+IsOldest found core = IsOldestLive core found
 
 -- The same pass, which has seen the same.
 abbrev pub Stays : PassData → PassData → Type 0

@@ -3,7 +3,7 @@
 ghost use Rattle.std.specs.Prelude.{◌≡◌, IfOk, IfErr, OnOk, OnErr, IfSome, IfNone, true, false};
 ghost use Rattle.tl_jobs.specs.Works.{ticket_of, window_of};
 ghost use Rattle.tl_desk.specs.declared.call.Call.TheVariants as call;
-ghost use Rattle.tl_hall.specs.Passes.{Made, NoMore, Looked, Takes, HasNone, IsUntaken, IsStranger, IsAbandoned, HandsIn, IsDead};
+ghost use Rattle.tl_hall.specs.Passes.{Made, NoMore, Looked, Takes, HasNone, IsUntaken, IsStranger, IsAbandoned, HandsIn, IsDead, IsOldest};
 
 use crate::hall::{Hall, Pass};
 use std::alloc::Global;
@@ -126,5 +126,18 @@ impl<M: Monitor> Hall<M> {
             self.leave(&mut seat, desk);
             (Pass { seat }, false)
         }
+    }
+
+    /// The lowest live ticket of the history that the pass has then seen, or None where none is live in it. It takes no memory, and
+    /// may wait for another thread.
+    pub fn oldest_live<R: Wait>(&self, rt: &R, pass: Pass<M>) -> (Pass<M>, Option<u64>)
+        requires { pass.hall ≡ self.now.hall }
+        ensures { Looked pass (IsOldest result.1) result.0 }
+    {
+        let Pass { mut seat } = pass;
+        let desk = self.enter(rt, &mut seat);
+        let found = desk.oldest_live();
+        self.leave(&mut seat, desk);
+        (Pass { seat }, found)
     }
 }

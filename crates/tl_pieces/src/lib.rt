@@ -9,8 +9,6 @@ mod piece_map;
 mod slot;
 mod slots;
 mod tally;
-#[cfg(test)]
-mod tests;
 mod walk;
 
 pub use key::PieceKey;

@@ -18,12 +18,11 @@ use std::collections::VecDeque;
 use std::marker::Model;
 use thiserror::Error;
 use tl_beats::Watch;
-use tl_desk::{Desk, PublishFault, RecheckFault};
+use tl_desk::{Desk, PublishFault, RecheckFault, is_watch};
 use tl_inputs::{Change, EditFault, Inputs};
 use tl_monitor::Monitor;
 use tl_report::{Report, report_text};
 use tl_topology::Topo;
-use tl_watches::is_watch;
 
 /// Why a command has no lines.
 #[derive(Clone, Copy, Debug, Drop, Error, PartialEq, Eq)]

@@ -6,8 +6,6 @@ mod fault;
 pub mod laws;
 mod line;
 mod reading;
-#[cfg(test)]
-mod tests;
 
 pub use command::{Command, Text};
 pub use fault::ScriptFault;

@@ -5,8 +5,6 @@ mod expected;
 mod lines;
 mod shown;
 mod survey;
-#[cfg(test)]
-mod tests;
 
 pub use shown::{shown_audit, shown_report};
 pub use survey::{Counts, Survey, survey_beats};

@@ -10,6 +10,7 @@ ghost use Rattle.tl_tickets.specs.Tickets.{taken_at, most_tickets, IsOutFor, Are
 use crate::piece::Piece;
 use std::alloc::{AllocError, Global};
 use std::collections::BTreeMap;
+use std::collections::btree_map::Iter;
 use std::marker::Model;
 
 /// The number of the last ticket that is ever given.
@@ -66,6 +67,16 @@ impl Tickets {
         ensures { result ≡ taken_at ticket self.now.out }
     {
         self.out.get(&ticket).copied()
+    }
+
+    /// The tickets that are out, from the lowest on, each with what it was given for.
+    pub fn iter(&self) -> Iter<'_, u64, Taken>
+        ensures exact { result ≡ self.now.out }
+        // Each that is out was given, and they stand in order.
+        ensures kept { AreTickets self.now }
+    {
+        let _ = self.last;
+        self.out.iter()
     }
 
     /// Whether a ticket is out for a window.

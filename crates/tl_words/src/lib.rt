@@ -7,8 +7,6 @@ ghost use Rattle.tl_words.specs.Words.{chan_text_of, op_text_of, param_text_of};
 
 mod beat;
 mod rules;
-#[cfg(test)]
-mod tests;
 
 pub use beat::{beat_text, bytes_text};
 pub use rules::rule_line;

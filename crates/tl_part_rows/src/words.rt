@@ -1,7 +1,9 @@
-use crate::{beat_text, op_text, param_text};
+//! The names of messages and params, and the words of a beat.
+
 use std::test::Fail;
 use tl_beats::Beat;
 use tl_tables::{Chan, Level, Op, op_of};
+use tl_words::{beat_text, op_text, param_text};
 
 /// The messages of each channel, by opcode; "-" where an opcode is none.
 const MESSAGES: [(Chan, [&str; 8]); 5] = [

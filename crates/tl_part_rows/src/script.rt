@@ -1,6 +1,8 @@
-use crate::{Command, monitors_of, read_command};
+//! Commands of scripts.
+
 use std::test::Fail;
 use tl_beats::{Class, Watch};
+use tl_script::{Command, monitors_of, read_command};
 use tl_tables::Chan;
 
 const FRAGMENT: &[u8] = b"fragment dma0 2 20 29\n20 D 1 0 3 0 0 0 0\nend\n";

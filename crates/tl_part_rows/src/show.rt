@@ -1,11 +1,11 @@
 //! What beats tell of rows. Each call with ample memory.
 
-use crate::survey_beats;
 use std::alloc::Global;
 use std::sync::Arc;
 use std::test::Fail;
 use tl_beats::{Placed, Row, parse_whole_fragment};
 use tl_reasons::{OpenCounts, Reason, Told};
+use tl_show::survey_beats;
 use tl_tables::{Chan, Rule};
 use tl_topology::{Topo, read_topo};
 use tl_windows::Present;

@@ -2,10 +2,10 @@
 
 ghost use Rattle.std.specs.Prelude.{◌≡◌};
 
-use crate::{PieceKey, PieceMap, Stored};
 use std::alloc::{AllocError, Global};
 use std::sync::Arc;
 use std::test::Fail;
+use tl_pieces::{PieceKey, PieceMap, Stored};
 use tl_same::Same;
 
 // A state that shows its number.

@@ -3,11 +3,11 @@
 ghost use Rattle.std.specs.Prelude.{◌≡◌, None, OnOk};
 ghost use Rattle.tl_boxes.specs.Boxes.{place_at, attached_at};
 
-use crate::Boxes;
 use std::alloc::Global;
 use std::sync::{Arc, OnceLock};
 use std::test::Fail;
 use tl_beats::{Class, Watch};
+use tl_boxes::Boxes;
 use tl_monitor::{Budget, Settlement, Watched};
 use tl_tables::Chan;
 use tl_topology::Name;

@@ -9,25 +9,43 @@ use std::sync::{Arc, OnceLock};
 use std::test::Fail;
 use tl_desk::{Desk, HandIn, Piece, work};
 use tl_inputs::Change;
-use tl_monitor::{After, Monitor};
+use tl_monitor::After;
 use tl_topology::read_topo;
 
-/// A desk with a Get in each of two windows, and a monitor 6 that flags Gets that come after one.
-fn desk_of_two_gets(alloc: Global) -> Result<Desk<After>, Fail> {
+/// A desk without edits whose monitors are of the kind that flags one beat behind another.
+fn desk_of_afters(alloc: Global) -> Result<Desk<After>, Fail> {
     let (topo, _) = read_topo(alloc, ONE_MANAGER.as_bytes())?;
-    let mut desk = Desk::new(alloc, topo)?;
-    desk.edit(alloc, Change::Add(fragment(alloc, GETS[0])?))?;
-    desk.edit(alloc, Change::Add(fragment(alloc, GETS[1])?))?;
+    Ok(Desk::new(alloc, topo)?)
+}
+
+/// Adds the fragment with a text.
+fn add(alloc: Global, desk: &mut Desk<After>, text: &str) -> Result<(), Fail> {
+    let change = Change::Add(fragment(alloc, text)?);
+    match desk.edit(alloc, change) {
+        Ok(_) => Ok(()),
+        Err(_) => Err(Fail::new("refused")),
+    }
+}
+
+/// Attaches monitor 6, which flags Gets that come behind one.
+fn attach_after(alloc: Global, desk: &mut Desk<After>) -> Result<(), Fail> {
     let cell = Arc::new(alloc, OnceLock::new())?;
     let after = After::new(name("dma0")?, GET, GET, cell);
-    if desk.attach(alloc, 6, after).is_err() {
-        return Err(Fail::new("refused"));
+    match desk.attach(alloc, 6, after) {
+        Ok(_) => Ok(()),
+        Err(_) => Err(Fail::new("refused")),
     }
-    Ok(desk)
+}
+
+/// Publishes: the rows of the report.
+fn published(alloc: Global, desk: &mut Desk<After>) -> Result<String, Fail> {
+    desk.publish(alloc)?;
+    let report = desk.latest().ok_or("a report")?;
+    rows_text(alloc, desk.log().inputs().topo(), report.rows())
 }
 
 /// Takes the next window, checks it and hands it in: whose it was, and whether it was taken in.
-fn round<M: Monitor>(alloc: Global, desk: &mut Desk<M>) -> Result<Option<(Piece, bool)>, Fail> {
+fn round(alloc: Global, desk: &mut Desk<After>) -> Result<Option<(Piece, bool)>, Fail> {
     let Some(job) = desk.take(alloc)? else {
         return Ok(None);
     };
@@ -51,7 +69,10 @@ fn round<M: Monitor>(alloc: Global, desk: &mut Desk<M>) -> Result<Option<(Piece,
 #[test]
 fn a_tally_goes_from_job_to_job(rt: HostRuntime) -> Result<(), Fail> {
     let alloc = rt.alloc();
-    let mut desk = desk_of_two_gets(alloc)?;
+    let mut desk = desk_of_afters(alloc)?;
+    add(alloc, &mut desk, GETS[0])?;
+    add(alloc, &mut desk, GETS[1])?;
+    attach_after(alloc, &mut desk)?;
     let first = round(alloc, &mut desk)?;
     let second = round(alloc, &mut desk)?;
     let third = round(alloc, &mut desk)?;
@@ -62,9 +83,7 @@ fn a_tally_goes_from_job_to_job(rt: HostRuntime) -> Result<(), Fail> {
     assert!(rt; third == Some((Piece::Monitor(6, 0), true)));
     assert!(rt; fourth == Some((Piece::Monitor(6, 1), true)));
     assert!(rt; last == None);
-    desk.publish(alloc)?;
-    let report = desk.latest().ok_or("a report")?;
-    let rows = rows_text(alloc, desk.log().inputs().topo(), report.rows())?;
+    let rows = published(alloc, &mut desk)?;
     assert!(rt; rows.as_str() == "dma0 2 2 X1 6\n");
     Ok(())
 }

@@ -82,8 +82,10 @@ fn told_by_detach(
 ) -> Result<(Option<u64>, Option<u64>), Fail> {
     attach(alloc, desk, 5, budget(cell)?)?;
     let before = closed_at(cell);
-    desk.edit(alloc, Change::Detach(5))?;
-    Ok((before, closed_at(cell)))
+    match desk.edit(alloc, Change::Detach(5)) {
+        Ok(_) => Ok((before, closed_at(cell))),
+        Err(_) => Err(Fail::new("refused")),
+    }
 }
 
 /// Why a monitor is refused, and what its cell tells once it is back, and once it is dropped there.

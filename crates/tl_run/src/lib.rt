@@ -11,6 +11,7 @@ mod stop;
 
 pub use asked::{Asked, asked_by};
 pub use audit::{AuditFault, audit_script, log_of};
+pub use lines::{LineFault, put_lines, write_end};
 pub use run::{read_script, run_script};
-pub use session::{CommandFault, Session};
+pub use session::{CommandFault, Session, edit_line, refusal_line};
 pub use stop::{Outcome, Stop, StopCause};

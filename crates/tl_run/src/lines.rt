@@ -17,7 +17,7 @@ const MOST_GATHERED: usize = 65_536;
 
 /// Why a line did not come through.
 #[derive(Clone, Copy)]
-pub(crate) enum LineFault {
+pub enum LineFault {
     /// A growth was refused.
     Memory,
     /// A write failed.
@@ -72,7 +72,7 @@ pub(crate) fn write_gathered<O: ByteOut>(
 }
 
 /// Adds lines to those that are gathered, and writes all where they must go out now, or are many. Memory changes nothing.
-pub(crate) fn put_lines<O: ByteOut>(
+pub fn put_lines<O: ByteOut>(
     out: &mut O,
     gathered: &mut String,
     lines: &str,
@@ -116,7 +116,7 @@ fn write_stop<O: ByteOut>(out: &mut O, stop: Stop) -> Result<(), WriteFault>
 }
 
 /// Writes what was gathered, and the line of a stop.
-pub(crate) fn write_end<O: ByteOut>(
+pub fn write_end<O: ByteOut>(
     out: &mut O,
     gathered: &mut String,
     stop: Option<Stop>,

@@ -43,17 +43,17 @@ impl From<AllocError> for CommandFault {
     }
 }
 
-/// The line of an edit of this number.
+/// The line of an edit of this number. AllocError where memory is refused.
 #[tactic(auto, unfolding(crate::specs::Output::edit_text))]
-fn accepted(alloc: Global, number: u64) -> Result<String, AllocError>
+pub fn edit_line(alloc: Global, number: u64) -> Result<String, AllocError>
     ensures { IfOk result (λ line. string_bytes line ≡ edit_text number) }
 {
     format!(in alloc; "edit {number}\n")
 }
 
-/// The line of a refusal.
+/// The line of a refusal of this code, with the number that it names. AllocError where memory is refused.
 #[tactic(auto, unfolding(crate::specs::Output::refused_text))]
-fn refused(alloc: Global, code: u8, number: Option<u32>) -> Result<String, AllocError>
+pub fn refusal_line(alloc: Global, code: u8, number: Option<u32>) -> Result<String, AllocError>
     ensures { IfOk result (λ line. string_bytes line ≡ refused_text code number) }
 {
     match number {
@@ -132,9 +132,9 @@ impl<M: Monitor> Session<M> {
         let _ = &self.boxes;
         let _ = self.desk.settlements();
         match self.desk.edit(alloc, change) {
-            Ok(number) => accepted(alloc, number),
+            Ok(number) => edit_line(alloc, number),
             Err(EditFault::Memory) => Err(AllocError),
-            Err(fault) => refused(alloc, fault.code(), fault.number()),
+            Err(fault) => refusal_line(alloc, fault.code(), fault.number()),
         }
     }
 
@@ -166,9 +166,9 @@ impl<M: Monitor> Session<M> {
             return Err(CommandFault::WrongBox);
         };
         match self.desk.attach(alloc, number, monitor) {
-            Ok(edit) => Ok(accepted(alloc, edit)?),
+            Ok(edit) => Ok(edit_line(alloc, edit)?),
             Err((EditFault::Memory, _)) => Err(CommandFault::Memory),
-            Err((fault, _)) => Ok(refused(alloc, fault.code(), fault.number())?),
+            Err((fault, _)) => Ok(refusal_line(alloc, fault.code(), fault.number())?),
         }
     }
 
@@ -187,7 +187,7 @@ impl<M: Monitor> Session<M> {
                     report_text(alloc, self.desk.log().inputs().topo(), report)
                 }
                 Err(PublishFault::Memory) => Err(AllocError),
-                Err(fault) => refused(alloc, fault.code(), None),
+                Err(fault) => refusal_line(alloc, fault.code(), None),
             },
             Err(RecheckFault::Memory) => Err(AllocError),
             Err(RecheckFault::BoxOut(_)) => unreachable!(),
@@ -207,7 +207,7 @@ impl<M: Monitor> Session<M> {
         match asked {
             Asked::Change(change) => Ok(self.change(alloc, change)?),
             Asked::Attach(number, watch) => self.attach(alloc, number, watch),
-            Asked::NoFragment(fault) => Ok(refused(alloc, fault.code(), fault.number())?),
+            Asked::NoFragment(fault) => Ok(refusal_line(alloc, fault.code(), fault.number())?),
             Asked::Report => Ok(self.publish(alloc)?),
         }
     }

@@ -14,6 +14,8 @@ mod counting;
 #[cfg(test)]
 mod ends;
 #[cfg(test)]
+mod lost;
+#[cfg(test)]
 mod plays;
 #[cfg(test)]
 mod refusals;

@@ -11,16 +11,21 @@ use crate::words::{Command, not_utf8, read_words};
 use std::alloc::Global;
 use std::io;
 use std::rt::Files;
-use std::sync::Arc;
+use std::sync::{Arc, Wait};
+use std::thread::Threads;
 use tl_beats::Watch;
 use tl_monitor::{After, Budget, Monitor};
 use tl_report::run_once;
-use tl_run::{Outcome, audit_script, run_script};
+use tl_run::{Outcome, audit_script};
 use tl_text::{ByteIn, ByteOut, read_text, write_all};
 use tl_topology::{Topo, read_topo};
+use tl_workers::run_with;
 
 /// The most bytes of standard input.
 const MOST_INPUT: u64 = 67_108_864;
+
+/// The most threads that check windows beside the first.
+const MOST_WORKERS: u8 = 16;
 
 const NO_ROWS: u8 = 0;
 
@@ -68,16 +73,20 @@ fn once_of_files<R: Files + AllocGlobal, O: ByteOut>(
     Ok(report_of(rows))
 }
 
-/// The run of a script with the monitors that it attaches, and behind a run that did not stop what each of them told.
-fn run_of_script<O: ByteOut>(
-    alloc: Global,
+/// The run of a script with the monitors that it attaches, and behind a run that did not stop what each of them told. So many
+/// workers check windows beside it, but none where its rows are shown.
+fn run_of_script<R: Threads + Wait + Sync + AllocGlobal, O: ByteOut>(
+    rt: &R,
     topo: &Topo,
     script: &[u8],
+    workers: u8,
     show: bool,
     out: &mut O,
 ) -> Result<Outcome, Fault>
-    requires { O.failure_count out.old < 2 ^ 63 }
+    requires workers { workers ≤ 16 }
+    requires out { O.failure_count out.old < 2 ^ 63 }
 {
+    let alloc = rt.alloc();
     let attached = attached_in(alloc, script)?;
     let mut boxes: Vec<Box<dyn Monitor + Send>> = Vec::new(alloc);
     for monitor in &attached {
@@ -97,7 +106,7 @@ fn run_of_script<O: ByteOut>(
     let outcome = if show {
         show_script(alloc, topo, script, boxes, out)?
     } else {
-        run_script(alloc, topo, script, boxes, out)?
+        run_with(rt, alloc, topo, script, boxes, out, workers)?
     };
     if outcome.stop.is_none() {
         let lines = settlement_lines(alloc, &attached)?;
@@ -107,18 +116,20 @@ fn run_of_script<O: ByteOut>(
 }
 
 /// The run of a file's script.
-fn run_of_files<R: Files + AllocGlobal, O: ByteOut>(
+fn run_of_files<R: Files + Threads + Wait + Sync + AllocGlobal, O: ByteOut>(
     rt: &R,
     topology: &str,
     script: &str,
+    workers: u8,
     show: bool,
     out: &mut O,
 ) -> Result<Outcome, Fault>
-    requires { O.failure_count out.old < 2 ^ 63 }
+    requires workers { workers ≤ 16 }
+    requires out { O.failure_count out.old < 2 ^ 63 }
 {
     let topo = topology_of(rt, topology)?;
     let script = script_of(rt, script)?;
-    run_of_script(rt.alloc(), &topo, &script, show, out)
+    run_of_script(rt, &topo, &script, workers, show, out)
 }
 
 /// What checking everything anew finds behind so many accepted edits of a file's script.
@@ -143,8 +154,8 @@ fn audit_of_files<R: Files + AllocGlobal, O: ByteOut>(
 }
 
 /// The run of a script behind its topology's text.
-fn run_of_input<I: ByteIn, O: ByteOut>(
-    alloc: Global,
+fn run_of_input<R: Threads + Wait + Sync + AllocGlobal, I: ByteIn, O: ByteOut>(
+    rt: &R,
     input: &mut I,
     out: &mut O,
 ) -> Result<Outcome, Fault>
@@ -152,9 +163,10 @@ fn run_of_input<I: ByteIn, O: ByteOut>(
     requires failures { I.failure_count input.old < 2 ^ 63 }
     requires out { O.failure_count out.old < 2 ^ 63 }
 {
+    let alloc = rt.alloc();
     let text = read_text(alloc, input, MOST_INPUT)?;
     let (topo, used) = read_topo(alloc, &text)?;
-    run_of_script(alloc, &topo, &text[used..], false, out)
+    run_of_script(rt, &topo, &text[used..], 0, false, out)
 }
 
 /// Tells of a fault in one line; that this can't be written changes nothing.
@@ -271,8 +283,8 @@ pub fn refuse_words<E: ByteOut>(alloc: Global, err: &mut E, error: &io::Error) -
 /// Does what the words ask for, the first of which is the program's own, and answers the exit status: 0 where the last report
 /// has no rows, there is none, or a text was asked for; 1 where it has some rows; 2 for a script that stops, for a fault, which is
 /// told in one line on `err`, and for words that are refused, of which `clap` tells on `err` in lines of its own. `input`
-/// stands for standard input.
-pub fn run_words<R: Files + AllocGlobal, I: ByteIn, O: ByteOut, E: ByteOut>(
+/// stands for standard input. With workers it waits for their threads.
+pub fn run_words<R: Files + Threads + Wait + Sync + AllocGlobal, I: ByteIn, O: ByteOut, E: ByteOut>(
     rt: &R,
     words: &[String],
     input: &mut I,
@@ -290,7 +302,7 @@ pub fn run_words<R: Files + AllocGlobal, I: ByteIn, O: ByteOut, E: ByteOut>(
         Err(error) => return tell_words(rt.alloc(), out, err, &error),
     };
     let outcome = match &command {
-        Command::Input => run_of_input(rt.alloc(), input, out),
+        Command::Input => run_of_input(rt, input, out),
         Command::Once {
             topology,
             fragments,
@@ -299,8 +311,16 @@ pub fn run_words<R: Files + AllocGlobal, I: ByteIn, O: ByteOut, E: ByteOut>(
         Command::Run {
             topology,
             script,
+            workers,
             show,
-        } => run_of_files(rt, *topology, *script, *show, out),
+        } => run_of_files(
+            rt,
+            *topology,
+            *script,
+            (*workers).min(MOST_WORKERS),
+            *show,
+            out,
+        ),
         Command::Audit {
             topology,
             script,

@@ -21,6 +21,7 @@ pub(crate) enum Command<'a> {
     Run {
         topology: &'a str,
         script: &'a str,
+        workers: u8,
         show: bool,
     },
     /// What the first edits of a script leave, from files.
@@ -38,6 +39,9 @@ pub(crate) enum Command<'a> {
 
 /// The greatest number of an edit that words may name.
 const MOST_EDIT: u64 = (1 << 63) - 1;
+
+/// The most threads that check windows beside the first.
+const MOST_WORKERS: u64 = 16;
 
 fn word<'a>(alloc: Global, id: &'a str, help: &'a str) -> Arg<'a> {
     Arg::new(alloc, id)
@@ -91,9 +95,8 @@ fn run<'a>(alloc: Global) -> Result<clap::Command<'a>, Error> {
         .long("workers")
         .value_name("N")
         .action(ArgAction::Set)
-        .help(
-            "How many threads check beside the first; only 0 is taken today, as without this option",
-        );
+        .value_parser(ValueParser::unsigned(0, MOST_WORKERS))
+        .help("How many threads check windows beside the first, 0 to 16; 0 without this option");
     let run = clap::Command::new(alloc, "run")
         .about("Runs a script of edits and publishes, and writes what each comes to")
         .after_help(RUN_EXAMPLE)
@@ -184,24 +187,15 @@ fn once_asked<'a>(alloc: Global, found: &ArgMatches<'a>) -> Result<Command<'a>, 
     })
 }
 
-/// The script that the words of `run` name; any number of workers but 0 is refused.
-fn run_asked<'a>(
-    alloc: Global,
-    program: &mut clap::Command<'a>,
-    found: &ArgMatches<'a>,
-) -> Result<Command<'a>, Error> {
-    let workers = found.get_str("workers").unwrap_or("0");
-    if workers.parse::<u64>() != Ok(0) {
-        let text = format!(in alloc;
-            "'{workers}' is no number of workers that is taken: only 0 is taken today"
-        )?;
-        return Err(program.error(ErrorKind::InvalidValue, text.as_str())?);
-    }
-    Ok(Command::Run {
+/// The script and the number of workers that the words of `run` name.
+fn run_asked<'a>(found: &ArgMatches<'a>) -> Command<'a> {
+    let workers = found.get_one("workers").unwrap_or(0);
+    Command::Run {
         topology: found.get_str("TOPO").unwrap_or(""),
         script: found.get_str("SCRIPT").unwrap_or(""),
+        workers: u8::try_from(workers).unwrap_or(0),
         show: found.get_flag("show"),
-    })
+    }
 }
 
 /// The script and the edit that the words of `audit` name.
@@ -239,7 +233,7 @@ pub(crate) fn read_words<'a>(alloc: Global, words: &'a [String]) -> Result<Comma
         return Ok(Command::Input);
     };
     match name.as_bytes() {
-        b"run" => run_asked(alloc, &mut program, found),
+        b"run" => Ok(run_asked(found)),
         b"audit" => Ok(audit_asked(found)),
         b"explain" => explain_asked(alloc, &mut program, found),
         _ => once_asked(alloc, found),

@@ -6,8 +6,9 @@ use crate::shift::Shift;
 use std::alloc::Global;
 use std::collections::VecDeque;
 use std::sync::Wait;
+use std::thread::yield_now;
 use tl_beats::{Row, Watch};
-use tl_desk::{Done, HandIn, Job, PublishFault, is_watch, work};
+use tl_desk::{Done, HandIn, Job, Piece, PublishFault, is_watch, work};
 use tl_hall::{Gate, Hall, Pass};
 use tl_inputs::{Change, EditFault};
 use tl_monitor::Monitor;
@@ -128,8 +129,50 @@ fn attach<R: Wait, M: Monitor>(
 /// What came of a look for a window.
 enum Found {
     NoWindow,
-    Checked,
+    Checked(Piece),
     NoMemory,
+}
+
+/// How many windows may be checked again in a row of windows, because a guess was wrong, before the workers rest.
+const MOST_AGAIN: u32 = 2;
+
+/// The windows that one thread checks, in a row. They come in the order of a report's windows but for those that are checked again.
+#[derive(Drop)]
+struct Stretch {
+    last: Option<Piece>,
+    again: u32,
+}
+
+impl Stretch {
+    fn new() -> Stretch {
+        Stretch {
+            last: None,
+            again: 0,
+        }
+    }
+
+    /// Notes one more window, and answers whether too many are checked again.
+    fn is_in_doubt(&mut self, piece: Piece) -> bool {
+        if self.last.is_some_and(|last| is_not_behind(piece, last)) {
+            self.again = self.again.saturating_add(1);
+        }
+        self.last = Some(piece);
+        self.again > MOST_AGAIN
+    }
+}
+
+/// Whether a window is another one or comes before it.
+fn is_not_behind(piece: Piece, other: Piece) -> bool {
+    match (piece, other) {
+        (Piece::Manager(one, first), Piece::Manager(two, second)) => {
+            one < two || one == two && first <= second
+        }
+        (Piece::Monitor(one, first), Piece::Monitor(two, second)) => {
+            one < two || one == two && first <= second
+        }
+        (Piece::Manager(_, _), Piece::Monitor(_, _)) => true,
+        (Piece::Monitor(_, _), Piece::Manager(_, _)) => false,
+    }
 }
 
 /// Hands a window in that was checked.
@@ -169,8 +212,12 @@ fn check<R: Wait, M: Monitor, G: Gate>(
     ensures { result.0.hall ≡ pass.hall }
 {
     gate.taken(job.ticket());
+    let piece = job.piece();
     match work(alloc, job) {
-        Ok(done) => (finish(rt, hall, pass, gate, done), Found::Checked),
+        Ok(done) => {
+            let pass = finish(rt, hall, pass, gate, done);
+            (pass, Found::Checked(piece))
+        }
         Err(job) => {
             let (pass, answer) = hall.abandon(rt, pass, job);
             match answer {
@@ -203,23 +250,28 @@ fn check_one<R: Wait, M: Monitor, G: Gate>(
     }
 }
 
-/// Checks windows until there is none to be taken: whether memory sufficed.
+/// Checks windows until there is none to be taken: whether memory sufficed. Where guesses are wrong the workers rest.
 fn check_wanted<R: Wait, M: Monitor, G: Gate>(
     rt: &R,
     alloc: Global,
     hall: &Hall<M>,
     pass: Pass<M>,
-    gate: &G,
+    shift: &Shift<'_, G>,
 ) -> (Pass<M>, bool)
     requires { pass.hall ≡ hall.now.hall }
     ensures { result.0.hall ≡ pass.hall }
 {
     let mut pass = pass;
+    let mut stretch = Stretch::new();
     for _ in rt.forever() {
-        let (next, found) = check_one(rt, alloc, hall, pass, gate);
+        let (next, found) = check_one(rt, alloc, hall, pass, shift);
         pass = next;
         match found {
-            Found::Checked => {}
+            Found::Checked(piece) => {
+                if stretch.is_in_doubt(piece) {
+                    shift.give_up();
+                }
+            }
             Found::NoWindow => return (pass, true),
             Found::NoMemory => return (pass, false),
         }
@@ -252,6 +304,7 @@ fn published<R: Wait, M: Monitor, G: Gate>(
         if !is_enough {
             return (pass, Err(PublishFault::Memory));
         }
+        yield_now();
     }
     unreachable!()
 }

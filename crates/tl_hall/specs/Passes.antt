@@ -21,7 +21,7 @@ use Rattle.tl_plain.specs.Captured.{captures_after}
 use Rattle.tl_report.specs.Output.{ReportData}
 use Rattle.tl_span.specs.States.{SameSpan}
 use Rattle.tl_tickets.specs.Tickets.{most_tickets}
-use Rattle.tl_desk.specs.Core.{Core, AllSettled, most_versions, log_of, latest_of, standing}
+use Rattle.tl_desk.specs.Core.{Core, AllSettled, AreLinked, most_versions, log_of, latest_of, standing}
 use Rattle.tl_desk.specs.Jobs.{Gives, HasFree, HandsBack, TakesBack, IsFirstFreeWatch, IsLive, IsOldestLive, IsOutHere}
 use Rattle.tl_desk.specs.Steps.{Step}
 use Rattle.tl_desk.specs.declared.call.Call.{Call}
@@ -118,13 +118,19 @@ IsUnready publish_fault.NotReady core = AllSettled core → ⊥
 IsUnready publish_fault.VersionFull core = AllSettled core × (length core.reports ≡ most_versions)
 IsUnready publish_fault.Memory core = AllSettled core × (length core.reports < most_versions)
 
--- It is the latest report, if there is one: its rows are those that the definitions find in what the edits leave that it names.
+-- It is the latest report, if there is one: its rows are those that the definitions find in what the edits leave that it names, and are of
+-- links of the topology.
 abbrev pub IsExact : Option ReportData → Core → Type 0
 IsExact None core = Unit {0}
-IsExact (Some report) core = (report.edit ≤ length (log_of core).edits) × IsReport (captures_after (inputs_after (log_of core).topo (take report.edit (log_of core).edits))) report.rows
+IsExact (Some report) core = (report.edit ≤ length (log_of core).edits)
+    × IsReport (captures_after (inputs_after (log_of core).topo (take report.edit (log_of core).edits))) report.rows × AreLinked (log_of core).topo report.rows
 
 abbrev pub IsLatest : Option ReportData → Core → Type 0
 IsLatest found core = (found ≡ latest_of core.reports) × IsExact found core
+
+-- So many edits were accepted.
+abbrev pub HasEdits : ℕ → Core → Type 0
+HasEdits count core = count ≡ length (log_of core).edits
 
 -- Nothing is said of the desk.
 abbrev pub NoWord : Core → Type 0

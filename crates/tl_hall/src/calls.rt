@@ -3,7 +3,7 @@
 ghost use Rattle.std.specs.Prelude.{◌≡◌, IfOk, IfErr, OnErr};
 ghost use Rattle.tl_inputs.specs.Edits.{plain_change, attach};
 ghost use Rattle.tl_desk.specs.declared.call.Call.TheVariants as call;
-ghost use Rattle.tl_hall.specs.Passes.{Made, NoMore, Looked, NoWord, IsRefused, IsUnready, IsLatest};
+ghost use Rattle.tl_hall.specs.Passes.{Made, NoMore, Looked, NoWord, IsRefused, IsUnready, IsLatest, HasEdits};
 
 use crate::hall::{Hall, Pass};
 use crate::rule::Asked;
@@ -145,5 +145,17 @@ impl<M: Monitor> Hall<M> {
         let found = latest(&desk);
         self.leave(&mut seat, desk);
         (Pass { seat }, found)
+    }
+
+    /// How many edits the history has that the pass has then seen. It takes no memory, and may wait for another thread.
+    pub fn edits<R: Wait>(&self, rt: &R, pass: Pass<M>) -> (Pass<M>, u64)
+        requires { pass.hall ≡ self.now.hall }
+        ensures { Looked pass (HasEdits result.1) result.0 }
+    {
+        let Pass { mut seat } = pass;
+        let desk = self.enter(rt, &mut seat);
+        let count = desk.log().len();
+        self.leave(&mut seat, desk);
+        (Pass { seat }, count)
     }
 }

@@ -10,6 +10,7 @@ use atomic_table::{Refused, Table};
 use std::alloc::{AllocError, Global};
 use std::marker::Model;
 use std::sync::Wait;
+use std::thread::yield_now;
 use tl_desk::Desk;
 use tl_monitor::Monitor;
 use tl_topology::Topo;
@@ -117,6 +118,7 @@ impl<M: Monitor> Hall<M> {
             if self.table.shared.compare_exchange::<Enter>(seat, 1, 0, 1) == 0 {
                 return self.desk_out(seat);
             }
+            yield_now();
         }
         unreachable!()
     }

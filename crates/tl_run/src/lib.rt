@@ -6,12 +6,14 @@ mod audit;
 pub mod laws;
 mod lines;
 mod run;
+mod runner;
 mod session;
 mod stop;
 
 pub use asked::{Asked, asked_by};
 pub use audit::{AuditFault, audit_script, log_of};
 pub use lines::{LineFault, put_lines, write_end};
-pub use run::{read_script, run_script};
+pub use run::{carry_out, read_script, run_nothing, run_script};
+pub use runner::Runner;
 pub use session::{CommandFault, Session, edit_line, refusal_line};
 pub use stop::{Outcome, Stop, StopCause};

@@ -3,6 +3,8 @@
 ghost use Rattle.std.specs.Prelude.{◌≡◌, ◌↔◌, ◌+◌, ◌<◌, ◌≤◌, ◌^◌, ◌++◌, ℕ, List, Option, Some, IfOk, OnOk, OnErr, length, drop, string_bytes, [], IfSome};
 ghost use Rattle.std.specs.Io.KnownBytes.{Appends};
 ghost use Rattle.std.specs.Result.{IsErrOf};
+ghost use Rattle.tl_topology.specs.Topology.{Topology};
+ghost use Rattle.tl_beats.specs.declared.watch.Watch.{Watch as AnyWatch};
 ghost use Rattle.tl_script.specs.Scripts.{commands_of};
 ghost use Rattle.tl_script.specs.Text.{IsCommand};
 ghost use Rattle.tl_run.specs.Boxes.{watches_in};
@@ -12,6 +14,7 @@ ghost use Rattle.tl_run.specs.Stops.{IsSaid, IsFront, HasCome, IsOutcome, IsCut}
 
 use crate::asked::asked_by;
 use crate::lines::{LineFault, put_lines, write_end};
+use crate::runner::Runner;
 use crate::session::Session;
 use crate::stop::{Outcome, Stop, StopCause};
 use std::alloc::Global;
@@ -37,29 +40,29 @@ pub fn read_script<I: ByteIn>(alloc: Global, input: &mut I) -> Result<Vec<u8>, T
 }
 
 /// The lines of one command, put behind those that are gathered. Memory and WrongBox write nothing.
-fn run_command<M: Monitor, O: ByteOut>(
+fn run_command<S: Runner, O: ByteOut>(
     alloc: Global,
-    session: &mut Session<M>,
+    runner: &mut S,
     command: &Command<'_>,
     out: &mut O,
     gathered: &mut String,
 ) -> Result<(), LineFault>
     requires out { O.failure_count out.old < 2 ^ 63 }
     requires lawful { IsCommand command.now }
-    ensures topo { session.new.topo ≡ session.old.topo }
+    ensures topo { (S.so_far runner.new).topo ≡ (S.so_far runner.old).topo }
     ensures quiet { OnOk result (O.failure_count out.new ≡ O.failure_count out.old) }
-    ensures step { OnOk result (Advances session.old command.now session.new
+    ensures step { OnOk result (Advances (S.so_far runner.old) command.now (S.so_far runner.new)
         (λ line. (old : Option (List ℕ)) (before : List ℕ) → IsSaid old (O.contents out.old) (string_bytes gathered.old) before
         → IsSaid old (O.contents out.new) (string_bytes gathered.new) (before ++ line))) }
     ensures memory { IsErrOf result LineFault.Memory → (out.new ≡ out.old) × (string_bytes gathered.new ≡ string_bytes gathered.old) }
-    ensures lacks { IsErrOf result LineFault.WrongBox → LacksBox session.old.boxes (asked command.now) × (out.new ≡ out.old) × (string_bytes gathered.new ≡ string_bytes gathered.old) }
+    ensures lacks { IsErrOf result LineFault.WrongBox → LacksBox (S.so_far runner.old).boxes (asked command.now) × (out.new ≡ out.old) × (string_bytes gathered.new ≡ string_bytes gathered.old) }
     ensures failed { IsErrOf result LineFault.WriteFault → (O.failure_count out.new ≡ O.failure_count out.old + 1)
-        × Advances session.old command.now session.new
+        × Advances (S.so_far runner.old) command.now (S.so_far runner.new)
         (λ line. (old : Option (List ℕ)) (before : List ℕ) → IsSaid old (O.contents out.old) (string_bytes gathered.old) before
         → IsFront old (O.contents out.new) (before ++ line)) }
 {
     let asked = asked_by(alloc, command)?;
-    let lines = session.lines_of(alloc, asked)?;
+    let lines = runner.lines_of(alloc, asked)?;
     let now = matches!(command, Command::Publish);
     put_lines(out, gathered, lines.as_str(), now)
 }
@@ -87,25 +90,25 @@ fn stopped(last_rows: u64, cause: StopCause, done: u64) -> Outcome
 }
 
 /// Runs the commands of a script up to its end or its stop.
-fn run_commands<M: Monitor, O: ByteOut>(
+fn run_commands<S: Runner, O: ByteOut>(
     alloc: Global,
-    session: &mut Session<M>,
+    runner: &mut S,
     script: &[u8],
     out: &mut O,
     gathered: &mut String,
 ) -> Result<Outcome, WriteFault>
     requires out { O.failure_count out.old < 2 ^ 63 }
-    requires new { session.old.now ≡ start }
+    requires new { (S.so_far runner.old).now ≡ start }
     requires empty { string_bytes gathered.old ≡ [] }
     ensures quiet { OnOk result (O.failure_count out.new ≡ O.failure_count out.old) }
-    ensures come { IfOk result (λ outcome. HasCome session.old.topo (commands_of script.now) session.old.boxes (O.contents out.old) (O.contents out.new) (string_bytes gathered.new) outcome) }
+    ensures come { IfOk result (λ outcome. HasCome (S.so_far runner.old).topo (commands_of script.now) (S.so_far runner.old).boxes (O.contents out.old) (O.contents out.new) (string_bytes gathered.new) outcome) }
     ensures failed { OnErr result ((O.failure_count out.new ≡ O.failure_count out.old + 1)
-        × IsCut session.old.topo (commands_of script.now) session.old.boxes (O.contents out.old) (O.contents out.new)) }
+        × IsCut (S.so_far runner.old).topo (commands_of script.now) (S.so_far runner.old).boxes (O.contents out.old) (O.contents out.new)) }
 {
     let mut rest = script;
     let mut done = 0;
     loop {
-        let last_rows = session.last_rows();
+        let last_rows = runner.last_rows();
         let read = match read_command(rest) {
             Ok(read) => read,
             Err(fault) => return Ok(stopped(last_rows, fault.into(), done)),
@@ -116,7 +119,7 @@ fn run_commands<M: Monitor, O: ByteOut>(
                 stop: None,
             });
         };
-        match run_command(alloc, session, &command, out, gathered) {
+        match run_command(alloc, runner, &command, out, gathered) {
             Ok(()) => rest = behind(rest, taken),
             Err(LineFault::Memory) => return Ok(stopped(last_rows, StopCause::Memory, done)),
             Err(LineFault::WrongBox) => return Ok(stopped(last_rows, StopCause::WrongBox, done)),
@@ -126,28 +129,40 @@ fn run_commands<M: Monitor, O: ByteOut>(
     }
 }
 
-/// Runs a script from its first command on, up to its end or its stop, and ends the monitors.
-fn run_whole<M: Monitor, O: ByteOut>(
+/// Has a script carried out from its first command on, up to its end or its stop, and writes its lines as they come, those of a
+/// report at once, and the line of its stop. WriteFault where a write fails; a front of the text was then written.
+pub fn carry_out<S: Runner, O: ByteOut>(
     alloc: Global,
-    topo: &Topo,
+    runner: &mut S,
     script: &[u8],
-    boxes: Vec<M>,
     out: &mut O,
-    gathered: &mut String,
 ) -> Result<Outcome, WriteFault>
     requires out { O.failure_count out.old < 2 ^ 63 }
-    requires empty { string_bytes gathered.old ≡ [] }
+    requires new { (S.so_far runner.old).now ≡ start }
+    ensures written { IfOk result (λ outcome. (text : List ℕ) × IsOutcome (S.so_far runner.old).topo script.now (S.so_far runner.old).boxes outcome text × Appends (O.contents out.old) (O.contents out.new) text) }
     ensures quiet { OnOk result (O.failure_count out.new ≡ O.failure_count out.old) }
-    ensures come { IfOk result (λ outcome. HasCome topo.now (commands_of script.now) (watches_in M.held boxes.items) (O.contents out.old) (O.contents out.new) (string_bytes gathered.new) outcome) }
     ensures failed { OnErr result ((O.failure_count out.new ≡ O.failure_count out.old + 1)
-        × IsCut topo.now (commands_of script.now) (watches_in M.held boxes.items) (O.contents out.old) (O.contents out.new)) }
+        × IsCut (S.so_far runner.old).topo (commands_of script.now) (S.so_far runner.old).boxes (O.contents out.old) (O.contents out.new)) }
 {
-    let Ok(mut session) = Session::new(alloc, topo, boxes) else {
-        return Ok(stopped(0, StopCause::Memory, 0));
-    };
-    let come = run_commands(alloc, &mut session, script, out, gathered);
-    session.finish();
-    come
+    let mut gathered = String::new(alloc);
+    let outcome = run_commands(alloc, runner, script, out, &mut gathered)?;
+    write_end(out, &mut gathered, outcome.stop)?;
+    Ok(outcome)
+}
+
+/// What a run writes and comes to that has no memory to begin, whatever its topology, its script and its monitors are: it stops at
+/// its first command. WriteFault where a write fails.
+pub fn run_nothing<O: ByteOut>(alloc: Global, out: &mut O) -> Result<Outcome, WriteFault>
+    requires { O.failure_count out.old < 2 ^ 63 }
+    ensures written { IfOk result (λ outcome. (topo : Topology) (script : List ℕ) (boxes : List AnyWatch)
+        → (text : List ℕ) × IsOutcome topo script boxes outcome text × Appends (O.contents out.old) (O.contents out.new) text) }
+    ensures quiet { OnOk result (O.failure_count out.new ≡ O.failure_count out.old) }
+    ensures failed { OnErr result ((O.failure_count out.new ≡ O.failure_count out.old + 1)
+        × ((topo : Topology) (script : List ℕ) (boxes : List AnyWatch) → IsCut topo (commands_of script) boxes (O.contents out.old) (O.contents out.new))) }
+{
+    let outcome = stopped(0, StopCause::Memory, 0);
+    write_end(out, &mut String::new(alloc), outcome.stop)?;
+    Ok(outcome)
 }
 
 /// Runs a script on a topology, with the monitors that its commands attach, in their order, and writes its lines as it goes, those
@@ -169,8 +184,10 @@ pub fn run_script<M: Monitor, O: ByteOut>(
     ensures failed { OnErr result ((O.failure_count out.new ≡ O.failure_count out.old + 1)
         × IsCut topo.now (commands_of script.now) (watches_in M.held boxes.items) (O.contents out.old) (O.contents out.new)) }
 {
-    let mut gathered = String::new(alloc);
-    let outcome = run_whole(alloc, topo, script, boxes, out, &mut gathered)?;
-    write_end(out, &mut gathered, outcome.stop)?;
-    Ok(outcome)
+    let Ok(mut session) = Session::new(alloc, topo, boxes) else {
+        return run_nothing(alloc, out);
+    };
+    let told = carry_out(alloc, &mut session, script, out);
+    session.finish();
+    told
 }

@@ -1,7 +1,7 @@
 use Rattle.std.proofs.Common.{◌+◌, ap, ◌∙◌}
 use Rattle.tl_run.proofs.LineLaws.{at_error}
 use Rattle.tl_run.proofs.RunLaws.{end_cut, end_written}
-use Rattle.tl_run.proofs.run.run_script.Goals as goal
+use Rattle.tl_run.proofs.run.carry_out.Goals as goal
 
 pub returns-in_err-write_end-clause-failed : goal.returns-in_err-write_end-clause-failed
 returns-in_err-write_end-clause-failed g c =

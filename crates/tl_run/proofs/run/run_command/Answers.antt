@@ -8,8 +8,8 @@ use Rattle.tl_run.proofs.run.run_command.Goals as goal
 pub returns-clause-step : goal.returns-clause-step
 returns-clause-step g c =
     let text = string_bytes c.in_ok-lines.lines in
-    let step = subst (λ a. IsStep c.args.session.now.topo c.args.session.now.now a text c.lines_of.new.self.now) c.in_ok-asked.ensures c.in_ok-lines.ensures.step in
-    let boxes = subst (λ a. TakesBox c.args.session.now.boxes a c.lines_of.new.self.boxes) c.in_ok-asked.ensures c.in_ok-lines.ensures.boxes in
+    let step = subst (λ a. IsStep (g.S.Runner.so_far c.args.runner.now).topo (g.S.Runner.so_far c.args.runner.now).now a text (g.S.Runner.so_far c.lines_of.new.self).now) c.in_ok-asked.ensures c.in_ok-lines.ensures.step in
+    let boxes = subst (λ a. TakesBox (g.S.Runner.so_far c.args.runner.now).boxes a (g.S.Runner.so_far c.lines_of.new.self).boxes) c.in_ok-asked.ensures c.in_ok-lines.ensures.boxes in
     when_done c.put_lines.result (λ told. (
       text,
       step,
@@ -22,8 +22,8 @@ returns-clause-step g c =
 pub returns-clause-failed : goal.returns-clause-failed
 returns-clause-failed g c h =
     let text = string_bytes c.in_ok-lines.lines in
-    let step = subst (λ a. IsStep c.args.session.now.topo c.args.session.now.now a text c.lines_of.new.self.now) c.in_ok-asked.ensures c.in_ok-lines.ensures.step in
-    let boxes = subst (λ a. TakesBox c.args.session.now.boxes a c.lines_of.new.self.boxes) c.in_ok-asked.ensures c.in_ok-lines.ensures.boxes in
+    let step = subst (λ a. IsStep (g.S.Runner.so_far c.args.runner.now).topo (g.S.Runner.so_far c.args.runner.now).now a text (g.S.Runner.so_far c.lines_of.new.self).now) c.in_ok-asked.ensures c.in_ok-lines.ensures.step in
+    let boxes = subst (λ a. TakesBox (g.S.Runner.so_far c.args.runner.now).boxes a (g.S.Runner.so_far c.lines_of.new.self).boxes) c.in_ok-asked.ensures c.in_ok-lines.ensures.boxes in
     let failed = c.put_lines.ensures.failed h in (
       failed.0,
       (

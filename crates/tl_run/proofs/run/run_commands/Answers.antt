@@ -37,9 +37,9 @@ pub returns-in-Err-WriteFault-clause-failed : goal.returns-in-Err-WriteFault-cla
 returns-in-Err-WriteFault-clause-failed g c =
     let e : command_in c.loop-read.rest.now ≡ Ok (Some (c.in-Some.command, c.in-Some.taken)) = sym c.read_command.ensures.exact ∙ c.in-Ok.is ∙ ap (λ r. Ok r) c.in-Some.is in
     let failed = c.run_command.ensures.failed (search rules) in
-    let step = subst (λ t. IsStep t c.loop-read.session.now (asked c.in-Some.command) failed.1.0 c.run_command.new.session.now) c.loop-read.invariant.topo failed.1.1 in (
+    let step = subst (λ t. IsStep t (g.S.Runner.so_far c.loop-read.runner).now (asked c.in-Some.command) failed.1.0 (g.S.Runner.so_far c.run_command.new.runner).now) c.loop-read.invariant.topo failed.1.1 in (
       failed.0 ∙ ap (λ n. n + 1) c.loop-read.invariant.quiet,
-      cut_there _ c.args.script.now c.loop-read.rest.now c.loop-read.done _ _ _ _ _ _ c.loop-read.invariant.ran c.in-Some.command c.in-Some.taken failed.1.0 c.run_command.new.session.now _ _ e step failed.1.2
+      cut_there _ c.args.script.now c.loop-read.rest.now c.loop-read.done _ _ _ _ _ _ c.loop-read.invariant.ran c.in-Some.command c.in-Some.taken failed.1.0 (g.S.Runner.so_far c.run_command.new.runner).now _ _ e step failed.1.2
           (failed.1.3 (g.O.ByteOut.contents c.args.out.now)),
     )
 
@@ -47,7 +47,7 @@ pub loop-read-preserved : goal.loop-read-preserved
 loop-read-preserved g c =
     let e : command_in c.loop-read.rest.now ≡ Ok (Some (c.in-Some.command, c.in-Some.taken)) = sym c.read_command.ensures.exact ∙ c.in-Ok.is ∙ ap (λ r. Ok r) c.in-Some.is in
     let went = c.in-Ok-run_command.ensures.step in
-    let step = subst (λ t. IsStep t c.loop-read.session.now (asked c.in-Some.command) went.0 c.run_command.new.session.now) c.loop-read.invariant.topo went.1 in
+    let step = subst (λ t. IsStep t (g.S.Runner.so_far c.loop-read.runner).now (asked c.in-Some.command) went.0 (g.S.Runner.so_far c.run_command.new.runner).now) c.loop-read.invariant.topo went.1 in
     record {
       topo = c.in-Ok-run_command.ensures.topo ∙ c.loop-read.invariant.topo;
       quiet = c.in-Ok-run_command.ensures.quiet ∙ c.loop-read.invariant.quiet;

@@ -9,3 +9,5 @@ mod JobLemmas
 pub mod HereLemmas
 mod PlayLemmas
 mod OldestLemmas
+mod SettledLemmas
+mod RecallLemmas

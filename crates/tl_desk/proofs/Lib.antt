@@ -11,3 +11,4 @@ mod PlayLemmas
 mod OldestLemmas
 mod SettledLemmas
 mod RecallLemmas
+mod FinishLemmas

@@ -9,3 +9,6 @@ mod JobLemmas
 pub mod HereLemmas
 mod PlayLemmas
 mod OldestLemmas
+mod SettledLemmas
+mod RecallLemmas
+mod FinishLemmas

@@ -1,5 +1,7 @@
 -- What the monitors told that ended.
-use Rattle.std.specs.Prelude.{ℕ, ◌≡◌, ◌≤◌, ◌+◌, true, Some, None, length, slice_get}
+use Rattle.std.specs.Prelude.{ℕ, ◌≡◌, ◌≤◌, ◌+◌, ◌⊎◌, true, List, Some, None, length, slice_get}
+use Rattle.std.specs.List.{Contains}
+use Rattle.std.specs.Map.{keys_of}
 use Rattle.tl_beats.specs.declared.watch.Watch.{Watch}
 use Rattle.tl_boxes.specs.Boxes.{BoxesData, place_at, away_at}
 use Rattle.tl_boxes.specs.declared.away.Away.{Away}
@@ -24,3 +26,14 @@ pub record HaveEnded (log : LogData) (boxes : BoxesData) : Type 0 where
   pub once : (at other : ℕ) (e f : ℕ × Settlement) → slice_get boxes.ended at ≡ Some e → slice_get boxes.ended other ≡ Some f → e.0 ≡ f.0 → at ≡ other
   pub told : (at : ℕ) (e : ℕ × Settlement) → slice_get boxes.ended at ≡ Some e → IsEndOf log e.0 e.1.watch e.1.closed_at
   pub closing : (number edit : ℕ) (away : Away) → away_at number boxes.slots ≡ Some away → away.closing ≡ Some edit → IsEndOf log number away.watch edit
+
+-- The monitor had this watch at the end, and told it with the number of the last edit.
+abbrev pub IsLastOf : LogData → ℕ → Watch → ℕ → Type 0
+IsLastOf log number w edit = (edit ≡ length log.edits) × (watch_at number (inputs_after log.topo log.edits).monitors ≡ Some w)
+
+-- All have ended, and each told once: what it had just before the edit that detached it, with that edit's number, or what it had at the
+-- end, with that of the last edit. Those that were attached at the end are among them.
+pub record AllHaveEnded (log : LogData) (all : List (ℕ × Settlement)) : Type 0 where
+  pub once : (at other : ℕ) (e f : ℕ × Settlement) → slice_get all at ≡ Some e → slice_get all other ≡ Some f → e.0 ≡ f.0 → at ≡ other
+  pub told : (at : ℕ) (e : ℕ × Settlement) → slice_get all at ≡ Some e → IsEndOf log e.0 e.1.watch e.1.closed_at ⊎ IsLastOf log e.0 e.1.watch e.1.closed_at
+  pub last : (number : ℕ) (w : Watch) → watch_at number (inputs_after log.topo log.edits).monitors ≡ Some w → Contains (keys_of all) number

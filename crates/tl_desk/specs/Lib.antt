@@ -5,3 +5,4 @@ pub mod Core
 pub mod Jobs
 pub mod Steps
 pub mod Plays
+pub mod Laws

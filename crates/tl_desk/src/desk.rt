@@ -10,7 +10,7 @@ ghost use Rattle.tl_spans.specs.Spans as spans;
 ghost use Rattle.tl_watches.specs.Watches.{AreWatches};
 ghost use Rattle.tl_boxes.specs.Boxes.{IsBoxes, told, here_in, first_out};
 ghost use Rattle.tl_desk.specs.Core.{log_of, standing, latest_of, report_of, AllSettled, AreLinked, IsNew, IsSound};
-ghost use Rattle.tl_desk.specs.Ends.{HaveEnded};
+ghost use Rattle.tl_desk.specs.Ends.{HaveEnded, AllHaveEnded};
 
 use std::alloc::{AllocError, Global};
 use std::marker::Model;
@@ -139,6 +139,9 @@ impl<M: Monitor> Desk<M> {
         ensures here { OnOk result (first_out self.boxes.slots ≡ None) }
         ensures log { IfOk result (λ done. done.0 ≡ log_of self) }
         ensures told { IfOk result (λ done. done.1.items ≡ self.boxes.ended ++ map (λ e. (e.0, told e.1 (length (log_of self).edits))) (here_in self.boxes.slots)) }
+        // Each monitor told once: what it had just before the edit that detached it, with that edit's number, or what it had at the
+        // end, with that of the last edit.
+        ensures once { IfOk result (λ done. AllHaveEnded (log_of self) done.1.items) }
         ensures out { IfErr result (λ back. first_out self.boxes.slots ≡ Some back.1) }
         ensures back { IfErr result (λ back. back.0 ≡ self) }
     {
@@ -152,6 +155,7 @@ impl<M: Monitor> Desk<M> {
             tickets: _,
         } = self;
         let log = windows.into_log();
+        let _ = boxes.settlements();
         let told = boxes.finish(log.len());
         Ok((log, told))
     }

@@ -7,6 +7,7 @@ mod desk;
 mod edits;
 mod fault;
 mod jobs;
+pub mod laws;
 mod manager_jobs;
 mod monitor_jobs;
 mod oldest;

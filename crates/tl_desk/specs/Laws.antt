@@ -1,0 +1,26 @@
+-- What follows for desks.
+use Rattle.std.specs.Prelude.{ℕ, ◌≡◌, ◌↔◌}
+use Rattle.tl_desk.specs.Core.{Core, AllSettled, IsSound}
+use Rattle.tl_desk.specs.Jobs.{IsLive}
+use Rattle.tl_desk.specs.Steps.{Step}
+use Rattle.tl_desk.specs.declared.call.Call.{Call}
+use Rattle.tl_desk.specs.declared.call.Call.TheVariants as call
+
+-- The call is no edit.
+abbrev pub IsNoEdit : Call → Type 0
+IsNoEdit (call.Edit change number) = ⊥
+IsNoEdit (call.Attach monitor w number) = ⊥
+IsNoEdit (call.Recheck count) = Unit {0}
+IsNoEdit (call.Publish version) = Unit {0}
+IsNoEdit (call.Take ticket piece) = Unit {0}
+IsNoEdit (call.HandIn ticket piece taken) = Unit {0}
+IsNoEdit (call.Abandon ticket piece) = Unit {0}
+IsNoEdit (call.Recall ticket) = Unit {0}
+
+-- Where all windows are settled, they are so behind each call that is no edit.
+abbrev pub OnlyEditsUnsettle : Type 0
+OnlyEditsUnsettle = (old new : Core) (made : Call) → Step old made new → IsNoEdit made → AllSettled old → AllSettled new
+
+-- A ticket that is called back is live no more, and every other is live exactly where it was.
+abbrev pub RecallsEndOne : Type 0
+RecallsEndOne = (old new : Core) (ticket : ℕ) → IsSound old → Step old (call.Recall ticket) new → (other : ℕ) → IsLive new other ↔ (IsLive old other × (other ≡ ticket → ⊥))

@@ -1,0 +1,13 @@
+//! What follows for desks. Each is the contract of a function that does nothing.
+
+ghost use Rattle.tl_desk.specs.Laws.{OnlyEditsUnsettle, RecallsEndOne};
+
+/// Where all windows are settled, they are so behind each call that is no edit: only an accepted edit makes a desk unsettled.
+pub fn only_edits_unsettle()
+    ensures { OnlyEditsUnsettle }
+{}
+
+/// A ticket that is called back is live no more, and every other is live exactly where it was.
+pub fn recalls_end_one_ticket()
+    ensures { RecallsEndOne }
+{}

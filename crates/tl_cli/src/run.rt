@@ -8,6 +8,7 @@ use crate::files::{fault_of, fragments_of, script_of, topology_of};
 use crate::monitors::{attached_in, settlement_lines};
 use crate::showing::{show_audit, show_once, show_script};
 use crate::words::{Command, not_utf8, read_words};
+use clap::error::ErrorKind;
 use std::alloc::Global;
 use std::io;
 use std::rt::Files;
@@ -246,7 +247,7 @@ fn tell_refusal<E: ByteOut>(alloc: Global, err: &mut E, error: &clap::Error) -> 
     FAULT
 }
 
-/// Writes clap's own text: help to the one, what it refuses to the other.
+/// Writes clap's own text: help to the one, what it refuses to the other. Want of memory is told as any other.
 fn tell_words<O: ByteOut, E: ByteOut>(
     alloc: Global,
     out: &mut O,
@@ -257,6 +258,9 @@ fn tell_words<O: ByteOut, E: ByteOut>(
     requires err { E.failure_count err.old < 2 ^ 63 }
     ensures { result ≤ 2 }
 {
+    if matches!(error.kind(), ErrorKind::OutOfMemory) {
+        return tell(alloc, err, Fault::MEMORY);
+    }
     if error.use_stderr() {
         return tell_refusal(alloc, err, error);
     }

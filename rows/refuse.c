@@ -1,0 +1,110 @@
+/* Refuses memory and threads to the program that LD_PRELOAD loads it into. Calls of malloc, calloc, realloc and pthread_create by
+   the program's own code, not by the C library, are counted from 1; those from REFUSE_FIRST to REFUSE_LAST fail. The file
+   REFUSE_TALLY, of 16 bytes, has the count of calls, and how many blocks the program holds, however it ends. */
+#define _GNU_SOURCE
+#include <dlfcn.h>
+#include <errno.h>
+#include <fcntl.h>
+#include <link.h>
+#include <pthread.h>
+#include <stdatomic.h>
+#include <stdint.h>
+#include <stdlib.h>
+#include <sys/mman.h>
+#include <unistd.h>
+
+extern void *__libc_malloc(size_t size);
+extern void *__libc_calloc(size_t count, size_t size);
+extern void *__libc_realloc(void *block, size_t size);
+extern void __libc_free(void *block);
+
+struct tally {
+    _Atomic uint64_t calls;
+    _Atomic uint64_t held;
+};
+
+typedef int starter(pthread_t *, const pthread_attr_t *, void *(*)(void *), void *);
+
+static struct tally nowhere;
+static struct tally *tally = &nowhere;
+static uint64_t first_refused;
+static uint64_t last_refused;
+static uintptr_t own_begin;
+static uintptr_t own_end;
+
+/* The program itself is the first object, and its parts lie in one piece. */
+static int find_own(struct dl_phdr_info *object, size_t size, void *unused) {
+    (void)size;
+    (void)unused;
+    own_begin = UINTPTR_MAX;
+    for (int part = 0; part < object->dlpi_phnum; part++) {
+        if (object->dlpi_phdr[part].p_type != PT_LOAD) continue;
+        uintptr_t begin = object->dlpi_addr + object->dlpi_phdr[part].p_vaddr;
+        uintptr_t end = begin + object->dlpi_phdr[part].p_memsz;
+        if (begin < own_begin) own_begin = begin;
+        if (end > own_end) own_end = end;
+    }
+    return 1;
+}
+
+static uint64_t number_in(const char *name) {
+    const char *word = getenv(name);
+    return word ? strtoull(word, NULL, 10) : 0;
+}
+
+__attribute__((constructor)) static void begin(void) {
+    const char *path = getenv("REFUSE_TALLY");
+    int file = path ? open(path, O_RDWR) : -1;
+    if (file >= 0) {
+        void *shared = mmap(NULL, sizeof *tally, PROT_READ | PROT_WRITE, MAP_SHARED, file, 0);
+        if (shared != MAP_FAILED) tally = shared;
+        close(file);
+    }
+    first_refused = number_in("REFUSE_FIRST");
+    last_refused = number_in("REFUSE_LAST");
+    dl_iterate_phdr(find_own, NULL);
+}
+
+static int is_own(void *caller) {
+    return (uintptr_t)caller >= own_begin && (uintptr_t)caller < own_end;
+}
+
+static int is_refused(void) {
+    uint64_t number = atomic_fetch_add(&tally->calls, 1) + 1;
+    if (number < first_refused || number > last_refused) return 0;
+    errno = ENOMEM;
+    return 1;
+}
+
+static void *held(void *block) {
+    if (block) atomic_fetch_add(&tally->held, 1);
+    return block;
+}
+
+void *malloc(size_t size) {
+    if (!is_own(__builtin_return_address(0))) return __libc_malloc(size);
+    return is_refused() ? NULL : held(__libc_malloc(size));
+}
+
+void *calloc(size_t count, size_t size) {
+    if (!is_own(__builtin_return_address(0))) return __libc_calloc(count, size);
+    return is_refused() ? NULL : held(__libc_calloc(count, size));
+}
+
+void *realloc(void *block, size_t size) {
+    if (!is_own(__builtin_return_address(0))) return __libc_realloc(block, size);
+    if (is_refused()) return NULL;
+    void *moved = __libc_realloc(block, size);
+    return block ? moved : held(moved);
+}
+
+void free(void *block) {
+    if (block && is_own(__builtin_return_address(0))) atomic_fetch_sub(&tally->held, 1);
+    __libc_free(block);
+}
+
+int pthread_create(pthread_t *thread, const pthread_attr_t *how, void *(*body)(void *), void *given) {
+    starter *start = (starter *)dlsym(RTLD_NEXT, "pthread_create");
+    if (is_own(__builtin_return_address(0)) && is_refused()) return EAGAIN;
+    return start(thread, how, body, given);
+}

@@ -303,14 +303,17 @@ module _ (m : ℕ) (h g : Held) (old mid : BoxesData) (here : held_at m old.slot
   pub lent_place : away_at m mid.slots ≡ Some (leaving 0 g)
   lent_place = ap (λ o. option_and_then away_of o) lent.here ∙ ap (λ w. Some (record { ticket = 0; taken = w; watch = w; closing = None })) (sym watch)
 
+  pub lent_back : (new : BoxesData) → new ≡ placed_at m (Here g) mid → IsPlaced m (Some (Here g)) old new
+  lent_back new comes = record { here = put.here; others = λ n apart. put.others n apart ∙ lent.others n apart }
+    where
+      put : IsPlaced m (Some (Here g)) mid new
+      put = set_placed m (Out (leaving 0 h)) (Here g) mid new lent.here comes
+
   pub lent_kept : (new : BoxesData) → g.closed_at ≡ h.closed_at → new ≡ placed_at m (Here g) mid → KeepsBoxes old new
   lent_kept new closed comes =
       kept_one old new m h g (place_here (place_at m old.slots) h here) watch closed
       (ap (λ (b : BoxesData). b.ended) comes ∙ ap (λ (b : BoxesData). b.ended) goes ∙ ap (λ o. (option_map_or (λ x. placed_at m (Out (leaving 0 x)) old) o old).ended) here)
-      (record { here = put.here; others = λ n apart. put.others n apart ∙ lent.others n apart })
-    where
-      put : IsPlaced m (Some (Here g)) mid new
-      put = set_placed m (Out (leaving 0 h)) (Here g) mid new lent.here comes
+      (lent_back new comes)
 
 -- Those that are out are out as before.
 pub still_out : (old new : BoxesData) → KeepsBoxes old new → (n : ℕ) → is_some (away_at n new.slots) ≡ is_some (away_at n old.slots)

@@ -5,6 +5,7 @@ mod TicketLemmas
 mod EndLemmas
 mod ReportLemmas
 mod WatchLemmas
+mod TallyLemmas
 mod JobLemmas
 pub mod HereLemmas
 mod PlayLemmas

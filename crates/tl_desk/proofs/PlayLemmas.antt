@@ -101,7 +101,7 @@ module _ {M : Type 0} where
 
   pub back_same : (job : Job M) → ComesBack job job
   back_same (a_job.Manager j) = refl
-  back_same (a_job.Monitor j) = record { ticket = refl; task = refl }
+  back_same (a_job.Monitor j) = record { ticket = refl; task = refl; left = inl refl }
 
   -- It is out under its ticket.
   pub out_ticket : (core : Core) (job : Job M) → IsOutHere core job → IsOutFor (ticket_of job) (window_of job) core.tickets.out

@@ -2,7 +2,7 @@
 use Rattle.std.specs.Prelude.{ℕ, ◌≡◌, ◌<◌, ◌+◌, ◌⊎◌, Bool, [], ◌∷◌, ◌++◌, Option, length, min, List, None, Some, true, false, is_some}
 use Rattle.tl_beats.specs.declared.Row.{Row}
 use Rattle.tl_beats.specs.declared.watch.Watch.{Watch}
-use Rattle.tl_boxes.specs.Boxes.{BoxesData, place_at, away_at, attached_at, retuned_at, detached_at}
+use Rattle.tl_boxes.specs.Boxes.{BoxesData, place_at, held_at, away_at, attached_at, retuned_at, detached_at}
 use Rattle.tl_boxes.specs.Places.{Place, Here, Out}
 use Rattle.tl_definitions.specs.Report.{IsReport}
 use Rattle.tl_inputs.specs.Edits.{AnEdit, plain_change, add, replace, withdraw, clear_link, set_region, remove_region, attach, retune, detach}
@@ -27,6 +27,7 @@ use Rattle.tl_tickets.specs.declared.piece.Piece.TheVariants as piece
 use Rattle.tl_watches.specs.Edits.{EditsBoth}
 use Rattle.tl_watches.specs.declared.tally.Tally.{Tally}
 use Rattle.tl_watches.specs.Tally.{SameTally}
+use Rattle.tl_watches.specs.Watches.{WatchesData, IsAmidWindow}
 use Rattle.tl_desk.specs.Core.{Core, AllSettled, most_versions, log_of, standing}
 use Rattle.tl_desk.specs.Jobs.{IsFresh, IsFreshWatch, Takes, TakesWatch, Accepts, AcceptsWatch, Ends, EndsWatch, Recalls, RecallsWatch}
 use Rattle.tl_desk.specs.declared.edits.BoxChange.{BoxChange}
@@ -88,6 +89,16 @@ pub record KeepsBoxes (old new : BoxesData) : Type 0 where
   pub ended : new.ended ≡ old.ended
   pub places : (number : ℕ) → option_map without_tally (place_at number new.slots) ≡ option_map without_tally (place_at number old.slots)
 
+-- The monitor of a number alone may have another tally, and that is such a one.
+pub record LeavesOne (number : ℕ) (Is : Held → ℕ → Type 0) (old new : BoxesData) : Type 0 where
+  pub here : (was now : Held) → held_at number old.slots ≡ Some was → held_at number new.slots ≡ Some now → Is was now.tally
+  pub others : (other : ℕ) → (number ≡ other → ⊥) → place_at other new.slots ≡ place_at other old.slots
+
+-- Each monitor that is here has the tally that it had, or one amid the beats of one of its windows, from what this is to start from.
+pub record LeavesTallies (windows : WatchesData) (old new : BoxesData) : Type 0 where
+  pub each : (number : ℕ) (was now : Held) → held_at number old.slots ≡ Some was → held_at number new.slots ≡ Some now
+      → (now.tally ≡ was.tally) ⊎ ((window : ℕ) × IsAmidWindow windows (key_of number window) was.watch now.tally)
+
 -- The monitor of a number is out.
 abbrev pub IsOut : BoxesData → ℕ → Type 0
 IsOut boxes number = is_some (away_at number boxes.slots) ≡ true
@@ -117,12 +128,13 @@ pub record RechecksAll (old : Core) (count : ℕ) (new : Core) : Type 0 where
   pub tickets : new.tickets ≡ old.tickets
 
 -- Some of the windows that had no result, or one that did not begin with what stands before it, are checked, and their tickets end; all
--- else stays.
+-- else stays, but for the tallies of monitors, which are those amid their windows.
 pub record RechecksSome (old new : Core) : Type 0 where
   pub log : log_of new ≡ log_of old
   pub managers : ChecksSome SameSpan old.windows.spans.board new.windows.spans.board
   pub monitors : ChecksSome SameTally old.windows.board new.windows.board
   pub boxes : KeepsBoxes old.boxes new.boxes
+  pub left : LeavesTallies new.windows old.boxes new.boxes
   pub reports : new.reports ≡ old.reports
   pub tickets : new.tickets ≡ old.tickets
 

@@ -1,6 +1,6 @@
 //! The check of all windows that are wanted.
 
-ghost use Rattle.std.specs.Prelude.{◌≡◌, IfOk, IfErr, IfSome, OnOk, OnErr, None, Some, is_some, true};
+ghost use Rattle.std.specs.Prelude.{◌≡◌, ◌⊎◌, IfOk, IfErr, IfSome, OnOk, OnErr, None, Some, is_some, true};
 ghost use Rattle.std.specs.Result.{IsErrOf};
 ghost use Rattle.tl_boxes.specs.Boxes.{away_at};
 ghost use Rattle.tl_inputs.specs.Inputs.{watch_at};
@@ -9,9 +9,9 @@ ghost use Rattle.tl_span.specs.States.{SameSpan};
 ghost use Rattle.tl_spans.specs.Recheck.{Rechecks, ChecksSome};
 ghost use Rattle.tl_spans.specs.Spans.{standing};
 ghost use Rattle.tl_watches.specs.Tally.{SameTally};
-ghost use Rattle.tl_watches.specs.Watches.{ChecksWatch};
+ghost use Rattle.tl_watches.specs.Watches.{ChecksWatch, IsAmidWindow};
 ghost use Rattle.tl_desk.specs.Core.{AreAttached, HaveNumbers};
-ghost use Rattle.tl_desk.specs.Steps.{KeepsBoxes, RechecksSome, NoneIsOut, IsFirstOut, IsFirstOutOf, RefusesRecheck, Step};
+ghost use Rattle.tl_desk.specs.Steps.{KeepsBoxes, LeavesOne, LeavesTallies, RechecksSome, NoneIsOut, IsFirstOut, IsFirstOutOf, RefusesRecheck, Step};
 ghost use Rattle.tl_desk.specs.declared.call.Call.TheVariants as call;
 
 use crate::desk::Desk;
@@ -34,6 +34,8 @@ fn check_here<M: Monitor>(
     requires owner { is_some (watch_at key.owner (standing windows.old.spans).monitors) ≡ true }
     requires here { is_some (away_at key.owner boxes.old.slots) ≡ true → ⊥ }
     ensures kept { KeepsBoxes boxes.old boxes.new }
+    ensures tally { OnOk result (LeavesOne key.owner (λ held. IsAmidWindow windows.old key held.watch) boxes.old boxes.new) }
+    ensures left { OnErr result (LeavesOne key.owner (λ held tally. (tally ≡ held.tally) ⊎ IsAmidWindow windows.old key held.watch tally) boxes.old boxes.new) }
     ensures ok { OnOk result (ChecksWatch windows.old key windows.new) }
     ensures err { OnErr result (windows.new ≡ windows.old) }
 {
@@ -58,6 +60,7 @@ fn check_watches<M: Monitor>(
     ensures boxes { KeepsBoxes boxes.old boxes.new }
     ensures ok { IfOk result (λ count. Rechecks SameTally windows.old.board windows.new.board count) }
     ensures err { OnErr result (ChecksSome SameTally windows.old.board windows.new.board) }
+    ensures left { OnErr result (LeavesTallies windows.new boxes.old boxes.new) }
 {
     let _ = windows.spans();
     let mut count = 0;
@@ -98,7 +101,7 @@ impl<M: Monitor> Desk<M> {
     /// by the beats before them. The tickets of these windows end; every other result and ticket stays. BoxOut with the lowest
     /// number of a monitor that isn't settled and is out, where there is one: then nothing has changed. Memory where there is none
     /// and memory is refused: then some of these windows have their results, and no tickets, and all else is as it was, but for the
-    /// tallies of monitors.
+    /// tallies of monitors, each of which is as it was, or that behind some first beats of one of the monitor's windows.
     pub fn recheck_now(&mut self, alloc: Global) -> Result<u64, RecheckFault>
         ensures step { IfOk result (λ count. Step self.old (call.Recheck count) self.new) }
         ensures here { OnOk result (IsFirstOut self.old None) }

@@ -5,7 +5,7 @@ use Rattle.tl_pieces.specs.Pieces.{Pass}
 use Rattle.tl_tickets.specs.declared.piece.Piece.{Piece}
 use Rattle.tl_tickets.specs.declared.piece.Piece.TheVariants as piece
 use Rattle.tl_watches.specs.declared.tally.Tally.{Tally}
-use Rattle.tl_watches.specs.Tasks.{WatchTaskData, IsWatchPassOf, SameButTally}
+use Rattle.tl_watches.specs.Tasks.{WatchTaskData, IsWatchPassOf, SameButTally, LeavesTally}
 
 -- A window that is out with its monitor, with the number of its ticket.
 pub record MonitorJobData : Type 0 where
@@ -26,7 +26,8 @@ pub record IsMonitorDone (done : MonitorDoneData) : Type 0 where
   pub pass : IsWatchPassOf done.job.task done.result
   pub entry : done.result.entry ≡ done.job.task.entry
 
--- It is the same job, and its monitor holds the same but for the tally.
+-- It is the same job, and its monitor holds the same but for the tally, which is that behind some first beats of the job, or as it was.
 pub record SameJob (job back : MonitorJobData) : Type 0 where
   pub ticket : back.ticket ≡ job.ticket
   pub task : SameButTally job.task back.task
+  pub left : LeavesTally job.task back.task.held.tally

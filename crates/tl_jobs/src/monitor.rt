@@ -141,7 +141,8 @@ impl<M: Monitor> MonitorDone<M> {
     }
 }
 
-/// Checks a job. For want of memory the same job comes back, its monitor with the tally of some of its beats.
+/// Checks a job. For want of memory the same job comes back, its monitor with the tally behind some first of its beats, or with the
+/// one that it had.
 pub(crate) fn work_monitor<M: Monitor>(
     alloc: Global,
     job: MonitorJob<M>,

@@ -5,7 +5,7 @@ use Rattle.std.proofs.lemmas.List.Elements.{Contains-append_left, Contains-appen
 use Rattle.std.proofs.lemmas.Map.{lookup-none}
 use Rattle.std.proofs.lemmas.Map.Entries.{none_below_head}
 use Rattle.std.proofs.lemmas.Map.Keys.{sorted_head, sorted_tail}
-use Rattle.std.specs.Prelude.{◌⊎◌, ⊤, is_some, OnErr}
+use Rattle.std.specs.Prelude.{◌⊎◌, ⊤, is_some, OnErr, IfSome}
 use Rattle.std.specs.BTreeMap.{is_at}
 use Rattle.std.specs.List.{Contains, AllByRecursion}
 use Rattle.std.specs.List.Sorted.{IsStrictlySortedBy}
@@ -18,8 +18,8 @@ use Rattle.tl_pieces.proofs.OrderLemmas.{key_exact, key_self, key_total, owner_l
 use Rattle.tl_pieces.proofs.OwnerLemmas.{owners_later}
 use Rattle.tl_pieces.proofs.ReadyLemmas.{either_then, either_none}
 use Rattle.tl_pieces.specs.declared.key.PieceKey.{PieceKey}
-use Rattle.tl_pieces.specs.Keys.{key_cmp, value_at, change, before, Rises, IsNotBefore}
-use Rattle.tl_pieces.specs.Pieces.{Piece, Board, Pass, IsBoard, opening_of, piece_at, result_of, live_of, exit_of, exit_before, last_exit, left_by, entry_for, with_pieces, with_result, IsGood, Follows, IsWanted, ChainsFrom, IsFirst, IsFirstWanted, IsSettled}
+use Rattle.tl_pieces.specs.Keys.{key_cmp, value_at, change, before, owned_by, Rises, IsNotBefore}
+use Rattle.tl_pieces.specs.Pieces.{Piece, Board, Pass, IsBoard, opening_of, piece_at, result_of, live_of, exit_of, exit_before, last_exit, left_by, entry_for, with_pieces, with_result, IsGood, Follows, IsWanted, ChainsFrom, IsChainTo, IsFirst, IsFirstWanted, IsSettled, HasTrueEntry}
 use Rattle.tl_span.proofs.StateLaws.{shown_same}
 use Rattle.tl_span.specs.States.{SameSpan}
 use Rattle.tl_spans.specs.Recheck.{IsStale, ChecksThese, Rechecks}
@@ -157,7 +157,7 @@ module _ {S R : Type 0} where
     result_on e es gt = ap (λ o. result_of (cond (is_eq o) (Some e.1) (value_at k es))) gt
 
   -- A change of the key's piece is not seen from there or before.
-  before_changed : (q k : PieceKey) (f : Piece S R → Piece S R) (es : List (PieceKey × Piece S R)) → IsNotBefore q k → before q (change k f es) ≡ before q es
+  pub before_changed : (q k : PieceKey) (f : Piece S R → Piece S R) (es : List (PieceKey × Piece S R)) → IsNotBefore q k → before q (change k f es) ≡ before q es
   before_changed q k f [] le = refl
   before_changed q k f (e ∷ es) le = elim (is_at (key_cmp k) e.0) as (λ b. is_at (key_cmp k) e.0 ≡ b → before q (cond b ((e.0, f e.1) ∷ es) (e ∷ change k f es)) ≡ before q (e ∷ es)) [
     | true ↦ λ at. (let low : is_le (key_cmp q e.0) ≡ true = ap (λ x. is_le (key_cmp q x)) (sym (key_exact k e.0 at)) ∙ le in
@@ -261,6 +261,7 @@ module _ {S R : Type 0} (same : S → S → Type 0) where
       rise = tt;
       stale = λ key h. absurd (contains_none key h);
       begins = λ key h. absurd (contains_none key h);
+      true_entries = λ key h. absurd (contains_none key h);
       stays = λ key away. refl;
     };
     board = is;
@@ -270,7 +271,7 @@ module _ {S R : Type 0} (same : S → S → Type 0) where
   -- ---- one more
 
   module _ (keys : List PieceKey) (old now new : Board S R) (way : IsUnderWay keys old now) (k : PieceKey) (r : Pass S R) (alike : same r.entry r.entry) (first : IsFirstWanted same now (Some k))
-      (entry : entry_for k now ≡ Some r.entry) (is : new ≡ with_pieces now (change k (with_checked r) now.pieces)) where
+      (ready : HasTrueEntry same now k) (entry : entry_for k now ≡ Some r.entry) (is : new ≡ with_pieces now (change k (with_checked r) now.pieces)) where
     openings : new.openings ≡ now.openings
     openings = ap (λ (b : Board S R). b.openings) is
 
@@ -297,6 +298,12 @@ module _ {S R : Type 0} (same : S → S → Type 0) where
     -- what stands before the piece or an earlier one
     same_entry : (q : PieceKey) → IsNotBefore q k → entry_for q new ≡ entry_for q now
     same_entry q le = ap (entry_for q) is ∙ ap (λ t. option_or (last_exit q.owner t) (opening_of q.owner now.openings)) (before_changed q k (with_checked r) now.pieces le)
+
+    still_true : (q : PieceKey) → IsNotBefore q k → HasTrueEntry same now q → HasTrueEntry same new q
+    still_true q le known s opens =
+        let front : before q new.pieces ≡ before q now.pieces = ap (λ (b : Board S R). before q b.pieces) is ∙ before_changed q k (with_checked r) now.pieces le in
+        let from = known s (sym (ap (opening_of q.owner) openings) ∙ opens) in
+        (from.0, same_entry q le ∙ from.1, subst (λ t. IsChainTo same s (owned_by q.owner t) from.0) (sym front) from.2)
 
     below : (q : PieceKey) → Contains keys q → key_cmp q k ≡ Less
     below q h = way.passed q k h first
@@ -373,6 +380,7 @@ module _ {S R : Type 0} (same : S → S → Type 0) where
         begins = among (λ q. Follows same (entry_for q new) (result_of (piece_at q new))) (λ q h.
             subst (λ b. Follows same b (result_of (piece_at q new))) (sym (same_entry q (ap is_le (below q h))))
             (subst (λ x. Follows same (entry_for q now) (result_of x)) (sym (other q (unequal q k (below q h)))) (way.checked.begins q h))) begins;
+        true_entries = among (HasTrueEntry same new) (λ q h. still_true q (ap is_le (below q h)) (way.checked.true_entries q h)) (still_true k (ap is_le (key_self k)) ready);
         stays = λ q away. other q (λ e. away (Contains-append_right keys (k ∷ []) q (subst (Contains (k ∷ [])) (sym e) (contains_here k []))))
             ∙ way.checked.stays q (λ h. away (Contains-append_left keys (k ∷ []) q h));
       };
@@ -417,13 +425,16 @@ pub record OneMore (keys : List PieceKey) (start old new : SpansData) : Type 0 w
   pub way : IsUnderWay SameSpan (keys ++ key ∷ []) start.board new.board
   pub log : new.log ≡ old.log
 
+none_found : (A : Type 0) (key : PieceKey) → None ≡ Some key → A
+none_found A key is = cc
+
 pub checks_one : (keys : List PieceKey) (start old new : SpansData) (found : Option PieceKey) → IsUnderWay SameSpan keys start.board old.board → (IsSettled SameSpan old.board → ⊥) → IsFirstWanted SameSpan old.board found
-    → ChecksFirst old found new → OneMore keys start old new
-checks_one keys start old new None way parted first checked = (let none = some_wanted SameSpan old.board None way.board first parted in cc)
-checks_one keys start old new (Some key) way parted first checked = record {
+    → IfSome found (HasTrueEntry SameSpan old.board) → ChecksFirst old found new → OneMore keys start old new
+checks_one keys start old new None way parted first ready checked = (let none = some_wanted SameSpan old.board None way.board first parted in none_found (OneMore keys start old new) none.0 none.1)
+checks_one keys start old new (Some key) way parted first ready checked = record {
   key = key;
   way = one_more SameSpan keys start.board old.board new.board way key checked.result (shown_same (manager_in (standing old) key.owner) checked.result.entry checked.result.entry checked.of_window.begins.0 checked.of_window.begins.0 refl)
-      first checked.entry (ap (λ (s : SpansData). s.board) checked.rest);
+      first ready checked.entry (ap (λ (s : SpansData). s.board) checked.rest);
   log = ap (λ (s : SpansData). s.log) checked.rest;
 }
 

@@ -1,9 +1,9 @@
 //! The check of a window.
 
-ghost use Rattle.std.specs.Prelude.{◌≡◌, IfOk, OnErr, Some, is_some, true};
+ghost use Rattle.std.specs.Prelude.{◌≡◌, IfOk, IfSome, OnErr, Some, is_some, true};
 ghost use Rattle.std.specs.Arc.{arc_value};
 ghost use Rattle.tl_pieces.specs.Marks.{pass_of};
-ghost use Rattle.tl_pieces.specs.Pieces.{piece_at, entry_for, IsFirstWanted};
+ghost use Rattle.tl_pieces.specs.Pieces.{piece_at, entry_for, IsFirstWanted, HasTrueEntry};
 ghost use Rattle.tl_span.specs.States.{SameSpan};
 ghost use Rattle.tl_spans.specs.Spans.{standing, IsSpanOf, ChecksFirst};
 
@@ -20,6 +20,7 @@ impl Spans {
     /// changed.
     pub fn check_first(&mut self, alloc: Global) -> Result<Option<PieceKey>, AllocError>
         ensures first { IfOk result (IsFirstWanted SameSpan self.old.board) }
+        ensures entry { IfOk result (λ found. IfSome found (HasTrueEntry SameSpan self.old.board)) }
         ensures checked { IfOk result (λ found. ChecksFirst self.old found self.new) }
         ensures err { OnErr result (self.new ≡ self.old) }
     {

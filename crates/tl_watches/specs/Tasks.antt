@@ -1,11 +1,11 @@
 -- Windows of monitors that are to be checked, as plain data, and their results.
-use Rattle.std.specs.Prelude.{ℕ, ◌≡◌, List}
+use Rattle.std.specs.Prelude.{ℕ, ◌≡◌, ◌⊎◌, ◌++◌, List}
 use Rattle.std.specs.List.Sorted.{IsStrictlySortedBy}
 use Rattle.tl_topology.specs.Topology.{Topology}
 use Rattle.tl_beats.specs.declared.Placed.{Placed}
 use Rattle.tl_beats.specs.declared.Row.{Row}
 use Rattle.tl_beats.specs.declared.watch.Watch.{Watch}
-use Rattle.tl_definitions.specs.Passes.{IsPass}
+use Rattle.tl_definitions.specs.Passes.{IsPass, left_after}
 use Rattle.tl_definitions.specs.Positions.{Recorded, position_order}
 use Rattle.tl_definitions.specs.Tallies.{watching, kept_tally, AreOfOneLink}
 use Rattle.tl_monitor.specs.Held.{Held}
@@ -60,6 +60,17 @@ without_monitor task = record { number = task.number; window = task.window; watc
 -- The task is the same, and its monitor holds the same but for the tally.
 abbrev pub SameButTally : WatchTaskData → WatchTaskData → Type 0
 SameButTally old new = new ≡ record old { held = record old.held { tally = new.held.tally } }
+
+-- A monitor has this tally amid these beats: that behind the first of them, none or all of them at most, from an entry.
+pub record IsAmid (number : ℕ) (w : Watch) (entry : Tally) (beats : List Placed) (tally : ℕ) : Type 0 where
+  pub seen : List Placed
+  pub rest : List Placed
+  pub parts : beats ≡ seen ++ rest
+  pub left : tally ≡ left_after (watching number w) (kept_tally w entry.count) seen
+
+-- The monitor of a task has the tally that it had, or one amid the task's beats, from the task's entry.
+abbrev pub LeavesTally : WatchTaskData → ℕ → Type 0
+LeavesTally task tally = (tally ≡ task.held.tally) ⊎ IsAmid task.number task.held.watch task.entry task.beats tally
 
 -- The result is the pass of the task's beats by the watch of its monitor, from its own entry.
 pub record IsWatchPassOf (task : WatchTaskData) (result : Pass Tally (List Row)) : Type 0 where

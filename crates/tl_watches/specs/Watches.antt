@@ -15,7 +15,9 @@ use Rattle.tl_plain.specs.Captured.{watched_beats}
 use Rattle.tl_spans.specs.Covers.{Covers, IsOfWindow}
 use Rattle.tl_spans.specs.Spans.{SpansData, standing}
 use Rattle.tl_spans.specs.Windows.{with_checked}
+use Rattle.tl_windows.specs.Windows.{beats_in}
 use Rattle.tl_watches.specs.declared.tally.Tally.{Tally}
+use Rattle.tl_watches.specs.Tasks.{IsAmid}
 
 -- The log with the windows of managers, and the windows of each monitor that is attached, who is the owner with its number.
 pub record WatchesData : Type 0 where
@@ -59,3 +61,9 @@ pub record ChecksWatch (old : WatchesData) (key : PieceKey) (new : WatchesData) 
   pub of_window : IsOfWatch (standing old.spans) key.owner key.window result
   pub entry : entry_for key old.board ≡ Some result.entry
   pub rest : new ≡ record old { board = with_pieces old.board (change key (with_checked result) old.board.pieces) }
+
+-- A monitor with this watch has this tally amid the present beats of one of its windows, from what the window is to start from.
+pub record IsAmidWindow (now : WatchesData) (key : PieceKey) (w : Watch) (tally : ℕ) : Type 0 where
+  pub entry : Tally
+  pub from : entry_for key now.board ≡ Some entry
+  pub amid : IsAmid key.owner w entry (beats_in key.window (beats_for (standing now.spans) key.owner)) tally

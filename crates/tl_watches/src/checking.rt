@@ -1,6 +1,6 @@
 //! The checks of windows, and the rows of all.
 
-ghost use Rattle.std.specs.Prelude.{◌≡◌, ◌<◌, IfOk, OnOk, OnErr, Some, is_some, length, true};
+ghost use Rattle.std.specs.Prelude.{◌≡◌, ◌<◌, ◌⊎◌, IfOk, IfSome, OnOk, OnErr, Some, is_some, length, true};
 ghost use Rattle.std.specs.Arc.{arc_value};
 ghost use Rattle.std.specs.List.{All};
 ghost use Rattle.std.specs.List.Sorted.{IsStrictlySortedBy};
@@ -9,13 +9,13 @@ ghost use Rattle.tl_definitions.specs.Report.{IsReport};
 ghost use Rattle.tl_definitions.specs.Tallies.{AreOfOneLink};
 ghost use Rattle.tl_inputs.specs.Inputs.{watch_at};
 ghost use Rattle.tl_pieces.specs.Marks.{pass_of};
-ghost use Rattle.tl_pieces.specs.Pieces.{piece_at, entry_for, IsSettled, IsFirstWanted};
+ghost use Rattle.tl_pieces.specs.Pieces.{piece_at, entry_for, IsSettled, IsFirstWanted, HasTrueEntry};
 ghost use Rattle.tl_plain.specs.Captured.{captures_after, watched_beats};
 ghost use Rattle.tl_span.specs.States.{SameSpan};
 ghost use Rattle.tl_spans.specs.Spans.{standing, ChecksFirst};
 ghost use Rattle.tl_watches.specs.Tally.{SameTally};
 ghost use Rattle.tl_windows.specs.Windows.{beats_in};
-ghost use Rattle.tl_watches.specs.Watches.{IsOfWatch, ChecksWatch};
+ghost use Rattle.tl_watches.specs.Watches.{IsOfWatch, IsAmidWindow, ChecksWatch};
 
 use crate::tally::Tally;
 use crate::watches::Watches;
@@ -54,6 +54,7 @@ impl Watches {
     /// then nothing has changed.
     pub fn check_span(&mut self, alloc: Global) -> Result<Option<PieceKey>, AllocError>
         ensures first { IfOk result (IsFirstWanted SameSpan self.old.spans.board) }
+        ensures entry { IfOk result (λ found. IfSome found (HasTrueEntry SameSpan self.old.spans.board)) }
         ensures checked { IfOk result (λ found. ChecksFirst self.old.spans found self.new.spans) }
         ensures rest { self.new.board ≡ self.old.board }
         ensures err { OnErr result (self.new ≡ self.old) }
@@ -64,7 +65,8 @@ impl Watches {
     }
 
     /// Checks a window of a monitor, which is given, from what the windows of the monitor before it leave; the window's ticket
-    /// ends. AllocError where memory is refused: then no window has changed. The monitor keeps its watch, and its tally may be any.
+    /// ends. AllocError where memory is refused: then no window has changed. The monitor keeps its watch, and its tally is that
+    /// behind the window's beats, or, where memory is refused, behind some first of them, or was not touched.
     pub fn check_watch<M: Monitor>(
         &mut self,
         alloc: Global,
@@ -76,6 +78,8 @@ impl Watches {
         ensures ok { OnOk result (ChecksWatch self.old key self.new) }
         ensures watch { monitor.new.watch ≡ monitor.old.watch }
         ensures closed_at { monitor.new.closed_at ≡ monitor.old.closed_at }
+        ensures tally { OnOk result (IsAmidWindow self.old key monitor.old.watch monitor.new.tally) }
+        ensures left { OnErr result ((monitor.new.tally ≡ monitor.old.tally) ⊎ IsAmidWindow self.old key monitor.old.watch monitor.new.tally) }
         ensures err { OnErr result (self.new ≡ self.old) }
     {
         let _ = &self.spans;
@@ -97,6 +101,8 @@ impl Watches {
         ensures entry { IfOk result (λ stored. entry_for key self.now.board ≡ Some (arc_value stored.entry)) }
         ensures watch { monitor.new.watch ≡ monitor.old.watch }
         ensures closed_at { monitor.new.closed_at ≡ monitor.old.closed_at }
+        ensures tally { OnOk result (IsAmidWindow self.now key monitor.old.watch monitor.new.tally) }
+        ensures left { OnErr result ((monitor.new.tally ≡ monitor.old.tally) ⊎ IsAmidWindow self.now key monitor.old.watch monitor.new.tally) }
     {
         let _ = self.pieces.len();
         let entry = Arc::try_clone(self.pieces.entry_for(key).unwrap())?;

@@ -5,7 +5,7 @@ ghost use Rattle.std.specs.Arc.{arc_value};
 ghost use Rattle.std.specs.Bool.{Decides};
 ghost use Rattle.tl_pieces.specs.Marks.{pass_of};
 ghost use Rattle.tl_plain.specs.Captured.{watched_beats};
-ghost use Rattle.tl_watches.specs.Tasks.{AreWatched, IsTallyOf, IsWatchWindow, IsWatchTask, IsWatchPassOf, IsWatchCurrent, SameButTally, with_monitor, without_monitor};
+ghost use Rattle.tl_watches.specs.Tasks.{AreWatched, IsTallyOf, IsWatchWindow, IsWatchTask, IsWatchPassOf, IsWatchCurrent, SameButTally, LeavesTally, with_monitor, without_monitor};
 ghost use Rattle.tl_windows.specs.Windows.{beats_in};
 
 use crate::same_watch::is_watch;
@@ -202,11 +202,12 @@ impl<M: Monitor> WatchTask<M> {
     }
 
     /// The pass of its beats by the watch of its monitor, from its entry. AllocError where memory is refused. In both cases the task
-    /// stays the same but for the tally of its monitor.
+    /// stays the same but for the tally of its monitor, which is then that behind some first beats of it, or was not touched.
     pub fn check(&mut self, alloc: Global) -> Result<Stored<Tally, Rows>, AllocError>
         ensures pass { IfOk result (λ stored. IsWatchPassOf self.old (pass_of stored)) }
         ensures entry { IfOk result (λ stored. arc_value stored.entry ≡ self.old.entry) }
         ensures rest { SameButTally self.old self.new }
+        ensures left { LeavesTally self.old self.new.held.tally }
     {
         let beats = self.beats.gathered(alloc)?;
         let entry = Arc::try_clone(&self.entry)?;

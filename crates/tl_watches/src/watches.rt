@@ -3,7 +3,7 @@
 ghost use Rattle.std.specs.Prelude.{◌≡◌, ◌<◌, [], length, IfOk, IfSome, is_some, true};
 ghost use Rattle.std.specs.Bool.{Decides};
 ghost use Rattle.tl_inputs.specs.Inputs.{watch_at};
-ghost use Rattle.tl_pieces.specs.Pieces.{piece_at, IsBoard, IsSettled, IsFirstWanted};
+ghost use Rattle.tl_pieces.specs.Pieces.{piece_at, IsBoard, IsSettled, IsFirstWanted, HasTrueEntry};
 ghost use Rattle.tl_span.specs.States.{SameSpan};
 ghost use Rattle.tl_watches.specs.Tally.{SameTally};
 ghost use Rattle.tl_watches.specs.Watches.{AreWatches};
@@ -91,6 +91,7 @@ impl Watches {
         ensures first { IsFirstWanted SameTally self.old.board result }
         ensures there { IfSome result (λ key. is_some (piece_at key self.old.board) ≡ true) }
         ensures attached { IfSome result (λ key. is_some (watch_at key.owner (standing self.old.spans).monitors) ≡ true) }
+        ensures entry { IfSome result (HasTrueEntry SameTally self.old.board) }
         ensures same { self.new ≡ self.old }
     {
         let _ = &self.spans;

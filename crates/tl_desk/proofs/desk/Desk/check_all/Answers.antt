@@ -8,6 +8,7 @@ use Rattle.tl_watches.specs.Tally.{SameTally}
 use Rattle.tl_desk.specs.Core.{Core}
 use Rattle.tl_desk.specs.Steps.{RechecksSome}
 use Rattle.tl_desk.proofs.AttachedLemmas.{kept_none}
+use Rattle.tl_desk.proofs.TallyLemmas.{none_left}
 use Rattle.tl_desk.proofs.ReportLemmas.{sound_still}
 use Rattle.tl_span.specs.States.{SameSpan}
 use Rattle.tl_spans.specs.Spans.{SpansData}
@@ -22,6 +23,7 @@ returns-in_err-of_managers-clause-err g c =
       managers = c.in_err-of_managers.ensures.err;
       monitors = subst (λ (b : Board Tally (List Row)). ChecksSome SameTally old.windows.board b) (sym c.in_err-of_managers.ensures.rest) ([], (begun SameTally old.windows.board c.spans.ensures.board).checked);
       boxes = kept_none old.boxes;
+      left = none_left new.windows old.boxes;
       reports = refl;
       tickets = refl;
     } in

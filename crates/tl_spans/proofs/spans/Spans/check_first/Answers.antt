@@ -1,11 +1,11 @@
 use Rattle.std.proofs.Common.{◌≡◌, None, true, List, sym, subst}
-use Rattle.std.specs.Prelude.{is_some}
+use Rattle.std.specs.Prelude.{is_some, IfSome}
 use Rattle.tl_beats.specs.declared.Row.{Row}
 use Rattle.tl_pieces.specs.Marks.{pass_of}
-use Rattle.tl_pieces.specs.Pieces.{Board, IsFirstWanted, IsWanted, piece_at}
+use Rattle.tl_pieces.specs.Pieces.{Board, IsFirstWanted, IsWanted, HasTrueEntry, piece_at}
 use Rattle.tl_span.specs.States.{SameSpan}
 use Rattle.tl_span.specs.declared.state.SpanState.{SpanState}
-use Rattle.tl_spans.specs.Spans.{IsSound}
+use Rattle.tl_spans.specs.Spans.{SpansData, IsSound}
 use Rattle.tl_spans.proofs.CheckLemmas.{first_there, still_sound, checks}
 use Rattle.tl_spans.proofs.spans.Spans.check_first.Goals as goal
 
@@ -29,3 +29,8 @@ pub returns-clause-checked : goal.returns-clause-checked
 returns-clause-checked c =
     checks (record { log = c.self.inside.log; board = c.self.inside.pieces }) c.args.self.now c.first_wanted.new.self c.keep.new.pieces c.in-Some.key (pass_of c.in_ok-stored.stored)
     c.first_wanted.ensures.same c.self.view_is c.in_ok-stored.ensures.span c.in_ok-stored.ensures.entry c.keep.ensures
+
+pub returns-clause-entry : goal.returns-clause-entry
+returns-clause-entry c =
+    subst (λ (s : SpansData). HasTrueEntry SameSpan s.board c.in-Some.key) c.self.view_is
+    (subst (λ found. IfSome found (HasTrueEntry SameSpan c.self.inside.pieces)) c.in-Some.is c.first_wanted.ensures.entry)

@@ -10,7 +10,7 @@ use Rattle.tl_spans.proofs.spans.Spans.recheck_now.Goals as goal
 one : (c : goal.In_ok-check_first) → OneMore c.loop-alloc.invariant.keys c.args.self.now c.loop-alloc.self c.check_first.new.self
 one c =
     checks_one c.loop-alloc.invariant.keys c.args.self.now c.loop-alloc.self c.check_first.new.self c.in_ok-check_first.field-0 c.loop-alloc.invariant.way
-    (λ settled. let never : false ≡ true = sym c.loop-alloc-test.true ∙ c.settled.ensures.1 settled in cc) c.in_ok-check_first.ensures.first c.in_ok-check_first.ensures.checked
+    (λ settled. let never : false ≡ true = sym c.loop-alloc-test.true ∙ c.settled.ensures.1 settled in cc) c.in_ok-check_first.ensures.first c.in_ok-check_first.ensures.entry c.in_ok-check_first.ensures.checked
 
 -- not yet all are checked
 room : (c : goal.In_ok-check_first) → c.loop-alloc.count + 1 ≤ length c.args.self.now.board.pieces

@@ -131,8 +131,8 @@ module _ (start boxes after : BoxesData) (key : PieceKey) (keeps : KeepsBoxes st
     each = λ n was now at found. elim (same_number key.owner n) [
       | inl here ↦ subst (λ m. held_at m start.slots ≡ Some was → held_at m after.slots ≡ Some now → (now.tally ≡ was.tally) ⊎ ((window : ℕ) × IsAmidWindow new (key_of m window) was.watch now.tally)) here
           (λ at_here found_here. (
-              let held = held_before start boxes key.owner was keeps at_here in
-              inr (key.window, amid_here mid key new checked was.watch now.tally (subst (λ w. IsAmidWindow mid key w now.tally) held.2 (one.here held.0 now held.1 found_here))))) at found
+          let held = held_before start boxes key.owner was keeps at_here in
+          inr (key.window, amid_here mid key new checked was.watch now.tally (subst (λ w. IsAmidWindow mid key w now.tally) held.2 (one.here held.0 now held.1 found_here))))) at found
       | inr apart ↦ others_left (λ held. IsAmidWindow mid key held.watch) (amid_other mid key new checked) left one n was now at found apart
     ];
   }
@@ -155,8 +155,11 @@ module _ (start boxes after : BoxesData) (key : PieceKey) (keeps : KeepsBoxes st
           elim (one.here held.0 now held.1 found) [
             | inl untouched ↦ elim (left.each key.owner was held.0 at held.1) [
               | inl as_before ↦ inl (untouched ∙ as_before)
-              | inr amid ↦ inr (amid.0, carry (key_of key.owner amid.0) was.watch now.tally
-                  (subst (λ t. IsAmidWindow mid (key_of key.owner amid.0) was.watch t) (sym untouched) (subst (λ (d : WatchesData). IsAmidWindow d (key_of key.owner amid.0) was.watch held.0.tally) (sym same) amid.1)))
+              | inr amid ↦ inr (
+                amid.0,
+                carry (key_of key.owner amid.0) was.watch now.tally
+                    (subst (λ t. IsAmidWindow mid (key_of key.owner amid.0) was.watch t) (sym untouched) (subst (λ (d : WatchesData). IsAmidWindow d (key_of key.owner amid.0) was.watch held.0.tally) (sym same) amid.1)),
+              )
             ]
             | inr amid ↦ inr (key.window, carry key was.watch now.tally (subst (λ w. IsAmidWindow mid key w now.tally) held.2 amid))
           ]

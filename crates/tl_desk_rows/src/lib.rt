@@ -20,7 +20,11 @@ mod plays;
 #[cfg(test)]
 mod refusals;
 #[cfg(test)]
+mod refusals_of_windows;
+#[cfg(test)]
 mod reports;
+#[cfg(test)]
+mod retries;
 #[cfg(test)]
 mod rows;
 #[cfg(test)]

@@ -4,9 +4,10 @@ ghost use Rattle.std.specs.Prelude.{◌≡◌};
 ghost use Rattle.tl_hall.specs.Working.{Worked, nothing_done};
 
 use crate::bench::{TWO_WINDOWS, added, budget, close, hall_of, link};
+use crate::signals::SecondFirst;
 use std::alloc::Global;
 use std::sync::Wait;
-use std::sync::atomic::{AtomicBool, AtomicU64, Ordering};
+use std::sync::atomic::{AtomicU64, Ordering};
 use std::test::Fail;
 use std::thread::{Threads, join};
 use tl_beats::Watch;
@@ -14,51 +15,6 @@ use tl_desk::Desk;
 use tl_hall::{Gate, Hall, Pass, WorkCount, worker};
 use tl_inputs::Change;
 use tl_monitor::Budget;
-
-/// Stops its workers behind so many jobs. The job of the first ticket waits until that of the second was handed in.
-#[derive(Drop)]
-struct SecondFirst {
-    jobs: u64,
-    handed: AtomicU64,
-    second: AtomicBool,
-    late: AtomicBool,
-}
-
-impl SecondFirst {
-    fn new(jobs: u64) -> SecondFirst {
-        SecondFirst {
-            jobs,
-            handed: AtomicU64::new(0),
-            second: AtomicBool::new(false),
-            late: AtomicBool::new(false),
-        }
-    }
-}
-
-impl Gate for SecondFirst {
-    fn taken(&self, ticket: u64) {
-        if ticket != 1 {
-            return;
-        }
-        for _ in 0..1_000_000_000u64 {
-            if self.second.load(Ordering::SeqCst) {
-                return;
-            }
-        }
-        self.late.store(true, Ordering::SeqCst);
-    }
-
-    fn handed_in(&self, ticket: u64) {
-        if ticket == 2 {
-            self.second.store(true, Ordering::SeqCst);
-        }
-        self.handed.fetch_add(1, Ordering::SeqCst);
-    }
-
-    fn go_on(&self) -> bool {
-        self.handed.load(Ordering::SeqCst) < self.jobs
-    }
-}
 
 /// Stops its workers behind so many jobs.
 #[derive(Drop)]
@@ -117,7 +73,7 @@ fn two_workers_are_at_work_at_once(rt: HostRuntime) -> Result<(), Fail> {
     let (one, two) = hall.split(pass);
     let gate = SecondFirst::new(2);
     let (pass, first, second) = both(&rt, alloc, &hall, one, two, &gate);
-    assert!(rt; !gate.late.load(Ordering::SeqCst));
+    assert!(rt; !gate.is_late());
     assert!(rt; first.taken == 1 && second.taken == 1);
     assert!(rt; first.void == 0 && second.abandoned == 0);
     let (_, version) = hall.publish(&rt, alloc, pass);

@@ -1,0 +1,266 @@
+//! Has many threads call one hall at once: workers, two editors, a supervisor and a reader. Each report that was read must have exactly
+//! the rows that checking its edits from the beginning finds; where one hasn't, the status is 1. The words are how many rounds each
+//! editor goes, and how many workers there are; without words there are a few rounds, and what is told is the same each time.
+#![tactic(auto)]
+
+mod capture;
+mod course;
+mod editors;
+mod reader;
+mod seat;
+mod supervisor;
+mod workers;
+
+use crate::capture::{WINDOWS, topology};
+use crate::course::{Course, EDITORS, Totals};
+use crate::editors::{EDITS, Half, edit, fill};
+use crate::reader::{MOST_REPORTS, read};
+use crate::seat::Seat;
+use crate::supervisor::supervise;
+use crate::workers::{seats_beside, serve_all};
+use anyhow::{Result, bail};
+use std::alloc::{AllocError, Global};
+use std::env;
+use std::process::ExitCode;
+use std::sync::Wait;
+use std::thread::{Threads, join};
+use tl_desk::{Desk, Report};
+use tl_hall::Hall;
+use tl_inputs::Log;
+use tl_monitor::Budget;
+use tl_plain::audit;
+use tl_text::decimal;
+use tl_topology::Topo;
+
+/// Rounds without words.
+const FEW_ROUNDS: u32 = 8;
+
+/// The most rounds, since a log has at most 65,536 edits.
+const MOST_ROUNDS: u32 = 10_909;
+
+/// Workers without words.
+const WORKERS: u8 = 16;
+
+/// The most workers.
+const MOST_WORKERS: u8 = 64;
+
+/// The status where the words are none of these.
+const BAD_WORDS: u8 = 2;
+
+/// How many rounds each editor goes, and how many workers there are.
+#[derive(Clone, Copy)]
+struct Plan {
+    rounds: u32,
+    workers: u8,
+}
+
+impl Plan {
+    /// That of some words, the first of which is the program's own.
+    fn of(words: &[String]) -> Option<Plan> {
+        match words {
+            [_] => Some(Plan {
+                rounds: FEW_ROUNDS,
+                workers: WORKERS,
+            }),
+            [_, rounds, workers] => {
+                let rounds = decimal(rounds.as_bytes(), u64::from(MOST_ROUNDS))?;
+                let workers = decimal(workers.as_bytes(), u64::from(MOST_WORKERS))?;
+                Some(Plan {
+                    rounds: u32::try_from(rounds).ok()?,
+                    workers: u8::try_from(workers).ok()?,
+                })
+            }
+            _ => None,
+        }
+    }
+
+    /// How many edits there are in the end.
+    fn edits(self) -> u64 {
+        u64::from(WINDOWS) + EDITORS * EDITS * u64::from(self.rounds)
+    }
+
+    /// How many edits there are between two reports.
+    fn step(self) -> u64 {
+        self.edits() / MOST_REPORTS as u64
+    }
+}
+
+/// What came of a plan.
+struct Outcome {
+    edits: u64,
+    reports: usize,
+    wrong: u64,
+    totals: Totals,
+}
+
+/// Both editors at once.
+fn edit_all<R: Threads + Wait + Sync>(
+    rt: &R,
+    alloc: Global,
+    seat: Seat<'_>,
+    course: &Course,
+    rounds: u32,
+) {
+    let (one, two) = seat.split();
+    join(
+        rt,
+        || edit(rt, alloc, one, course, Half::Even, rounds),
+        || edit(rt, alloc, two, course, Half::Odd, rounds),
+    );
+}
+
+/// The reader and the editors at once: all that was read.
+fn edit_and_read<R: Threads + Wait + Sync>(
+    rt: &R,
+    alloc: Global,
+    seat: Seat<'_>,
+    course: &Course,
+    plan: Plan,
+) -> Vec<Report> {
+    let (one, two) = seat.split();
+    let step = plan.step();
+    let (reports, ()) = join(
+        rt,
+        || read(rt, alloc, one, course, step),
+        || edit_all(rt, alloc, two, course, plan.rounds),
+    );
+    reports
+}
+
+/// The supervisor beside them.
+fn supervised<R: Threads + Wait + Sync>(
+    rt: &R,
+    alloc: Global,
+    seat: Seat<'_>,
+    course: &Course,
+    plan: Plan,
+) -> Vec<Report> {
+    let (one, two) = seat.split();
+    let ((), reports) = join(
+        rt,
+        || supervise(rt, one, course),
+        || edit_and_read(rt, alloc, two, course, plan),
+    );
+    reports
+}
+
+/// All threads at once: all that was read.
+fn all_at_once<R: Threads + Wait + Sync>(
+    rt: &R,
+    alloc: Global,
+    seat: Seat<'_>,
+    course: &Course,
+    plan: Plan,
+) -> Vec<Report> {
+    let seat = fill(rt, alloc, seat);
+    let (seat, seats) = seats_beside(alloc, seat, plan.workers);
+    let ((), reports) = join(
+        rt,
+        || serve_all(rt, alloc, seats, course),
+        || supervised(rt, alloc, seat, course, plan),
+    );
+    reports
+}
+
+/// Whether a report has exactly the rows that checking its edits from the beginning finds.
+fn is_right(alloc: Global, log: &Log, report: &Report) -> Result<bool> {
+    let rows = audit(alloc, log, report.edit())?;
+    Ok(rows.as_slice() == report.rows())
+}
+
+/// How many reports haven't.
+fn count_wrong(alloc: Global, log: &Log, reports: &[Report]) -> Result<u64> {
+    let mut wrong = 0u64;
+    for report in reports {
+        if !is_right(alloc, log, report)? {
+            wrong = wrong.saturating_add(1);
+        }
+    }
+    Ok(wrong)
+}
+
+/// A copy of the report of all edits.
+fn last_report(alloc: Global, desk: &mut Desk<Budget>) -> Result<Report> {
+    desk.recheck_now(alloc)?;
+    desk.publish(alloc)?;
+    match desk.latest() {
+        Some(report) => Ok(report.copy()?),
+        None => bail!("no report"),
+    }
+}
+
+/// Has all threads call a hall as planned: the desk that it leaves, and all that was read.
+fn run<R: Threads + Wait + Sync>(
+    rt: &R,
+    alloc: Global,
+    topo: Topo,
+    course: &Course,
+    plan: Plan,
+) -> Result<(Desk<Budget>, Vec<Report>), AllocError> {
+    let (hall, pass) = Hall::new(alloc, topo)?;
+    let (pass, other) = hall.split(pass);
+    let reports = all_at_once(rt, alloc, Seat::new(&hall, other), course, plan);
+    let desk = hall.close(rt, pass);
+    Ok((desk, reports))
+}
+
+/// Compares all reports, that of all edits too.
+fn judge(
+    alloc: Global,
+    desk: Desk<Budget>,
+    reports: Vec<Report>,
+    totals: Totals,
+) -> Result<Outcome> {
+    let mut desk = desk;
+    let mut reports = reports;
+    let last = last_report(alloc, &mut desk)?;
+    reports.push(last)?;
+    let wrong = count_wrong(alloc, desk.log(), &reports)?;
+    Ok(Outcome {
+        edits: desk.log().len(),
+        reports: reports.len(),
+        wrong,
+        totals,
+    })
+}
+
+/// Does as planned.
+fn soak<R: Threads + Wait + Sync>(rt: &R, alloc: Global, plan: Plan) -> Result<Outcome> {
+    let Some(topo) = topology(alloc) else {
+        bail!("no topology");
+    };
+    let course = Course::new();
+    let (desk, reports) = run(rt, alloc, topo, &course, plan)?;
+    judge(alloc, desk, reports, course.totals())
+}
+
+fn main(rt: HostRuntime) -> Result<ExitCode> {
+    let words: Vec<String> = env::args(&rt)?.collect(rt.alloc())?;
+    let Some(plan) = Plan::of(&words) else {
+        eprintln!(&rt;
+            "the words are none, or ROUNDS WORKERS: at most {MOST_ROUNDS} and {MOST_WORKERS}"
+        )?;
+        return Ok(ExitCode::from(BAD_WORDS));
+    };
+    let Outcome {
+        edits,
+        reports,
+        wrong,
+        totals,
+    } = soak(&rt, rt.alloc(), plan)?;
+    println!(&rt; "edits {edits} of {}, wrong {wrong}", plan.edits())?;
+    if words.len() > 1 {
+        let Totals {
+            recalls,
+            taken,
+            void,
+        } = totals;
+        println!(&rt; "reports {reports}, windows {taken}, void {void}, called back {recalls}")?;
+    }
+    let is_right = wrong == 0 && edits == plan.edits();
+    Ok(if is_right {
+        ExitCode::SUCCESS
+    } else {
+        ExitCode::FAILURE
+    })
+}

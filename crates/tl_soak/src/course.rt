@@ -10,7 +10,7 @@ pub(crate) const EDITORS: u64 = 2;
 /// The windows of this number's multiples as tickets are lost until their tickets are called back.
 const LOST: u64 = 2_000;
 
-/// How often a thread looks whether the ticket of a lost window was called back, before it goes on.
+/// How often a thread looks for what it waits for before it goes on without.
 const MOST_LOOKS: u32 = 20_000;
 
 /// What was done on a course.
@@ -24,13 +24,15 @@ pub(crate) struct Totals {
     pub(crate) void: u64,
 }
 
-/// What all threads share beside the hall: how many editors have ended, and whether the reader has; how many windows are lost now;
-/// the last ticket that was called back, and how many were; how many windows were taken in, and how many were void.
+/// What all threads share beside the hall: how many editors have ended, and whether the reader has; how many windows are lost now,
+/// and how many were handed in; the last ticket that was called back, and how many were; how many windows were taken in, and how
+/// many were void.
 #[derive(Drop)]
 pub(crate) struct Course {
     edited: AtomicU64,
     read: AtomicBool,
     lost: AtomicU64,
+    handed: AtomicU64,
     last: AtomicU64,
     recalls: AtomicU64,
     taken: AtomicU64,
@@ -44,6 +46,7 @@ impl Course {
             edited: AtomicU64::new(0),
             read: AtomicBool::new(false),
             lost: AtomicU64::new(0),
+            handed: AtomicU64::new(0),
             last: AtomicU64::new(0),
             recalls: AtomicU64::new(0),
             taken: AtomicU64::new(0),
@@ -102,10 +105,16 @@ impl Course {
         }
     }
 
-    /// Waits until no window is lost, or it looked too often: an edit of a lost window would end its ticket too.
-    pub(crate) fn wait_for_lost(&self) {
+    /// How many windows were handed in.
+    pub(crate) fn handed(&self) -> u64 {
+        self.handed.load(Ordering::SeqCst)
+    }
+
+    /// Waits until more windows were handed in than these and none is lost, or it looked too often. So workers keep up with edits, and
+    /// a lost window stays as it is until its ticket is called back.
+    pub(crate) fn wait_for_work(&self, before: u64) {
         for _ in 0..MOST_LOOKS {
-            if self.lost.load(Ordering::SeqCst) == 0 {
+            if self.handed() > before && self.lost.load(Ordering::SeqCst) == 0 {
                 return;
             }
             yield_now();
@@ -122,7 +131,9 @@ impl Gate for Course {
         }
     }
 
-    fn handed_in(&self, _ticket: u64) {}
+    fn handed_in(&self, _ticket: u64) {
+        self.handed.fetch_add(1, Ordering::SeqCst);
+    }
 
     fn go_on(&self) -> bool {
         yield_now();

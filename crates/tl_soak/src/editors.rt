@@ -65,7 +65,7 @@ fn edit_once<'a, R: Wait>(
     submit(rt, alloc, seat, adds)
 }
 
-/// Goes so many rounds of edits, each while no window is lost.
+/// Goes so many rounds of edits, and has workers check windows behind each.
 pub(crate) fn edit<R: Wait>(
     rt: &R,
     alloc: Global,
@@ -76,8 +76,9 @@ pub(crate) fn edit<R: Wait>(
 ) {
     let mut seat = seat;
     for round in 0..rounds {
-        course.wait_for_lost();
+        let handed = course.handed();
         seat = edit_once(rt, alloc, seat, half.window(round), round);
+        course.wait_for_work(handed);
     }
     course.end_editor();
 }

@@ -1,6 +1,6 @@
 //! Windows that don't come back in time, or not to the hall that gave them.
 
-ghost use Rattle.std.specs.Prelude.{◌≡◌};
+ghost use Rattle.std.specs.Prelude.{◌≡◌, IfOk};
 
 use crate::bench::{
     Fate, MISALIGNED_GET, Trip, abandon, added, check_one, finish, hall_of, is_of_misaligned_get,
@@ -200,11 +200,19 @@ fn a_window_that_was_called_back_can_be_abandoned(rt: HostRuntime) -> Result<(),
     Ok(())
 }
 
+/// A hall with the misaligned Get.
+fn hall_with_get<R: Wait>(rt: &R, alloc: Global) -> Result<(Hall<Budget>, Pass<Budget>), Fail>
+    ensures { IfOk result (λ r. r.1.hall ≡ r.0.hall) }
+{
+    let (hall, pass) = hall_of(alloc)?;
+    let (pass, _) = hall.submit(rt, alloc, pass, added(alloc, MISALIGNED_GET)?);
+    Ok((hall, pass))
+}
+
 #[test]
 fn an_abandoned_window_goes_out_again(rt: HostRuntime) -> Result<(), Fail> {
     let alloc = rt.alloc();
-    let (hall, pass) = hall_of(alloc)?;
-    let (pass, _) = hall.submit(&rt, alloc, pass, added(alloc, MISALIGNED_GET)?);
+    let (hall, pass) = hall_with_get(&rt, alloc)?;
     let (pass, job) = take(&rt, alloc, &hall, pass);
     let (pass, trip) = abandon(&rt, &hall, pass, job.ok_or("a window")?);
     assert!(rt; Some(trip) == late_trip(Fate::Abandoned));
@@ -220,9 +228,8 @@ fn an_abandoned_window_goes_out_again(rt: HostRuntime) -> Result<(), Fail> {
 #[test]
 fn a_window_of_another_hall_is_not_taken(rt: HostRuntime) -> Result<(), Fail> {
     let alloc = rt.alloc();
-    let (hall, pass) = hall_of(alloc)?;
+    let (hall, pass) = hall_with_get(&rt, alloc)?;
     let (other, stranger) = hall_of(alloc)?;
-    let (pass, _) = hall.submit(&rt, alloc, pass, added(alloc, MISALIGNED_GET)?);
     let (pass, job) = take(&rt, alloc, &hall, pass);
     let (_, trip) = finish(&rt, alloc, &other, stranger, job.ok_or("a window")?);
     assert!(rt; Some(trip) == late_trip(Fate::Forfeited));

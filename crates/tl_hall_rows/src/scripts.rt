@@ -12,7 +12,7 @@ use tl_text::CountedWriter;
 use tl_workers::run_with;
 
 /// How many rounds a script goes.
-const ROUNDS: u32 = 12;
+const ROUNDS: u32 = 40;
 
 /// How many workers a script is run with.
 const WORKERS: [u8; 4] = [0, 1, 2, 16];

@@ -3,12 +3,13 @@
 ghost use Rattle.std.specs.Prelude.{◌≡◌, ◌<◌, All, true};
 
 use crate::shift::Shift;
+use crate::windows::check_wanted;
 use std::alloc::Global;
 use std::collections::VecDeque;
 use std::sync::Wait;
 use std::thread::yield_now;
 use tl_beats::{Row, Watch};
-use tl_desk::{Done, HandIn, Job, Piece, PublishFault, is_watch, work};
+use tl_desk::{PublishFault, is_watch};
 use tl_hall::{Gate, Hall, Pass};
 use tl_inputs::{Change, EditFault};
 use tl_monitor::Monitor;
@@ -34,12 +35,25 @@ fn line_of(alloc: Global, answer: Result<u64, EditFault>) -> Result<String, Comm
     }
 }
 
+/// The manager whose beats an edit brings.
+fn manager_of(topo: &Topo, change: &Change) -> Option<u16> {
+    match change {
+        Change::Add(fragment) | Change::Replace(fragment) => {
+            let number = topo.link_of(&fragment.link())?;
+            Some(topo.link(number)?.manager)
+        }
+        _ => None,
+    }
+}
+
 /// The line of an edit that brings no monitor.
-fn change<R: Wait, M: Monitor>(
+fn change<R: Wait, M: Monitor, G: Gate>(
     rt: &R,
     alloc: Global,
     hall: &Hall<M>,
+    topo: &Topo,
     crew: Crew<M>,
+    shift: &Shift<'_, '_, G>,
     change: Change,
 ) -> (Crew<M>, Result<String, CommandFault>)
     requires { crew.pass.hall ≡ hall.now.hall }
@@ -50,7 +64,11 @@ fn change<R: Wait, M: Monitor>(
         boxes,
         last_rows,
     } = crew;
+    let manager = manager_of(topo, &change);
     let (pass, answer) = hall.submit(rt, alloc, pass, change);
+    if answer.is_ok() {
+        shift.edited(manager);
+    }
     let crew = Crew {
         pass,
         boxes,
@@ -126,166 +144,13 @@ fn attach<R: Wait, M: Monitor>(
     }
 }
 
-/// What came of a look for a window.
-enum Found {
-    NoWindow,
-    Checked(Piece),
-    NoMemory,
-}
-
-/// How many windows may be checked again in a row of windows, because a guess was wrong, before the workers rest.
-const MOST_AGAIN: u32 = 2;
-
-/// The windows that one thread checks, in a row. They come in the order of a report's windows but for those that are checked again.
-#[derive(Drop)]
-struct Stretch {
-    last: Option<Piece>,
-    again: u32,
-}
-
-impl Stretch {
-    fn new() -> Stretch {
-        Stretch {
-            last: None,
-            again: 0,
-        }
-    }
-
-    /// Notes one more window, and answers whether too many are checked again.
-    fn is_in_doubt(&mut self, piece: Piece) -> bool {
-        if self.last.is_some_and(|last| is_not_behind(piece, last)) {
-            self.again = self.again.saturating_add(1);
-        }
-        self.last = Some(piece);
-        self.again > MOST_AGAIN
-    }
-}
-
-/// Whether a window is another one or comes before it.
-fn is_not_behind(piece: Piece, other: Piece) -> bool {
-    match (piece, other) {
-        (Piece::Manager(one, first), Piece::Manager(two, second)) => {
-            one < two || one == two && first <= second
-        }
-        (Piece::Monitor(one, first), Piece::Monitor(two, second)) => {
-            one < two || one == two && first <= second
-        }
-        (Piece::Manager(_, _), Piece::Monitor(_, _)) => true,
-        (Piece::Monitor(_, _), Piece::Manager(_, _)) => false,
-    }
-}
-
-/// Hands a window in that was checked.
-fn finish<R: Wait, M: Monitor, G: Gate>(
-    rt: &R,
-    hall: &Hall<M>,
-    pass: Pass<M>,
-    gate: &G,
-    done: Done<M>,
-) -> Pass<M>
-    requires { pass.hall ≡ hall.now.hall }
-    ensures { result.hall ≡ pass.hall }
-{
-    let ticket = done.ticket();
-    let (pass, answer) = hall.hand_in(rt, pass, done);
-    gate.handed_in(ticket);
-    match answer {
-        HandIn::Taken => pass,
-        HandIn::Void => pass,
-        HandIn::Stranger(done) => {
-            done.forfeit();
-            pass
-        }
-    }
-}
-
-/// Checks a window, and hands it in or gives it up.
-fn check<R: Wait, M: Monitor, G: Gate>(
-    rt: &R,
-    alloc: Global,
-    hall: &Hall<M>,
-    pass: Pass<M>,
-    gate: &G,
-    job: Job<M>,
-) -> (Pass<M>, Found)
-    requires { pass.hall ≡ hall.now.hall }
-    ensures { result.0.hall ≡ pass.hall }
-{
-    gate.taken(job.ticket());
-    let piece = job.piece();
-    match work(alloc, job) {
-        Ok(done) => {
-            let pass = finish(rt, hall, pass, gate, done);
-            (pass, Found::Checked(piece))
-        }
-        Err(job) => {
-            let (pass, answer) = hall.abandon(rt, pass, job);
-            match answer {
-                Ok(()) => (pass, Found::NoMemory),
-                Err(job) => {
-                    job.forfeit();
-                    (pass, Found::NoMemory)
-                }
-            }
-        }
-    }
-}
-
-/// Checks the first window that is to be checked, if there is one.
-fn check_one<R: Wait, M: Monitor, G: Gate>(
-    rt: &R,
-    alloc: Global,
-    hall: &Hall<M>,
-    pass: Pass<M>,
-    gate: &G,
-) -> (Pass<M>, Found)
-    requires { pass.hall ≡ hall.now.hall }
-    ensures { result.0.hall ≡ pass.hall }
-{
-    let (pass, found) = hall.take(rt, alloc, pass);
-    match found {
-        Ok(Some(job)) => check(rt, alloc, hall, pass, gate, job),
-        Ok(None) => (pass, Found::NoWindow),
-        Err(_) => (pass, Found::NoMemory),
-    }
-}
-
-/// Checks windows until there is none to be taken: whether memory sufficed. Where guesses are wrong the workers rest.
-fn check_wanted<R: Wait, M: Monitor, G: Gate>(
-    rt: &R,
-    alloc: Global,
-    hall: &Hall<M>,
-    pass: Pass<M>,
-    shift: &Shift<'_, G>,
-) -> (Pass<M>, bool)
-    requires { pass.hall ≡ hall.now.hall }
-    ensures { result.0.hall ≡ pass.hall }
-{
-    let mut pass = pass;
-    let mut stretch = Stretch::new();
-    for _ in rt.forever() {
-        let (next, found) = check_one(rt, alloc, hall, pass, shift);
-        pass = next;
-        match found {
-            Found::Checked(piece) => {
-                if stretch.is_in_doubt(piece) {
-                    shift.give_up();
-                }
-            }
-            Found::NoWindow => return (pass, true),
-            Found::NoMemory => return (pass, false),
-        }
-    }
-    unreachable!()
-}
-
 /// Publishes once all windows are settled, with the workers' help.
 fn published<R: Wait, M: Monitor, G: Gate>(
     rt: &R,
     alloc: Global,
     hall: &Hall<M>,
     pass: Pass<M>,
-    shift: &Shift<'_, G>,
+    shift: &Shift<'_, '_, G>,
 ) -> (Pass<M>, Result<u64, PublishFault>)
     requires { pass.hall ≡ hall.now.hall }
     ensures { result.0.hall ≡ pass.hall }
@@ -369,7 +234,7 @@ fn publish<R: Wait, M: Monitor, G: Gate>(
     hall: &Hall<M>,
     topo: &Topo,
     crew: Crew<M>,
-    shift: &Shift<'_, G>,
+    shift: &Shift<'_, '_, G>,
 ) -> (Crew<M>, Result<String, CommandFault>)
     requires { crew.pass.hall ≡ hall.now.hall }
     ensures { result.0.pass.hall ≡ crew.pass.hall }
@@ -404,14 +269,14 @@ pub(crate) fn lines_of<R: Wait, M: Monitor, G: Gate>(
     hall: &Hall<M>,
     topo: &Topo,
     crew: Crew<M>,
-    shift: &Shift<'_, G>,
+    shift: &Shift<'_, '_, G>,
     asked: Asked,
 ) -> (Crew<M>, Result<String, CommandFault>)
     requires { crew.pass.hall ≡ hall.now.hall }
     ensures { result.0.pass.hall ≡ crew.pass.hall }
 {
     match asked {
-        Asked::Change(edit) => change(rt, alloc, hall, crew, edit),
+        Asked::Change(edit) => change(rt, alloc, hall, topo, crew, shift, edit),
         Asked::Attach(number, watch) => attach(rt, alloc, hall, crew, number, watch),
         Asked::NoFragment(fault) => {
             let line = refusal_line(alloc, fault.code(), fault.number());

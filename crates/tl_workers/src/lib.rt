@@ -5,5 +5,7 @@ mod crew;
 mod run;
 mod seat;
 mod shift;
+mod texts;
+mod windows;
 
 pub use run::{run_gated, run_with};

@@ -8,13 +8,16 @@ ghost use Rattle.tl_script.specs.Text.{IsCommand};
 use crate::crew::{Crew, lines_of};
 use crate::seat::{seats_beside, serve_all};
 use crate::shift::Shift;
+use crate::texts::FragmentTexts;
 use std::alloc::{AllocError, Global};
 use std::collections::VecDeque;
 use std::sync::Wait;
 use std::thread::{Threads, join};
 use tl_hall::{Gate, Hall, Pass};
 use tl_monitor::Monitor;
-use tl_run::{LineFault, Outcome, Stop, StopCause, asked_by, put_lines, run_script, write_end};
+use tl_run::{
+    Asked, LineFault, Outcome, Stop, StopCause, asked_by, put_lines, run_script, write_end,
+};
 use tl_script::{Command, read_command};
 use tl_text::{ByteOut, WriteFault};
 use tl_topology::Topo;
@@ -27,6 +30,23 @@ fn stopped(last_rows: u64, cause: StopCause, command: u64) -> Outcome {
     }
 }
 
+/// What a command asks for, before which so many bytes of the script are left. AllocError where memory is refused.
+fn asked_ahead<R: Wait, G: Gate>(
+    rt: &R,
+    alloc: Global,
+    shift: &Shift<'_, '_, G>,
+    left: usize,
+    command: &Command<'_>,
+) -> Result<Asked, AllocError>
+    requires { IsCommand command.now }
+{
+    shift.came_to_command();
+    match shift.texts.asked(rt, alloc, left, command) {
+        Some(asked) => Ok(asked),
+        None => asked_by(alloc, command),
+    }
+}
+
 /// The lines of one command, put behind those that are gathered. Memory and WrongBox write nothing.
 fn run_command<R: Wait, M: Monitor, G: Gate, O: ByteOut>(
     rt: &R,
@@ -34,7 +54,8 @@ fn run_command<R: Wait, M: Monitor, G: Gate, O: ByteOut>(
     hall: &Hall<M>,
     topo: &Topo,
     crew: Crew<M>,
-    shift: &Shift<'_, G>,
+    shift: &Shift<'_, '_, G>,
+    left: usize,
     command: &Command<'_>,
     out: &mut O,
     gathered: &mut String,
@@ -47,9 +68,8 @@ fn run_command<R: Wait, M: Monitor, G: Gate, O: ByteOut>(
     ensures memory { IsErrOf result.1 LineFault.Memory → out.new ≡ out.old }
     ensures lacks { IsErrOf result.1 LineFault.WrongBox → out.new ≡ out.old }
 {
-    let asked = match asked_by(alloc, command) {
-        Ok(asked) => asked,
-        Err(_) => return (crew, Err(LineFault::Memory)),
+    let Ok(asked) = asked_ahead(rt, alloc, shift, left, command) else {
+        return (crew, Err(LineFault::Memory));
     };
     let (crew, lines) = lines_of(rt, alloc, hall, topo, crew, shift, asked);
     match lines {
@@ -68,7 +88,7 @@ fn run_commands<R: Wait, M: Monitor, G: Gate, O: ByteOut>(
     hall: &Hall<M>,
     topo: &Topo,
     crew: Crew<M>,
-    shift: &Shift<'_, G>,
+    shift: &Shift<'_, '_, G>,
     script: &[u8],
     out: &mut O,
     gathered: &mut String,
@@ -90,7 +110,18 @@ fn run_commands<R: Wait, M: Monitor, G: Gate, O: ByteOut>(
             let stop = None;
             return (crew, Ok(Outcome { last_rows, stop }));
         };
-        let (next, told) = run_command(rt, alloc, hall, topo, crew, shift, &command, out, gathered);
+        let (next, told) = run_command(
+            rt,
+            alloc,
+            hall,
+            topo,
+            crew,
+            shift,
+            rest.len(),
+            &command,
+            out,
+            gathered,
+        );
         crew = next;
         match told {
             Ok(()) => rest = &rest[taken..],
@@ -115,7 +146,7 @@ fn run_whole<R: Wait, M: Monitor, G: Gate, O: ByteOut>(
     hall: &Hall<M>,
     topo: &Topo,
     crew: Crew<M>,
-    shift: &Shift<'_, G>,
+    shift: &Shift<'_, '_, G>,
     script: &[u8],
     out: &mut O,
 ) -> (Pass<M>, Result<Outcome, WriteFault>)
@@ -182,7 +213,7 @@ fn run_beside<R: Threads + Wait + Sync, M: Monitor + Send, G: Gate, O: ByteOut>(
     requires out { O.failure_count out.old < 2 ^ 63 }
     ensures { result.0.hall ≡ crew.pass.hall }
 {
-    let shift = Shift::new(gate);
+    let shift = Shift::new(FragmentTexts::new(alloc, script), gate);
     let Crew {
         pass,
         boxes,
@@ -259,9 +290,9 @@ impl Gate for NoGate {
     }
 }
 
-/// Runs a script as `run_script` does, and writes the same lines, while so many workers, 0 to 16, check windows in threads of their
-/// own at each publish. With 0 workers it is `run_script`. A worker whose thread can't be started is left out. It waits for other
-/// threads.
+/// Runs a script as `run_script` does, and writes the same lines, while so many workers, 0 to 16, read fragments ahead of their
+/// commands and check windows in threads of their own. With 0 workers it is `run_script`. A worker whose thread can't be started is
+/// left out. It waits for other threads.
 pub fn run_with<R: Threads + Wait + Sync, M: Monitor + Send, O: ByteOut>(
     rt: &R,
     alloc: Global,

@@ -2,7 +2,8 @@
 
 ghost use Rattle.std.specs.Prelude.{◌≡◌};
 
-use crate::shift::Shift;
+use crate::shift::{Call, Shift};
+use crate::windows::work_ahead;
 use std::alloc::Global;
 use std::sync::Wait;
 use std::thread::{Threads, scope, scope_env};
@@ -18,21 +19,49 @@ pub(crate) struct Seat<'a, M: Monitor> {
 }
 
 impl<'a, M: Monitor> Seat<'a, M> {
-    /// Works for as long as the shift is open.
-    fn work<R: Wait, G: Gate>(self, rt: &R, alloc: Global, shift: &Shift<'_, G>) -> Seat<'a, M> {
+    /// Checks windows for as long as the script's thread publishes.
+    fn work<R: Wait, G: Gate>(
+        self,
+        rt: &R,
+        alloc: Global,
+        shift: &Shift<'_, '_, G>,
+    ) -> Seat<'a, M> {
         let Seat { hall, pass, .. } = self;
         let (pass, _) = worker(rt, alloc, hall, pass, shift);
         Seat { hall, pass }
     }
 
-    /// Works each time that the shift is open, until it is over.
-    fn serve<R: Wait, G: Gate>(self, rt: &R, alloc: Global, shift: &Shift<'_, G>) {
+    /// Reads fragments and checks windows ahead.
+    fn work_ahead<R: Wait, G: Gate>(
+        self,
+        rt: &R,
+        alloc: Global,
+        shift: &Shift<'_, '_, G>,
+        is_first: bool,
+    ) -> Seat<'a, M> {
+        let Seat { hall, pass, .. } = self;
+        let pass = work_ahead(rt, alloc, hall, pass, shift, is_first);
+        Seat { hall, pass }
+    }
+
+    /// Comes to each call, until the script has ended.
+    fn serve<R: Wait, G: Gate>(
+        self,
+        rt: &R,
+        alloc: Global,
+        shift: &Shift<'_, '_, G>,
+        is_first: bool,
+    ) {
         let mut seat = self;
+        let mut served = 0;
         for _ in rt.forever() {
-            if !shift.begins(rt) {
-                return;
-            }
-            seat = seat.work(rt, alloc, shift);
+            let (call, number) = shift.next_call(rt, served);
+            served = number;
+            seat = match call {
+                Call::Ahead => seat.work_ahead(rt, alloc, shift, is_first),
+                Call::Publish => seat.work(rt, alloc, shift),
+                Call::Over => return,
+            };
         }
         unreachable!()
     }
@@ -43,11 +72,13 @@ pub(crate) fn serve_all<R: Threads + Wait + Sync, M: Monitor + Send, G: Gate>(
     rt: &R,
     alloc: Global,
     seats: Vec<Seat<'_, M>>,
-    shift: &Shift<'_, G>,
+    shift: &Shift<'_, '_, G>,
 ) {
     scope(scope_env(), rt, |threads| {
+        let mut is_first = true;
         for seat in seats {
-            let _ = threads.spawn(move || seat.serve(rt, alloc, shift));
+            let _ = threads.spawn(move || seat.serve(rt, alloc, shift, is_first));
+            is_first = false;
         }
     });
 }

@@ -1,5 +1,5 @@
 use Rattle.std.proofs.Common.{◌≡◌}
-use Rattle.tl_workers.proofs.crew.check_wanted.Given as goal
+use Rattle.tl_workers.proofs.windows.check_wanted.Given as goal
 
 -- the pass stays one of the hall
 abbrev pub invariant-loop : goal.invariant-loop

@@ -56,7 +56,8 @@ fn writer_with(alloc: Global, room: usize, full: Full) -> Narrow {
     }
 }
 
-const ONE_LINK: &str = "topo 1\nmanager m0 64\nlink dma0 m0 ul 8 3 2\nend\n";
+/// One manager with one link.
+pub(crate) const ONE_LINK: &str = "topo 1\nmanager m0 64\nlink dma0 m0 ul 8 3 2\nend\n";
 
 /// A reply without its request.
 const REPLY: &str = "fragment dma0 2 20 29\n20 D 1 0 3 0 0 0 0\nend\n";

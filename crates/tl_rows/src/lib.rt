@@ -12,8 +12,6 @@ mod fragments;
 #[cfg(test)]
 mod permissions;
 #[cfg(test)]
-mod program;
-#[cfg(test)]
 mod regions;
 #[cfg(test)]
 mod streams;

@@ -5,9 +5,9 @@ use std::io;
 use std::io::{Read, Write};
 use std::test::Fail;
 use tl_beats::{ByteIn, ByteOut, FragmentFault, read_fragment};
-use tl_cli::{TextFault, read_text};
 use tl_text::{
-    CountedReader, CountedWriter, bit, decimal, hexadecimal, is_name, line, word, write_all,
+    CountedReader, CountedWriter, TextFault, bit, decimal, hexadecimal, is_name, line, read_text,
+    word, write_all,
 };
 
 /// Gives some bytes and then fails.

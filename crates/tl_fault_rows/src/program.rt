@@ -1,6 +1,6 @@
 //! The program without its process.
 
-use crate::topologies::ONE_MANAGER;
+use crate::writes::ONE_LINK;
 use std::alloc::Global;
 use std::test::Fail;
 use tl_cli::{Fault, run_words};
@@ -9,7 +9,7 @@ use tl_text::{CountedReader, CountedWriter};
 #[test]
 fn a_misaligned_get_on_input(rt: HostRuntime) -> Result<(), Fail> {
     let text = format!(in rt.alloc();
-        "{ONE_MANAGER}add 48\nfragment dma0 1 0 99999\n10 A 4 0 3 0 4 ff 0\nend\npublish\n"
+        "{ONE_LINK}add 48\nfragment dma0 1 0 99999\n10 A 4 0 3 0 4 ff 0\nend\npublish\n"
     )?;
     let mut written = Vec::new(rt.alloc());
     let mut told = Vec::new(rt.alloc());

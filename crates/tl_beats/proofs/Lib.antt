@@ -1,9 +1,13 @@
+pub mod BeatLines
 pub mod BeatTexts
 pub mod FragmentTexts
+pub mod FrontLines
+pub mod Fronts
 pub mod Growing
 pub mod Lacking
 pub mod Lines
 pub mod OneAnswer
 pub mod PartsTexts
 pub mod TextParts
+pub mod WordDigits
 pub mod Whole

@@ -4,6 +4,9 @@
 mod beat_line;
 mod fault;
 mod fragment;
+mod front_line;
+mod front_number;
+mod front_words;
 mod laws;
 mod places;
 mod reading;

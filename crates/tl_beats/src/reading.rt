@@ -14,6 +14,7 @@ use crate::Beat;
 use crate::beat_line::beat_of;
 use crate::fault::FragmentFault;
 use crate::fragment::Fragment;
+use crate::front_line::beat_front;
 use crate::places::placed;
 use std::alloc::Global;
 use tl_text::{ByteIn, decimal, line, read_text, word};
@@ -104,6 +105,12 @@ fn beats_of(
     let mut rest = bytes;
     let mut number = 2u32;
     loop {
+        if let Some((beat, after)) = beat_front(rest) {
+            beats.push(placed(number, first, last, &beats, beat)?)?;
+            rest = after;
+            number += 1;
+            continue;
+        }
         let Some((next, after)) = line(rest) else {
             return Err(FragmentFault::Truncated(number));
         };

@@ -14,3 +14,5 @@ pub mod RisingLaws
 pub mod RuleLaws
 pub mod PassLaws
 pub mod WatchLaws
+pub mod LinkLaws
+pub mod EventLaws

@@ -80,7 +80,7 @@ permission_from = (omega arith, (omega arith, (omega arith, (omega arith, (omega
 manager_from : AreFrom (rule_number rule.M1) manager_order
 manager_from = (omega arith, (omega arith, (omega arith, tt)))
 
-four_rise : (f s p m : Rule → Bool) → IsStrictlySortedBy by_number (filter f format_order ++ filter s flow_order ++ filter p permission_order ++ filter m manager_order)
+pub four_rise : (f s p m : Rule → Bool) → IsStrictlySortedBy by_number (filter f format_order ++ filter s flow_order ++ filter p permission_order ++ filter m manager_order)
 four_rise f s p m =
     let formats = filter f format_order in
     let flows = filter s flow_order in
@@ -106,7 +106,7 @@ head_rises m before p (Some o) =
     four_rise (breaks_format m.exponent m.regions (m.links p.link) o p.beat) (breaks_flow (pasts p.link).flow message) (breaks_permission (m.links p.link).strict m.exponent (pasts p.link).client message)
     (breaks_manager m.clients m.exponent (λ client. (pasts client).client) p.link message)
 
-later_rises : (decl : LinkDecl) (beat head : Beat) (found : Option Op) → IsStrictlySortedBy by_number (option_map_or (λ o. filter (breaks_later decl o head beat) later_order) found [])
+pub later_rises : (decl : LinkDecl) (beat head : Beat) (found : Option Op) → IsStrictlySortedBy by_number (option_map_or (λ o. filter (breaks_later decl o head beat) later_order) found [])
 unfolding IsStrictlySortedBy
 later_rises decl beat head None = tt
 later_rises decl beat head (Some o) = IsStrictlySortedBy-filter by_number (breaks_later decl o head beat) later_order ((refl, (refl, tt)), ((refl, tt), (tt, tt)))

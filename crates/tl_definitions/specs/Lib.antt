@@ -17,3 +17,5 @@ pub mod Tallies
 pub mod Managers
 pub mod WatchedRows
 pub mod Captures
+pub mod LinkPasses
+pub mod Events

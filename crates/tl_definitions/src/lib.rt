@@ -5,6 +5,7 @@
 pub mod coherence;
 pub mod judging;
 pub mod laws;
+pub mod links;
 pub mod positions;
 pub mod report;
 pub mod rows;

@@ -4,3 +4,4 @@ pub mod StateLaws
 pub mod StepLaws
 pub mod JobLaws
 pub mod JoinLaws
+pub mod WalkedLaws

@@ -7,8 +7,10 @@ mod links;
 mod rows;
 mod sorted;
 mod state;
+mod walked;
 
 pub use job::{SpanJob, SpanResult, span_check};
 pub use sorted::sort_rows;
 pub use state::SpanState;
 pub use tl_beats::{Placed, Row};
+pub use walked::walk_check;

@@ -13,3 +13,7 @@ pub mod SomeLemmas
 pub mod TouchLemmas
 pub mod PartLemmas
 pub mod MatchLemmas
+pub mod TurnLemmas
+pub mod CursorLemmas
+pub mod StackLemmas
+pub mod SpanLemmas

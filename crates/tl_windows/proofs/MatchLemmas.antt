@@ -294,7 +294,7 @@ module _ {X : Type 0} (R : X → X → Ordering) (total : IsTotalOrder R) where
 -- ---- one order
 
 -- Beats in strict order have places of their own.
-apart_by_place : (xs : List Placed) → IsStrictlySortedBy position_order xs → AreApart xs
+pub apart_by_place : (xs : List Placed) → IsStrictlySortedBy position_order xs → AreApart xs
 unfolding IsStrictlySortedBy
 apart_by_place [] s p = omega arith
 apart_by_place (x ∷ xs) s p =

@@ -5,3 +5,6 @@ pub mod Ranges
 pub mod Shares
 pub mod Touch
 pub mod Parts
+pub mod Rising
+pub mod Cursors
+pub mod Waiting

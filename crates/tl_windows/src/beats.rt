@@ -7,6 +7,7 @@ ghost use Rattle.std.specs.Ordering.{nat_cmp};
 ghost use Rattle.tl_definitions.specs.Positions.{beats_of, beats_of_all};
 ghost use Rattle.tl_windows.specs.Windows.{beats_in, beats_within, AreBeatsOf, AreWindows, HasBeat};
 
+use crate::merged::Merged;
 use crate::order::{in_order, sort_once};
 use crate::present::Present;
 use crate::span::span_of;
@@ -95,6 +96,36 @@ impl Present {
             self.ranges.push_windows(*link, &mut windows)?;
         }
         Ok(sort_once(windows))
+    }
+
+    /// A walk over the beats of these links, whose numbers rise, in the order of positions, as they lie in the fragments.
+    /// AllocError where memory is refused.
+    pub fn walk<'a>(&'a self, alloc: Global, links: &[u16]) -> Result<Merged<'a>, AllocError>
+        requires { IsStrictlySortedBy nat_cmp links.now }
+        ensures exact { IfOk result (λ walk. walk ≡ beats_of_all links.now self.now) }
+        ensures kept { IfOk result (λ walk. AreBeatsOf links.now walk) }
+    {
+        let _ = &self.ranges;
+        self.merge(alloc, 0, u64::MAX, links)
+    }
+
+    /// The same of a span.
+    fn merge<'a>(
+        &'a self,
+        alloc: Global,
+        from: u64,
+        to: u64,
+        links: &[u16],
+    ) -> Result<Merged<'a>, AllocError>
+        requires order { from ≤ to }
+        requires links { IsStrictlySortedBy nat_cmp links.now }
+        ensures { IfOk result (λ walk. walk ≡ beats_within from to (beats_of_all links.now self.now)) }
+    {
+        let mut cursors = Vec::new(alloc);
+        for link in links {
+            self.ranges.push_cursors(from, to, *link, &mut cursors)?;
+        }
+        Ok(Merged::of(cursors))
     }
 
     /// The beats of a span of these links, whose numbers rise.

@@ -1,12 +1,15 @@
 //! The beats of one fragment in a span of cycles.
 
-ghost use Rattle.std.specs.Prelude.{◌≡◌, ◌≤◌, ◌++◌, OnOk, length, true, false};
+ghost use Rattle.std.specs.Prelude.{◌≡◌, ◌≤◌, ◌++◌, [], OnOk, MatchOption, length, true, false};
 ghost use Rattle.std.specs.List.{AllWithin, list_any};
 ghost use Rattle.tl_definitions.specs.Positions.{placed_beats};
+ghost use Rattle.tl_windows.specs.Cursors.{beats_left};
+ghost use Rattle.tl_windows.specs.Ranges.{span_beats};
 ghost use Rattle.tl_windows.specs.Present.{recorded};
 ghost use Rattle.tl_windows.specs.Spans.{holds};
 ghost use Rattle.tl_windows.specs.Windows.{beats_within};
 
+use crate::cursor::Cursor;
 use std::alloc::AllocError;
 use tl_beats::{Fragment, Placed};
 
@@ -57,4 +60,24 @@ pub(crate) fn push_beats(
         })?;
     }
     Ok(())
+}
+
+/// What a fragment on this link has in a span; None where that is nothing.
+pub(crate) fn cursor_in<'a>(
+    link: u16,
+    fragment: &'a Fragment,
+    from: u64,
+    to: u64,
+) -> Option<Cursor<'a>>
+    requires { from ≤ to }
+    ensures { MatchOption result (span_beats from to (recorded link fragment.now) ≡ []) (λ c. beats_left c ≡ span_beats from to (recorded link fragment.now)) }
+{
+    let (start, end) = bounds(fragment, from, to);
+    let beats = fragment.beats();
+    Cursor::new(
+        link,
+        fragment.number(),
+        start as u32 + 2,
+        &beats[start..end],
+    )
 }

@@ -2,18 +2,22 @@
 #![tactic(auto)]
 
 mod beats;
+mod cursor;
 mod cut;
 mod edits;
 pub mod laws;
 mod matching;
+mod merged;
 mod order;
 mod present;
 mod ranges;
 mod shares;
 mod span;
+mod waiting;
 mod walks;
 mod window_beats;
 
+pub use merged::Merged;
 pub use present::Present;
 pub use shares::windows_of;
 pub use span::window_of;

@@ -5,15 +5,17 @@ ghost use Rattle.std.specs.Arc.{arc_value};
 ghost use Rattle.std.specs.List.{AllByRecursion, find};
 ghost use Rattle.std.specs.Option.{option_map};
 ghost use Rattle.tl_definitions.specs.Positions.{all_placed};
+ghost use Rattle.tl_windows.specs.Cursors.{all_left};
 ghost use Rattle.tl_windows.specs.Parts.{spanned};
 ghost use Rattle.tl_windows.specs.Present.{recorded, of_link, overlapped, put_in, shares};
 ghost use Rattle.tl_windows.specs.Ranges.{has_some, ends_at, without_end};
 ghost use Rattle.tl_windows.specs.Shares.{windows_of_all};
 ghost use Rattle.tl_windows.specs.Windows.{beats_within};
 
+use crate::cursor::Cursor;
 use crate::walks::{
-    Part, all_of_link, any_in_span, first_number, lowest_other, push_all_windows, push_parts,
-    push_span, span_count, span_less,
+    Part, all_of_link, any_in_span, first_number, lowest_other, push_all_windows, push_cursors,
+    push_parts, push_span, span_count, span_less,
 };
 use std::alloc::{AllocError, Global};
 use std::collections::BTreeMap;
@@ -160,6 +162,20 @@ impl Ranges {
         ensures { OnOk result (spanned arc_value from to parts.new.items ≡ spanned arc_value from to parts.old.items ++ beats_within from to (all_placed (of_link link self.now))) }
     {
         push_parts(&self.ends, from, to, link, parts)
+    }
+
+    /// Puts what the fragments of a link have in a span behind others. AllocError where memory is refused.
+    pub(crate) fn push_cursors<'a>(
+        &'a self,
+        from: u64,
+        to: u64,
+        link: u16,
+        cursors: &mut Vec<Cursor<'a>>,
+    ) -> Result<(), AllocError>
+        requires { from ≤ to }
+        ensures { OnOk result (all_left cursors.new.items ≡ all_left cursors.old.items ++ beats_within from to (all_placed (of_link link self.now))) }
+    {
+        push_cursors(&self.ends, from, to, link, cursors)
     }
 
     /// What is left of a count after the beats of a span of a link; None where they are more.

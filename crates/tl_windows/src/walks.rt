@@ -3,11 +3,13 @@
 ghost use Rattle.std.specs.Prelude.{◌≡◌, ◌≤◌, ◌<◌, ◌+◌, ◌++◌, Some, IfOk, OnOk, MatchOption, length, map, min, slice_get};
 ghost use Rattle.std.specs.Arc.{arc_value};
 ghost use Rattle.std.specs.Option.{option_map, option_map_or};
+ghost use Rattle.tl_windows.specs.Cursors.{all_left};
 ghost use Rattle.tl_windows.specs.Parts.{spanned};
 ghost use Rattle.tl_windows.specs.Present.{recorded, least};
 ghost use Rattle.tl_windows.specs.Ranges.{has_some, from_key, walked, span_beats, own_windows, itself, other_number, nowhere, begins_after};
 
-use crate::cut::{bounds, has_some, push_beats};
+use crate::cursor::Cursor;
+use crate::cut::{bounds, cursor_in, has_some, push_beats};
 use crate::shares::push_windows;
 use std::alloc::{AllocError, Global};
 use std::collections::BTreeMap;
@@ -98,6 +100,32 @@ pub(crate) fn push_parts(
         }
         if has_some(fragment, from, to) {
             parts.push((link, fragment.clone()?))?;
+        }
+    }
+    Ok(())
+}
+
+/// Puts what the fragments of a link have in a span behind others.
+pub(crate) fn push_cursors<'a>(
+    ends: &'a Ends,
+    from: u64,
+    to: u64,
+    link: u16,
+    cursors: &mut Vec<Cursor<'a>>,
+) -> Result<(), AllocError>
+    requires { from ≤ to }
+    ensures { OnOk result (all_left cursors.new.items ≡ all_left cursors.old.items ++ walked arc_value (span_beats from to) (begins_after to) link (from_key arc_value link from ends.now.entries)) }
+{
+    for ((of, _), fragment) in ends.range((link, from)..) {
+        if *of != link {
+            return Ok(());
+        }
+        if to < fragment.first() {
+            return Ok(());
+        }
+        match cursor_in(link, fragment, from, to) {
+            Some(cursor) => cursors.push(cursor)?,
+            None => continue,
         }
     }
     Ok(())

@@ -5,11 +5,14 @@ ghost use Rattle.std.specs.Arc.{arc_value};
 ghost use Rattle.std.specs.List.Sorted.{IsStrictlySortedBy};
 ghost use Rattle.std.specs.Ordering.{nat_cmp};
 ghost use Rattle.tl_definitions.specs.Positions.{beats_of_all};
+ghost use Rattle.tl_windows.specs.Cursors.{all_left};
 ghost use Rattle.tl_windows.specs.Parts.{spanned};
 ghost use Rattle.tl_windows.specs.Spans.{IsSpan};
 ghost use Rattle.tl_windows.specs.Windows.{window_of, beats_in, beats_within, AreBeatsOf};
 
-use crate::cut::{bounds, push_beats};
+use crate::cursor::Cursor;
+use crate::cut::{bounds, cursor_in, push_beats};
+use crate::merged::Merged;
 use crate::order::in_order;
 use crate::present::Present;
 use crate::span::{WIDTH, span_of};
@@ -69,6 +72,34 @@ impl WindowBeats {
         let sorted = in_order(beats)?;
         Ok(sorted)
     }
+
+    /// A walk over the beats in the order of positions, as they lie in the fragments. AllocError where memory is refused.
+    pub fn walk(&self, alloc: Global) -> Result<Merged<'_>, AllocError>
+        ensures { IfOk result (λ walk. walk ≡ self.now) }
+    {
+        let cursors = cursors_in(alloc, self.from, self.to, &self.parts)?;
+        Ok(Merged::of(cursors))
+    }
+}
+
+/// What each of these fragments has in a span. AllocError where memory is refused.
+fn cursors_in<'a>(
+    alloc: Global,
+    from: u64,
+    to: u64,
+    parts: &'a [Part],
+) -> Result<Vec<Cursor<'a>>, AllocError>
+    requires { from ≤ to }
+    ensures { IfOk result (λ cursors. all_left cursors.items ≡ spanned arc_value from to parts.now) }
+{
+    let mut cursors = Vec::new(alloc);
+    for (link, fragment) in parts {
+        match cursor_in(*link, fragment, from, to) {
+            Some(cursor) => cursors.push(cursor)?,
+            None => continue,
+        }
+    }
+    Ok(cursors)
 }
 
 /// The beats of a span of these fragments, one behind the other.

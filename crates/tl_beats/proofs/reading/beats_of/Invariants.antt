@@ -4,13 +4,13 @@ use Rattle.tl_beats.specs.Fragments.{AreBeats}
 use Rattle.tl_beats.specs.Reading.{beats_from}
 use Rattle.tl_beats.proofs.reading.beats_of.Given as goal
 
-abbrev pub invariant-loop-next : goal.invariant-loop-next
-invariant-loop-next l = record {
+abbrev pub invariant-loop-beat : goal.invariant-loop-beat
+invariant-loop-beat l = record {
   read : beats_from l.first l.last l.number l.beats.items (lines_of l.rest) ≡ beats_from l.first l.last 2 [] (lines_of l.bytes);
   counted : l.number ≡ length l.beats.items + 2;
   kept : AreBeats l.first l.last l.beats.items;
   behind : IsBehind l.bytes l.rest;
 }
 
-abbrev pub decreases-loop-next : goal.decreases-loop-next
-decreases-loop-next l = length l.rest
+abbrev pub decreases-loop-beat : goal.decreases-loop-beat
+decreases-loop-beat l = length l.rest

@@ -1,0 +1,12 @@
+use Rattle.std.proofs.Common.{◌≡◌, ◌≤◌, ◌++◌, length}
+use Rattle.tl_text.specs.Numbers.{numeral}
+use Rattle.tl_beats.proofs.front_number.hexadecimal_front.Given as goal
+
+abbrev pub invariant-loop-rest : goal.invariant-loop-rest
+invariant-loop-rest l = record {
+  spelled : l.text ≡ numeral 16 l.value ++ l.rest;
+  some : 1 ≤ l.value;
+}
+
+abbrev pub decreases-loop-rest : goal.decreases-loop-rest
+decreases-loop-rest l = length l.rest

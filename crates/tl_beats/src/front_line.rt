@@ -1,0 +1,232 @@
+//! One beat line at the front of a text.
+
+ghost use Rattle.std.specs.Prelude.{◌≡◌, ◌≤◌, [], ◌∷◌, ◌++◌, Some, IfSome};
+ghost use Rattle.tl_text.specs.Words.{◌␣◌};
+ghost use Rattle.tl_text.specs.Names.{bit};
+ghost use Rattle.tl_text.specs.Numbers.{numeral};
+ghost use Rattle.tl_tables.specs.declared.Chan.TheVariants.{A, C, D, E};
+ghost use Rattle.tl_beats.specs.Beats.{IsWellFormed, HasMask};
+ghost use Rattle.tl_beats.specs.Text.{chan_text, fields_text, beat_text};
+ghost use Rattle.tl_beats.specs.Fronts.{beat_line_at};
+
+use crate::Beat;
+use crate::front_number::{decimal_digit, decimal_front, hexadecimal_front};
+use crate::front_words::long_decimal_front;
+use tl_tables::Chan;
+
+const LAST_CODE: u8 = 7;
+
+const LAST_SOURCE: u64 = 65_535;
+
+/// What a beat of channels A to D begins with.
+#[derive(Clone, Copy)]
+struct Opening {
+    opcode: u8,
+    param: u8,
+    size: u8,
+    source: u16,
+}
+
+/// A code of 0 to 7.
+#[inline(always)]
+fn code(byte: u8) -> Option<u8>
+    ensures low { IfSome result (λ d. d ≤ 7) }
+    ensures spelled { IfSome result (λ d. numeral 10 d ≡ byte ∷ []) }
+{
+    let digit = decimal_digit(byte)?;
+    if digit <= LAST_CODE {
+        Some(digit)
+    } else {
+        None
+    }
+}
+
+/// A source or a sink, and what stands behind the stop.
+#[inline(always)]
+fn number_front(words: &[u8], stop: u8) -> Option<(u16, &[u8])>
+    ensures { IfSome result (λ x. words.now ≡ numeral 10 x.0 ++ stop ∷ x.1.now) }
+{
+    let (number, words) = decimal_front(words, stop)?;
+    if number <= LAST_SOURCE {
+        Some((number as u16, words))
+    } else {
+        None
+    }
+}
+
+/// A bit, and what stands behind the stop.
+#[inline(always)]
+fn bit_front(words: &[u8], stop: u8) -> Option<(bool, &[u8])>
+    ensures { IfSome result (λ x. words.now ≡ bit x.0 ++ stop ∷ x.1.now) }
+{
+    match words {
+        [b'0', end, rest @ ..] if *end == stop => Some((false, rest)),
+        [b'1', end, rest @ ..] if *end == stop => Some((true, rest)),
+        _ => None,
+    }
+}
+
+/// Opcode, param and size, a digit each, and the source; and the words behind them.
+#[inline(always)]
+fn opening_front(words: &[u8]) -> Option<(Opening, &[u8])>
+    ensures opcode { IfSome result (λ x. x.0.opcode ≤ 7) }
+    ensures param { IfSome result (λ x. x.0.param ≤ 7) }
+    ensures size { IfSome result (λ x. x.0.size ≤ 15) }
+    ensures spelled { IfSome result (λ x. words.now ≡ numeral 10 x.0.opcode ␣ numeral 10 x.0.param ␣ numeral 10 x.0.size ␣ numeral 10 x.0.source ␣ x.1.now) }
+{
+    let [opcode, b' ', param, b' ', size, b' ', words @ ..] = words else {
+        return None;
+    };
+    let opcode = code(*opcode)?;
+    let param = code(*param)?;
+    let size = decimal_digit(*size)?;
+    let (source, words) = number_front(words, b' ')?;
+    let opening = Opening {
+        opcode,
+        param,
+        size,
+        source,
+    };
+    Some((opening, words))
+}
+
+/// The beat of channel A or B that the words behind the channel spell, and what stands behind their newline.
+#[inline(always)]
+fn access_front(chan: Chan, cycle: u64, words: &[u8]) -> Option<(Beat, &[u8])>
+    requires { HasMask chan }
+    ensures formed { IfSome result (λ x. IsWellFormed x.0) }
+    ensures chan { IfSome result (λ x. x.0.chan ≡ chan) }
+    ensures cycle { IfSome result (λ x. x.0.cycle ≡ cycle) }
+    ensures spelled { IfSome result (λ x. words.now ≡ fields_text A x.0 ++ 10 ∷ x.1.now) }
+{
+    let (opening, words) = opening_front(words)?;
+    let (address, words) = hexadecimal_front(words)?;
+    let (mask, words) = hexadecimal_front(words)?;
+    let (corrupt, rest) = bit_front(words, b'\n')?;
+    let beat = Beat {
+        cycle,
+        chan,
+        opcode: opening.opcode,
+        param: opening.param,
+        size: opening.size,
+        source: opening.source,
+        sink: 0,
+        address,
+        mask,
+        denied: false,
+        corrupt,
+    };
+    Some((beat, rest))
+}
+
+/// The beat of channel C that the words behind the channel spell, and what stands behind their newline.
+#[inline(always)]
+fn release_front(cycle: u64, words: &[u8]) -> Option<(Beat, &[u8])>
+    ensures formed { IfSome result (λ x. IsWellFormed x.0) }
+    ensures chan { IfSome result (λ x. x.0.chan ≡ C) }
+    ensures cycle { IfSome result (λ x. x.0.cycle ≡ cycle) }
+    ensures spelled { IfSome result (λ x. words.now ≡ fields_text C x.0 ++ 10 ∷ x.1.now) }
+{
+    let (opening, words) = opening_front(words)?;
+    let (address, words) = hexadecimal_front(words)?;
+    let (corrupt, rest) = bit_front(words, b'\n')?;
+    let beat = Beat {
+        cycle,
+        chan: Chan::C,
+        opcode: opening.opcode,
+        param: opening.param,
+        size: opening.size,
+        source: opening.source,
+        sink: 0,
+        address,
+        mask: 0,
+        denied: false,
+        corrupt,
+    };
+    Some((beat, rest))
+}
+
+/// The beat of channel D that the words behind the channel spell, and what stands behind their newline.
+#[inline(always)]
+fn reply_front(cycle: u64, words: &[u8]) -> Option<(Beat, &[u8])>
+    ensures formed { IfSome result (λ x. IsWellFormed x.0) }
+    ensures chan { IfSome result (λ x. x.0.chan ≡ D) }
+    ensures cycle { IfSome result (λ x. x.0.cycle ≡ cycle) }
+    ensures spelled { IfSome result (λ x. words.now ≡ fields_text D x.0 ++ 10 ∷ x.1.now) }
+{
+    let (opening, words) = opening_front(words)?;
+    let (sink, words) = number_front(words, b' ')?;
+    let (denied, words) = bit_front(words, b' ')?;
+    let (corrupt, rest) = bit_front(words, b'\n')?;
+    let beat = Beat {
+        cycle,
+        chan: Chan::D,
+        opcode: opening.opcode,
+        param: opening.param,
+        size: opening.size,
+        source: opening.source,
+        sink,
+        address: 0,
+        mask: 0,
+        denied,
+        corrupt,
+    };
+    Some((beat, rest))
+}
+
+/// The beat of channel E that the word behind the channel spells, and what stands behind its newline.
+#[inline(always)]
+fn grant_ack_front(cycle: u64, words: &[u8]) -> Option<(Beat, &[u8])>
+    ensures formed { IfSome result (λ x. IsWellFormed x.0) }
+    ensures chan { IfSome result (λ x. x.0.chan ≡ E) }
+    ensures cycle { IfSome result (λ x. x.0.cycle ≡ cycle) }
+    ensures spelled { IfSome result (λ x. words.now ≡ fields_text E x.0 ++ 10 ∷ x.1.now) }
+{
+    let (sink, rest) = number_front(words, b'\n')?;
+    let beat = Beat {
+        cycle,
+        chan: Chan::E,
+        opcode: 0,
+        param: 0,
+        size: 0,
+        source: 0,
+        sink,
+        address: 0,
+        mask: 0,
+        denied: false,
+        corrupt: false,
+    };
+    Some((beat, rest))
+}
+
+/// The beat that the words behind this channel's letter spell, and what stands behind their newline.
+#[inline(always)]
+fn fields_front(name: u8, cycle: u64, words: &[u8]) -> Option<(Beat, &[u8])>
+    ensures formed { IfSome result (λ x. IsWellFormed x.0) }
+    ensures name { IfSome result (λ x. chan_text x.0.chan ≡ name ∷ []) }
+    ensures cycle { IfSome result (λ x. x.0.cycle ≡ cycle) }
+    ensures spelled { IfSome result (λ x. words.now ≡ fields_text x.0.chan x.0 ++ 10 ∷ x.1.now) }
+{
+    match name {
+        b'A' => access_front(Chan::A, cycle, words),
+        b'B' => access_front(Chan::B, cycle, words),
+        b'C' => release_front(cycle, words),
+        b'D' => reply_front(cycle, words),
+        b'E' => grant_ack_front(cycle, words),
+        _ => None,
+    }
+}
+
+/// The beat that the first line of a text spells, and what stands behind the line; None for a line that is passed on.
+#[inline(always)]
+pub(crate) fn beat_front(text: &[u8]) -> Option<(Beat, &[u8])>
+    ensures formed { IfSome result (λ x. IsWellFormed x.0) }
+    ensures spelled { IfSome result (λ x. text.now ≡ beat_text x.0 ++ 10 ∷ x.1.now) }
+    ensures read { IfSome result (λ x. beat_line_at text.now ≡ Some (x.0, x.1.now)) }
+{
+    let (cycle, words) = long_decimal_front(text, b' ')?;
+    let [name, b' ', words @ ..] = words else {
+        return None;
+    };
+    fields_front(*name, cycle, words)
+}

@@ -1,0 +1,108 @@
+//! Numbers at the front of a text, each read in one pass up to the byte that ends it.
+
+ghost use Rattle.std.specs.Prelude.{◌≡◌, ◌≤◌, ◌<◌, ◌^◌, ◌∷◌, ◌++◌, [], IfSome};
+ghost use Rattle.tl_text.specs.Numbers.{numeral};
+
+/// Where a number is this or more, one more digit might not fit.
+const LAST_ROOM: u64 = 1 << 60;
+
+/// The value of a decimal digit.
+#[tactic(auto, using(crate::proofs::Fronts::decimal_glyph))]
+#[inline(always)]
+pub(crate) fn decimal_digit(byte: u8) -> Option<u8>
+    ensures low { IfSome result (λ d. d ≤ 9) }
+    ensures spelled { IfSome result (λ d. numeral 10 d ≡ byte ∷ []) }
+{
+    let digit = byte.wrapping_sub(b'0');
+    if digit <= 9 { Some(digit) } else { None }
+}
+
+/// The value of a hexadecimal digit.
+#[tactic(auto, using(crate::proofs::Fronts::decimal_glyph, crate::proofs::Fronts::letter_glyph))]
+#[inline(always)]
+fn hexadecimal_digit(byte: u8) -> Option<u8>
+    ensures low { IfSome result (λ d. d ≤ 15) }
+    ensures spelled { IfSome result (λ d. numeral 16 d ≡ byte ∷ []) }
+{
+    let decimal = byte.wrapping_sub(b'0');
+    let letter = byte.wrapping_sub(b'a');
+    if decimal <= 9 {
+        Some(decimal)
+    } else if letter <= 5 {
+        Some(letter + 10)
+    } else {
+        None
+    }
+}
+
+/// What stands behind the stop, where the text begins with it.
+#[inline(always)]
+fn behind(text: &[u8], stop: u8) -> Option<&[u8]>
+    ensures { IfSome result (λ rest. text.now ≡ stop ∷ rest.now) }
+{
+    match text {
+        [first, rest @ ..] if *first == stop => Some(rest),
+        _ => None,
+    }
+}
+
+/// The decimal number at the front and what stands behind the stop that ends it; None for some numbers of 60 bits and
+/// more, and where none is spelled.
+#[inline(always)]
+pub(crate) fn decimal_front(text: &[u8], stop: u8) -> Option<(u64, &[u8])>
+    ensures { IfSome result (λ x. text.now ≡ numeral 10 x.0 ++ stop ∷ x.1.now) }
+{
+    let [first, rest @ ..] = text else {
+        return None;
+    };
+    let mut value = u64::from(decimal_digit(*first)?);
+    if value == 0 {
+        return Some((0, behind(rest, stop)?));
+    }
+    let mut rest = rest;
+    while let [byte, after @ ..] = rest {
+        let Some(digit) = decimal_digit(*byte) else {
+            return if *byte == stop {
+                Some((value, after))
+            } else {
+                None
+            };
+        };
+        if value >= LAST_ROOM {
+            return None;
+        }
+        value = value * 10 + u64::from(digit);
+        rest = after;
+    }
+    None
+}
+
+/// The hexadecimal number at the front and what stands behind the space that ends it; None where none is spelled.
+#[inline(always)]
+pub(crate) fn hexadecimal_front(text: &[u8]) -> Option<(u64, &[u8])>
+    ensures { IfSome result (λ x. text.now ≡ numeral 16 x.0 ++ 32 ∷ x.1.now) }
+{
+    let [first, rest @ ..] = text else {
+        return None;
+    };
+    let mut value = u64::from(hexadecimal_digit(*first)?);
+    if value == 0 {
+        return Some((0, behind(rest, b' ')?));
+    }
+    let mut rest = rest;
+    while let [byte, after @ ..] = rest {
+        let Some(digit) = hexadecimal_digit(*byte) else {
+            return if *byte == b' ' {
+                Some((value, after))
+            } else {
+                None
+            };
+        };
+        if value >= LAST_ROOM {
+            return None;
+        }
+        value = value * 16 + u64::from(digit);
+        rest = after;
+    }
+    None
+}

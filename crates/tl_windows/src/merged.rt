@@ -1,0 +1,84 @@
+//! A walk over the beats of several fragments.
+
+ghost use Rattle.std.specs.Prelude.{◌≡◌, ◌≤◌, ◌++◌, OnOk, OnErr};
+ghost use Rattle.std.specs.Iterator.{YieldsFirst, item_count};
+ghost use Rattle.std.specs.List.Sorted.{IsStrictlySortedBy};
+ghost use Rattle.tl_definitions.specs.Positions.{position_order, in_order};
+ghost use Rattle.tl_windows.specs.Present.{recorded};
+ghost use Rattle.tl_windows.specs.Ranges.{span_beats};
+ghost use Rattle.tl_windows.specs.Waiting.{in_turn};
+
+use crate::cursor::Cursor;
+use crate::cut::cursor_in;
+use crate::waiting::{go_on, put_far, stacked};
+use std::alloc::AllocError;
+use std::marker::Model;
+use tl_beats::{Fragment, Placed};
+
+/// What is left of the beats of several fragments, in the order of positions: none is copied before it is next.
+#[derive(Drop)]
+pub struct Merged<'a> {
+    // What is left of each fragment, the one whose next beat is least on top.
+    cursors: Vec<Cursor<'a>>,
+}
+
+impl<'a> Model for Merged<'a> {
+    ghost use Rattle.std.specs.Prelude.{List};
+    ghost use Rattle.tl_beats.specs.declared.Placed.{Placed};
+    ghost use Rattle.tl_windows.specs.Waiting.{in_turn, AreReady};
+
+    ghost Value = { List Placed };
+
+    ghost view = { λ m. in_turn m.cursors.items };
+
+    ghost invariant = { λ m. AreReady m.cursors.items };
+}
+
+impl<'a> Merged<'a> {
+    /// The beats of these cursors. Each has a position of its own.
+    pub(crate) fn of(cursors: Vec<Cursor<'a>>) -> Merged<'a>
+        requires { IsStrictlySortedBy position_order (in_turn cursors.items) }
+        ensures { result ≡ in_turn cursors.entry.items }
+    {
+        Merged {
+            cursors: stacked(cursors),
+        }
+    }
+
+    /// Puts the beats of a span of one more fragment on this link among those that are left. Each has a position of its own
+    /// then. AllocError where memory is refused: then nothing has changed.
+    pub fn add(
+        &mut self,
+        link: u16,
+        fragment: &'a Fragment,
+        from: u64,
+        to: u64,
+    ) -> Result<(), AllocError>
+        requires span { from ≤ to }
+        requires apart { IsStrictlySortedBy position_order (in_order (self.old ++ span_beats from to (recorded link fragment.now))) }
+        ensures ok { OnOk result (self.new ≡ in_order (self.old ++ span_beats from to (recorded link fragment.now))) }
+        ensures err { OnErr result (self.new ≡ self.old) }
+    {
+        let Some(cursor) = cursor_in(link, fragment, from, to) else {
+            let _ = &self.cursors;
+            return Ok(());
+        };
+        self.cursors.reserve(1)?;
+        put_far(&mut self.cursors, cursor);
+        Ok(())
+    }
+}
+
+impl<'a> Iterator for Merged<'a> {
+    type Item = Placed;
+
+    ghost next_gives = { YieldsFirst (λ m. m) };
+
+    ghost remaining = { item_count (λ m. m) };
+
+    fn next(&mut self) -> Option<Placed> {
+        let top = *self.cursors.last()?;
+        go_on(&mut self.cursors, top);
+        Some(top.here())
+    }
+}

@@ -10,7 +10,7 @@ use tl_tables::{Chan, Op, carries_data};
 use tl_topology::LinkDecl;
 
 /// The lanes that a message of `2^size` bytes at the address uses on a link of this width, as a mask.
-fn active_lanes(width: u8, size: u8, address: u64) -> u64
+pub fn active_lanes(width: u8, size: u8, address: u64) -> u64
     requires some_lane { 1 ≤ width }
     requires lanes { width ≤ 64 }
     requires size { size ≤ 15 }

@@ -3,11 +3,11 @@
 ghost use Rattle.std.specs.Prelude.{◌≡◌, ◌<◌, ◌≤◌, IfOk, length, string_bytes};
 ghost use Rattle.tl_beats.specs.Beats.{IsWellFormed};
 ghost use Rattle.tl_topology.specs.Topology.{IsSound};
-ghost use Rattle.tl_definitions.specs.Rules.{active_lanes};
 ghost use Rattle.tl_show.specs.Lines.{most_line_of, block_line_of, within_line_of, mask_line_of, source_line_of, head_of, is_partial, lanes_line_of, own_field_of, field_of, differs_line_of, block_at, expected_line_of, link_at, IsSoundTold};
 
 use std::alloc::{AllocError, Global};
 use tl_beats::Beat;
+use tl_format_rules::active_lanes;
 use tl_reasons::{Reason, Told};
 use tl_tables::{Chan, Op, Rule, op_of};
 use tl_topology::{LinkDecl, Topo};
@@ -169,24 +169,5 @@ pub(crate) fn expected_line(alloc: Global, topo: &Topo, told: &Told) -> Result<S
         Rule::F9 => source_line(alloc, decl.sources),
         Rule::U1 => differs_line(alloc, &head, &told.place.beat),
         _ => Ok(String::new(alloc)),
-    }
-}
-
-/// The lanes that a message of `2^size` bytes at the address uses on a link of this width, as a mask.
-fn active_lanes(width: u8, size: u8, address: u64) -> u64
-    requires some_lane { 1 ≤ width }
-    requires lanes { width ≤ 64 }
-    requires size { size ≤ 15 }
-    ensures { result ≡ active_lanes width size address }
-{
-    let bytes: u64 = 1 << size;
-    if bytes >= u64::from(width) {
-        if width == 64 {
-            u64::MAX
-        } else {
-            (1 << width) - 1
-        }
-    } else {
-        ((1 << bytes) - 1) << (address % u64::from(width) / bytes * bytes)
     }
 }

@@ -3,7 +3,6 @@
 ghost use Rattle.std.specs.Prelude.{◌≡◌, ◌<◌, ◌≤◌, ◌++◌, find, IfOk, OnOk, length, string_bytes};
 ghost use Rattle.std.specs.List.{All, flat_map};
 ghost use Rattle.std.specs.Option.{option_copied};
-ghost use Rattle.tl_tables.specs.Rules.{rule_number};
 ghost use Rattle.tl_report.specs.Output.{row_text, head_text, audit_head};
 ghost use Rattle.tl_show.specs.Lines.{IsSoundTold};
 ghost use Rattle.tl_show.specs.Shown.{same_monitor, is_of_beat, is_of_rule, is_row, lines_for, shown_row, rest_line_of, checked_text_of, asked_text_of, given_text_of, counts_line_of, shown_count, shown_rows, shown_bytes, IsShown};
@@ -14,52 +13,12 @@ use std::alloc::{AllocError, Global};
 use tl_beats::Row;
 use tl_reasons::Told;
 use tl_report::{Report, audit_head, head_text, row_text};
-use tl_tables::Rule;
+use tl_tables::rule_number;
 use tl_topology::Topo;
 use tl_windows::Present;
 
 /// How many rows are shown at most.
 const MOST_SHOWN: usize = 1_000;
-
-/// The number of a rule.
-fn rule_number(rule: Rule) -> u8
-    ensures { result ≡ rule_number rule }
-{
-    match rule {
-        Rule::F1 => 1,
-        Rule::F2 => 2,
-        Rule::F3 => 3,
-        Rule::F4 => 4,
-        Rule::F5 => 5,
-        Rule::F6 => 6,
-        Rule::F7 => 7,
-        Rule::F8 => 8,
-        Rule::F9 => 9,
-        Rule::F10 => 10,
-        Rule::U1 => 11,
-        Rule::S1 => 12,
-        Rule::S2 => 13,
-        Rule::S3 => 14,
-        Rule::S4 => 15,
-        Rule::S5 => 16,
-        Rule::S6 => 17,
-        Rule::S7 => 18,
-        Rule::S8 => 19,
-        Rule::S9 => 20,
-        Rule::P1 => 21,
-        Rule::P2 => 22,
-        Rule::P3 => 23,
-        Rule::P4 => 24,
-        Rule::P5 => 25,
-        Rule::P6 => 26,
-        Rule::P7 => 27,
-        Rule::P8 => 28,
-        Rule::M1 => 29,
-        Rule::M2 => 30,
-        Rule::M3 => 31,
-        Rule::X1 => 32,
-    }
-}
 
 /// Whether both are no monitor's, or the same one's.
 fn same_monitor(one: Option<u32>, other: Option<u32>) -> bool

@@ -14,6 +14,7 @@ pub use kinds::{
     is_acquire, is_grant, is_grant_ack, is_of_block, is_probe, is_probe_ack, is_release,
     is_release_ack,
 };
+pub use order::rule_number;
 
 /// A channel of a link. A, C and E run from client to manager, B and D from manager to client. Within one cycle the
 /// beats of a link stand in the order A to E. [TileLink 1.8: the five channels; their order in a cycle: own profile]

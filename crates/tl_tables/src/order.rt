@@ -11,7 +11,7 @@ use crate::{Chan, Rule, chan_index};
 use std::cmp::Ordering;
 
 /// The place of a rule among the rules, from 1: the order of the rows of one beat.
-fn rule_number(rule: Rule) -> u8
+pub fn rule_number(rule: Rule) -> u8
     ensures { result ≡ rule_number rule }
 {
     rule as u8 + 1

@@ -1,6 +1,6 @@
 //! The checks of windows, and the rows of all.
 
-ghost use Rattle.std.specs.Prelude.{◌≡◌, ◌<◌, ◌⊎◌, IfOk, IfSome, OnOk, OnErr, Some, is_some, length, true};
+ghost use Rattle.std.specs.Prelude.{◌≡◌, ◌<◌, ◌⊎◌, IfOk, OnOk, OnErr, Some, is_some, length, true};
 ghost use Rattle.std.specs.Arc.{arc_value};
 ghost use Rattle.std.specs.List.{All};
 ghost use Rattle.std.specs.List.Sorted.{IsStrictlySortedBy};
@@ -9,10 +9,10 @@ ghost use Rattle.tl_definitions.specs.Report.{IsReport};
 ghost use Rattle.tl_definitions.specs.Tallies.{AreOfOneLink};
 ghost use Rattle.tl_inputs.specs.Inputs.{watch_at};
 ghost use Rattle.tl_pieces.specs.Marks.{pass_of};
-ghost use Rattle.tl_pieces.specs.Pieces.{piece_at, entry_for, IsSettled, IsFirstWanted, HasTrueEntry};
+ghost use Rattle.tl_pieces.specs.Pieces.{piece_at, entry_for, IsSettled};
 ghost use Rattle.tl_plain.specs.Captured.{captures_after, watched_beats};
 ghost use Rattle.tl_span.specs.States.{SameSpan};
-ghost use Rattle.tl_spans.specs.Spans.{standing, ChecksFirst};
+ghost use Rattle.tl_spans.specs.Spans.{standing};
 ghost use Rattle.tl_watches.specs.Tally.{SameTally};
 ghost use Rattle.tl_windows.specs.Windows.{beats_in};
 ghost use Rattle.tl_watches.specs.Watches.{IsOfWatch, IsAmidWindow, ChecksWatch};
@@ -49,21 +49,6 @@ fn watched(
 }
 
 impl Watches {
-    /// Checks the first window of a manager that is wanted, from what the windows of its manager before it leave, and answers
-    /// which it was; its ticket ends. None where none is wanted, and then nothing has changed. AllocError where memory is refused:
-    /// then nothing has changed.
-    pub fn check_span(&mut self, alloc: Global) -> Result<Option<PieceKey>, AllocError>
-        ensures first { IfOk result (IsFirstWanted SameSpan self.old.spans.board) }
-        ensures entry { IfOk result (λ found. IfSome found (HasTrueEntry SameSpan self.old.spans.board)) }
-        ensures checked { IfOk result (λ found. ChecksFirst self.old.spans found self.new.spans) }
-        ensures rest { self.new.board ≡ self.old.board }
-        ensures err { OnErr result (self.new ≡ self.old) }
-    {
-        let _ = &self.pieces;
-        let found = self.spans.check_first(alloc)?;
-        Ok(found)
-    }
-
     /// Checks a window of a monitor, which is given, from what the windows of the monitor before it leave; the window's ticket
     /// ends. AllocError where memory is refused: then no window has changed. The monitor keeps its watch, and its tally is that
     /// behind the window's beats, or, where memory is refused, behind some first of them, or was not touched.

@@ -1,0 +1,19 @@
+//! Tests of the program without its process, and of what it stands on, that no clause speaks for and no run of it shows: reads and
+//! writes that fail in mid-stream, monitors of a user's own that a run lacks, what a cell holds while its monitor is out, and faults
+//! as a user of the libraries prints them.
+#![tactic(auto)]
+
+#[cfg(test)]
+mod boxes;
+#[cfg(test)]
+mod monitors;
+#[cfg(test)]
+mod printed;
+#[cfg(test)]
+mod streams;
+#[cfg(test)]
+mod text;
+#[cfg(test)]
+mod words;
+#[cfg(test)]
+mod writes;

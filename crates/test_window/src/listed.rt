@@ -135,9 +135,11 @@ fn are_listed(alloc: Global, present: &Present) -> Result<bool, Fail> {
     let numbers = numbers(alloc, present)?;
     let first = places(alloc, present, 0)?;
     let second = places(alloc, present, 1)?;
-    Ok(numbers.as_slice() == [2, 1].as_slice()
-        && first.as_slice() == [(0, 2, 2), (1, 1, 2), (1, 1, 3), (0, 2, 3)].as_slice()
-        && second.as_slice() == [(0, 1, 2), (1, 1, 4)].as_slice())
+    Ok(
+        numbers.as_slice() == [2, 1].as_slice()
+            && first.as_slice() == [(0, 2, 2), (1, 1, 2), (1, 1, 3), (0, 2, 3)].as_slice()
+            && second.as_slice() == [(0, 1, 2), (1, 1, 4)].as_slice(),
+    )
 }
 
 #[test]

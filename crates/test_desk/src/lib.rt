@@ -13,6 +13,8 @@ mod checks;
 #[cfg(test)]
 mod counting;
 #[cfg(test)]
+mod logs;
+#[cfg(test)]
 mod plays;
 #[cfg(test)]
 mod refusals;

@@ -1,6 +1,6 @@
 use Rattle.std.proofs.Common.{◌≡◌, refl}
 use Rattle.std.specs.List.Sorted.{IsStrictlySortedBy}
-use Rattle.test_window.proofs.listed.two.Goals as goal
+use Rattle.test_desk.proofs.logs.two.Goals as goal
 
 pub returns : goal.returns
 unfolding IsStrictlySortedBy

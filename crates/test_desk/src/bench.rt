@@ -192,11 +192,7 @@ fn ended(told: &[(u32, Settlement)]) -> Answer {
 }
 
 /// A window that goes out.
-fn take_out(
-    alloc: Global,
-    desk: &mut Desk<Counting>,
-    shelf: &mut Shelf,
-) -> Result<Answer, Fail> {
+fn take_out(alloc: Global, desk: &mut Desk<Counting>, shelf: &mut Shelf) -> Result<Answer, Fail> {
     match desk.take(alloc) {
         Ok(Some(job)) => shelve(shelf, job),
         Ok(None) => Ok(Answer::None),

@@ -56,9 +56,11 @@ fn is_listed(alloc: Global, present: &Present) -> Result<bool, Fail> {
     let places = places(alloc, present)?;
     let gets = [(2, 1, 2), (2, 1, 3)];
     let block = [(0, 1, 2), (0, 2, 2), (0, 2, 3), (0, 2, 4), (0, 2, 5)];
-    Ok(numbers.as_slice() == [1, 2].as_slice()
-        && places.get(..2) == Some(gets.as_slice())
-        && places.get(2..) == Some(block.as_slice()))
+    Ok(
+        numbers.as_slice() == [1, 2].as_slice()
+            && places.get(..2) == Some(gets.as_slice())
+            && places.get(2..) == Some(block.as_slice()),
+    )
 }
 
 #[test]

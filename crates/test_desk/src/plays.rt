@@ -132,9 +132,15 @@ fn what_a_list_refuses_is_dropped_and_what_it_leaves_abandoned(
     // Of two monitors the second was refused, and isn't closed. The window that was left is free again, and its ticket isn't live.
     let list = [
         (Step::Attach(5, 1), Reply::Edited(1)),
-        (Step::Attach(5, 2), Reply::EditRefused(EditFault::MonitorExists)),
+        (
+            Step::Attach(5, 2),
+            Reply::EditRefused(EditFault::MonitorExists),
+        ),
         (Step::Add(MISALIGNED_GET), Reply::Edited(2)),
-        (Step::Add(GETS[0]), Reply::EditRefused(EditFault::FragmentExists)),
+        (
+            Step::Add(GETS[0]),
+            Reply::EditRefused(EditFault::FragmentExists),
+        ),
         (Step::Detach(5), Reply::Edited(3)),
         (Step::Take, Reply::Took(1)),
         (Step::Publish, Reply::PublishRefused(PublishFault::NotReady)),

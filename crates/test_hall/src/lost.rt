@@ -56,12 +56,7 @@ struct Rescue {
 }
 
 /// Calls the tickets 1 and 2 back, and has their windows checked and published without them.
-fn call_back<R: Wait>(
-    rt: &R,
-    alloc: Global,
-    hall: &Hall<Budget>,
-    pass: Pass<Budget>,
-) -> Rescue
+fn call_back<R: Wait>(rt: &R, alloc: Global, hall: &Hall<Budget>, pass: Pass<Budget>) -> Rescue
     requires { pass.hall ≡ hall.now.hall }
 {
     let (pass, both) = hall.oldest_live(rt, pass);
@@ -100,12 +95,7 @@ struct Course {
 }
 
 /// Takes two windows, and brings them back once a supervisor has gone on without them.
-fn come_late<R: Wait>(
-    rt: &R,
-    alloc: Global,
-    hall: &Hall<Budget>,
-    pass: Pass<Budget>,
-) -> Course
+fn come_late<R: Wait>(rt: &R, alloc: Global, hall: &Hall<Budget>, pass: Pass<Budget>) -> Course
     requires { pass.hall ≡ hall.now.hall }
 {
     let (pass, _) = add(rt, alloc, hall, pass, TWO_WINDOWS);

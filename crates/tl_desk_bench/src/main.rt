@@ -129,7 +129,11 @@ struct Told {
 }
 
 /// Replaces a fragment, and has its window checked: what that came to, and took.
-fn timed(rt: &(impl Clock + AllocGlobal), desk: &mut Desk<Budget>, same: Arc<Fragment>) -> Result<Told> {
+fn timed(
+    rt: &(impl Clock + AllocGlobal),
+    desk: &mut Desk<Budget>,
+    same: Arc<Fragment>,
+) -> Result<Told> {
     let start = Instant::now(rt)?;
     edit(rt.alloc(), desk, Change::Replace(same))?;
     let edit_nanos = start.elapsed(rt)?.as_nanos();

@@ -9,7 +9,7 @@ use tl_tables::{Chan, Rule};
 
 #[test]
 fn a_tally_goes_from_job_to_job(rt: HostRuntime) -> Result<(), Fail> {
-    // The monitor sees each beat once, and flags the second Get.
+    // The monitor goes to one job at a time, sees each beat once, and flags the second Get.
     let flagged = Row {
         link: 2,
         cycle: 5000,
@@ -30,10 +30,10 @@ fn a_tally_goes_from_job_to_job(rt: HostRuntime) -> Result<(), Fail> {
         (Step::Work(1), Answer::Worked),
         (Step::HandIn(1), Answer::Taken),
         (Step::Take, Answer::Out(3, Piece::Monitor(6, 0))),
+        (Step::Take, Answer::None),
         (Step::Work(2), Answer::Worked),
         (Step::HandIn(2), Answer::Taken),
         (Step::Take, Answer::Out(4, Piece::Monitor(6, 1))),
-        (Step::Take, Answer::None),
         (Step::Work(3), Answer::Worked),
         (Step::HandIn(3), Answer::Taken),
         (Step::Take, Answer::None),

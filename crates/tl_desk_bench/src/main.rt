@@ -2,14 +2,15 @@
 //! Without words it does a few such rounds, and tells how many windows were taken in.
 #![tactic(auto)]
 
-use anyhow::Result;
+use anyhow::{Result, bail};
 use std::alloc::Global;
 use std::env;
+use std::env::Env;
 use std::rt::Clock;
 use std::sync::Arc;
 use std::time::Instant;
 use tl_beats::{Beat, Fragment};
-use tl_desk::{Desk, HandIn, work};
+use tl_desk::{Desk, HandIn, Job, work};
 use tl_inputs::Change;
 use tl_monitor::Budget;
 use tl_tables::Chan;
@@ -60,35 +61,62 @@ fn fragment(alloc: Global, link: Name, window: u32) -> Result<Arc<Fragment>> {
     Ok(Arc::new(alloc, fragment)?)
 }
 
+/// A desk without edits.
+fn new_desk(alloc: Global) -> Result<Desk<Budget>> {
+    let (topo, _) = read_topo(alloc, TOPOLOGY.as_bytes())?;
+    Ok(Desk::new(alloc, topo)?)
+}
+
+/// Makes an edit that is accepted.
+fn edit(alloc: Global, desk: &mut Desk<Budget>, change: Change) -> Result<()> {
+    match desk.edit(alloc, change) {
+        Ok(_) => Ok(()),
+        Err(_) => bail!("refused"),
+    }
+}
+
+/// Adds one fragment in each of so many windows, and checks them all.
+fn fill(alloc: Global, desk: &mut Desk<Budget>, link: Name, windows: u32) -> Result<()> {
+    for window in 0..windows {
+        let fragment = fragment(alloc, link, window)?;
+        edit(alloc, desk, Change::Add(fragment))?;
+    }
+    match desk.recheck_now(alloc) {
+        Ok(_) => Ok(()),
+        Err(_) => bail!("not checked"),
+    }
+}
+
 /// A desk with one fragment in each of so many windows, all of them checked.
 fn opening(alloc: Global, link: Name, windows: u32) -> Result<Desk<Budget>> {
-    let (topo, _) = read_topo(alloc, TOPOLOGY.as_bytes())?;
-    let mut desk = Desk::new(alloc, topo)?;
-    for window in 0..windows {
-        desk.edit(alloc, Change::Add(fragment(alloc, link, window)?))?;
-    }
-    desk.recheck_now(alloc)?;
+    let mut desk = new_desk(alloc)?;
+    fill(alloc, &mut desk, link, windows)?;
     Ok(desk)
 }
 
-/// Takes the first window that is wanted, checks it and hands it in: whether it was taken in.
-fn round(alloc: Global, desk: &mut Desk<Budget>) -> Result<bool> {
-    let Some(job) = desk.take(alloc)? else {
-        return Ok(false);
-    };
+/// Checks a window and hands it in: whether it was taken in.
+fn check(alloc: Global, desk: &mut Desk<Budget>, job: Job<Budget>) -> bool {
     match work(alloc, job) {
         Ok(done) => match desk.hand_in(done) {
-            HandIn::Taken => Ok(true),
-            HandIn::Void => Ok(false),
+            HandIn::Taken => true,
+            HandIn::Void => false,
             HandIn::Stranger(done) => {
-                done.back().forfeit();
-                Ok(false)
+                done.forfeit();
+                false
             }
         },
         Err(job) => {
             job.forfeit();
-            Ok(false)
+            false
         }
+    }
+}
+
+/// Takes the first window that is wanted, checks it and hands it in: whether it was taken in.
+fn round(alloc: Global, desk: &mut Desk<Budget>) -> bool {
+    match desk.take(alloc) {
+        Ok(Some(job)) => check(alloc, desk, job),
+        _ => false,
     }
 }
 
@@ -100,6 +128,25 @@ struct Told {
     round_nanos: u128,
 }
 
+/// Replaces a fragment, and has its window checked: what that came to, and took.
+fn timed(
+    rt: &(impl Clock + AllocGlobal),
+    desk: &mut Desk<Budget>,
+    same: Arc<Fragment>,
+) -> Result<Told> {
+    let start = Instant::now(rt)?;
+    edit(rt.alloc(), desk, Change::Replace(same))?;
+    let edit_nanos = start.elapsed(rt)?.as_nanos();
+    let start = Instant::now(rt)?;
+    let taken = u32::from(round(rt.alloc(), desk));
+    let round_nanos = start.elapsed(rt)?.as_nanos();
+    Ok(Told {
+        taken,
+        edit_nanos,
+        round_nanos,
+    })
+}
+
 /// Does so many rounds, over all windows in turn: each replaces the fragment of a window by itself, and has that window checked.
 fn rounds(
     rt: &(impl Clock + AllocGlobal),
@@ -108,36 +155,33 @@ fn rounds(
     windows: u32,
     count: u32,
 ) -> Result<Told> {
-    let alloc = rt.alloc();
     let mut told = Told {
         taken: 0,
         edit_nanos: 0,
         round_nanos: 0,
     };
     for number in 0..count {
-        let same = fragment(alloc, link, number % windows.max(1))?;
-        let start = Instant::now(rt)?;
-        desk.edit(alloc, Change::Replace(same))?;
-        told.edit_nanos = told
-            .edit_nanos
-            .saturating_add(start.elapsed(rt)?.as_nanos());
-        let start = Instant::now(rt)?;
-        if round(alloc, desk)? {
-            told.taken = told.taken.saturating_add(1);
-        }
-        told.round_nanos = told
-            .round_nanos
-            .saturating_add(start.elapsed(rt)?.as_nanos());
+        let same = fragment(rt.alloc(), link, number % windows.max(1))?;
+        let one = timed(rt, desk, same)?;
+        told = Told {
+            taken: told.taken.saturating_add(one.taken),
+            edit_nanos: told.edit_nanos.saturating_add(one.edit_nanos),
+            round_nanos: told.round_nanos.saturating_add(one.round_nanos),
+        };
     }
     Ok(told)
 }
 
+/// Measures rounds on a desk of so many windows.
+fn measured(rt: &(impl Clock + AllocGlobal), link: Name, windows: u32) -> Result<Told> {
+    let mut desk = opening(rt.alloc(), link, windows)?;
+    rounds(rt, &mut desk, link, windows, ROUNDS)
+}
+
 /// Measures rounds on desks of few and of many windows.
 fn measure(rt: &(impl Print + Clock + AllocGlobal), link: Name) -> Result<()> {
-    let alloc = rt.alloc();
     for windows in WINDOWS {
-        let mut desk = opening(alloc, link, windows)?;
-        let told = rounds(rt, &mut desk, link, windows, ROUNDS)?;
+        let told = measured(rt, link, windows)?;
         let each = u128::from(ROUNDS);
         let (edit, round) = (told.edit_nanos / each, told.round_nanos / each);
         println!(rt;
@@ -148,18 +192,28 @@ fn measure(rt: &(impl Print + Clock + AllocGlobal), link: Name) -> Result<()> {
     Ok(())
 }
 
+/// Does a few rounds: how many windows were taken in, and whether all are settled then.
+fn done(rt: &(impl Clock + AllocGlobal), link: Name) -> Result<(u32, bool)> {
+    let mut desk = opening(rt.alloc(), link, FEW)?;
+    let told = rounds(rt, &mut desk, link, FEW, FEW)?;
+    Ok((told.taken, desk.settled()))
+}
+
+/// How many words there are, with the program's own.
+fn word_count(rt: &(impl Env + AllocGlobal)) -> Result<usize> {
+    let words: Vec<String> = env::args(rt)?.collect(rt.alloc())?;
+    Ok(words.len())
+}
+
 fn main(rt: HostRuntime) -> Result<()> {
-    let alloc = rt.alloc();
     let Some(link) = Name::new(b"dma0") else {
         return Ok(());
     };
-    let words: Vec<String> = env::args(&rt)?.collect(alloc)?;
-    if words.len() > 1 {
+    if word_count(&rt)? > 1 {
         return measure(&rt, link);
     }
-    let mut desk = opening(alloc, link, FEW)?;
-    let told = rounds(&rt, &mut desk, link, FEW, FEW)?;
-    println!(&rt; "taken in: {} of {FEW}", told.taken)?;
-    println!(&rt; "settled: {}", desk.settled())?;
+    let (taken, is_settled) = done(&rt, link)?;
+    println!(&rt; "taken in: {taken} of {FEW}")?;
+    println!(&rt; "settled: {is_settled}")?;
     Ok(())
 }

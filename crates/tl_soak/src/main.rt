@@ -21,6 +21,7 @@ use crate::workers::{seats_beside, serve_all};
 use anyhow::{Result, bail};
 use std::alloc::{AllocError, Global};
 use std::env;
+use std::env::Env;
 use std::process::ExitCode;
 use std::sync::Wait;
 use std::thread::{Threads, join};
@@ -86,6 +87,7 @@ impl Plan {
 }
 
 /// What came of a plan.
+#[derive(Clone, Copy)]
 struct Outcome {
     edits: u64,
     reports: usize,
@@ -179,43 +181,61 @@ fn count_wrong(alloc: Global, log: &Log, reports: &[Report]) -> Result<u64> {
     Ok(wrong)
 }
 
-/// A copy of the report of all edits.
-fn last_report(alloc: Global, desk: &mut Desk<Budget>) -> Result<Report> {
-    desk.recheck_now(alloc)?;
-    desk.publish(alloc)?;
+/// Checks and publishes what stands.
+fn publish(alloc: Global, desk: &mut Desk<Budget>) -> Result<()> {
+    if desk.recheck_now(alloc).is_err() {
+        bail!("not checked");
+    }
+    if desk.publish(alloc).is_err() {
+        bail!("not published");
+    }
+    Ok(())
+}
+
+/// A copy of the latest report.
+fn latest(desk: &Desk<Budget>) -> Result<Report> {
     match desk.latest() {
         Some(report) => Ok(report.copy()?),
         None => bail!("no report"),
     }
 }
 
-/// Has all threads call a hall as planned: the desk that it leaves, and all that was read.
+/// Adds the report of all edits to those that were read: how many of all are wrong.
+fn judge(alloc: Global, desk: &mut Desk<Budget>, reports: &mut Vec<Report>) -> Result<u64> {
+    publish(alloc, desk)?;
+    let last = latest(desk)?;
+    reports.push(last)?;
+    count_wrong(alloc, desk.log(), reports)
+}
+
+/// What a hall leaves: its desk, and all that was read.
+struct Left {
+    desk: Desk<Budget>,
+    reports: Vec<Report>,
+}
+
+/// Has all threads call a hall as planned.
 fn run<R: Threads + Wait + Sync>(
     rt: &R,
     alloc: Global,
     topo: Topo,
     course: &Course,
     plan: Plan,
-) -> Result<(Desk<Budget>, Vec<Report>), AllocError> {
+) -> Result<Left, AllocError> {
     let (hall, pass) = Hall::new(alloc, topo)?;
     let (pass, other) = hall.split(pass);
     let reports = all_at_once(rt, alloc, Seat::new(&hall, other), course, plan);
     let desk = hall.close(rt, pass);
-    Ok((desk, reports))
+    Ok(Left { desk, reports })
 }
 
 /// Compares all reports, that of all edits too.
-fn judge(
-    alloc: Global,
-    desk: Desk<Budget>,
-    reports: Vec<Report>,
-    totals: Totals,
-) -> Result<Outcome> {
-    let mut desk = desk;
-    let mut reports = reports;
-    let last = last_report(alloc, &mut desk)?;
-    reports.push(last)?;
-    let wrong = count_wrong(alloc, desk.log(), &reports)?;
+fn told(alloc: Global, left: Left, totals: Totals) -> Result<Outcome> {
+    let Left {
+        mut desk,
+        mut reports,
+    } = left;
+    let wrong = judge(alloc, &mut desk, &mut reports)?;
     Ok(Outcome {
         edits: desk.log().len(),
         reports: reports.len(),
@@ -230,35 +250,46 @@ fn soak<R: Threads + Wait + Sync>(rt: &R, alloc: Global, plan: Plan) -> Result<O
         bail!("no topology");
     };
     let course = Course::new();
-    let (desk, reports) = run(rt, alloc, topo, &course, plan)?;
-    judge(alloc, desk, reports, course.totals())
+    let left = run(rt, alloc, topo, &course, plan)?;
+    told(alloc, left, course.totals())
 }
 
-fn main(rt: HostRuntime) -> Result<ExitCode> {
-    let words: Vec<String> = env::args(&rt)?.collect(rt.alloc())?;
-    let Some(plan) = Plan::of(&words) else {
-        eprintln!(&rt;
-            "the words are none, or ROUNDS WORKERS: at most {MOST_ROUNDS} and {MOST_WORKERS}"
-        )?;
-        return Ok(ExitCode::from(BAD_WORDS));
-    };
+/// How many words there are, and the plan that they tell.
+fn asked<R: Env + AllocGlobal>(rt: &R) -> Result<(usize, Option<Plan>)> {
+    let words: Vec<String> = env::args(rt)?.collect(rt.alloc())?;
+    Ok((words.len(), Plan::of(&words)))
+}
+
+/// Tells what came of a plan: whether all is as it must be.
+fn tell<R: Print>(rt: &R, plan: Plan, outcome: Outcome, words: usize) -> Result<bool> {
     let Outcome {
         edits,
         reports,
         wrong,
         totals,
-    } = soak(&rt, rt.alloc(), plan)?;
-    println!(&rt; "edits {edits} of {}, wrong {wrong}", plan.edits())?;
-    if words.len() > 1 {
+    } = outcome;
+    println!(rt; "edits {edits} of {}, wrong {wrong}", plan.edits())?;
+    if words > 1 {
         let Totals {
             recalls,
             taken,
             void,
         } = totals;
-        println!(&rt; "reports {reports}, windows {taken}, void {void}, called back {recalls}")?;
+        println!(rt; "reports {reports}, windows {taken}, void {void}, called back {recalls}")?;
     }
-    let is_right = wrong == 0 && edits == plan.edits();
-    Ok(if is_right {
+    Ok(wrong == 0 && edits == plan.edits())
+}
+
+fn main(rt: HostRuntime) -> Result<ExitCode> {
+    let (words, plan) = asked(&rt)?;
+    let Some(plan) = plan else {
+        eprintln!(&rt;
+            "the words are none, or ROUNDS WORKERS: at most {MOST_ROUNDS} and {MOST_WORKERS}"
+        )?;
+        return Ok(ExitCode::from(BAD_WORDS));
+    };
+    let outcome = soak(&rt, rt.alloc(), plan)?;
+    Ok(if tell(&rt, plan, outcome, words)? {
         ExitCode::SUCCESS
     } else {
         ExitCode::FAILURE

@@ -1,0 +1,72 @@
+//! What stands behind the log of a desk, listed and copied by calls that no run of the program makes.
+
+ghost use Rattle.std.specs.Ordering.{nat_cmp};
+ghost use Rattle.std.specs.List.Sorted.{IsStrictlySortedBy};
+
+use crate::retries::{add, open_desk};
+use crate::texts::{BLOCK_ASKED, BLOCK_GRANTED, GETS};
+use std::alloc::Global;
+use std::test::Fail;
+use tl_inputs::{Inputs, Log};
+use tl_windows::Present;
+
+/// A copy of what stands behind a copy of a log.
+fn copied(log: &Log) -> Result<Inputs, Fail> {
+    let copy = log.copy()?;
+    Ok(copy.inputs().copy()?)
+}
+
+/// A copy of what stands on a desk with three fragments, the later one of cpu0 added first.
+fn standing(alloc: Global) -> Result<Inputs, Fail> {
+    let mut desk = open_desk(alloc)?;
+    add(alloc, &mut desk, BLOCK_GRANTED);
+    add(alloc, &mut desk, BLOCK_ASKED);
+    add(alloc, &mut desk, GETS[0]);
+    copied(desk.log())
+}
+
+/// The numbers of the fragments of cpu0, in the order of their ranges.
+fn numbers(alloc: Global, present: &Present) -> Result<Vec<u32>, Fail> {
+    let mut numbers = Vec::new(alloc);
+    for fragment in &present.fragments(alloc, 0)? {
+        numbers.push(fragment.number())?;
+    }
+    Ok(numbers)
+}
+
+/// The links cpu0 and dma0.
+fn two() -> [u16; 2]
+    ensures { IsStrictlySortedBy nat_cmp result }
+{
+    [0, 2]
+}
+
+/// Where the beats of these links in window 0 stand: link, fragment and line.
+fn places(alloc: Global, present: &Present) -> Result<Vec<(u16, u32, u32)>, Fail> {
+    let mut places = Vec::new(alloc);
+    for at in &present.beats_in(alloc, 0, &two())? {
+        places.push((at.link, at.fragment, at.line))?;
+    }
+    Ok(places)
+}
+
+/// Whether what stands there is listed as it is to be.
+fn is_listed(alloc: Global, present: &Present) -> Result<bool, Fail> {
+    let numbers = numbers(alloc, present)?;
+    let places = places(alloc, present)?;
+    let gets = [(2, 1, 2), (2, 1, 3)];
+    let block = [(0, 1, 2), (0, 2, 2), (0, 2, 3), (0, 2, 4), (0, 2, 5)];
+    Ok(
+        numbers.as_slice() == [1, 2].as_slice()
+            && places.get(..2) == Some(gets.as_slice())
+            && places.get(2..) == Some(block.as_slice()),
+    )
+}
+
+#[test]
+fn a_copy_of_a_log_lists_what_stands_there(rt: HostRuntime) -> Result<(), Fail> {
+    let inputs = standing(rt.alloc())?;
+    let is_listed = is_listed(rt.alloc(), inputs.present())?;
+    assert!(rt; is_listed);
+    Ok(())
+}

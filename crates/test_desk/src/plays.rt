@@ -1,0 +1,157 @@
+//! Lists of steps that a desk runs by itself.
+
+use crate::bench::{Answer, Step, change_of, name, run};
+use crate::counting::{Calls, Counting};
+use crate::retries::{counters, open_desk};
+use crate::shelf::Shelf;
+use crate::texts::{GETS, MISALIGNED_GET};
+use std::alloc::Global;
+use std::test::Fail;
+use tl_desk::{Desk, Piece, PublishFault, Reply, Step as Played};
+use tl_inputs::EditFault;
+
+/// A step as a list has it.
+fn played(alloc: Global, calls: &Calls, step: Step<'_>) -> Result<Played<Counting>, Fail> {
+    Ok(match step {
+        Step::Attach(number, limit) => {
+            let monitor = Counting::new(alloc, name("dma0")?, limit, calls)?;
+            Played::Attach(number, monitor)
+        }
+        Step::Take => Played::Take,
+        Step::Work(place) => Played::Work(place),
+        Step::HandIn(place) => Played::HandIn(place),
+        Step::Abandon(place) => Played::Abandon(place),
+        Step::Recall(ticket) => Played::Recall(ticket),
+        Step::Publish => Played::Publish,
+        _ => Played::Edit(change_of(alloc, step)?.ok_or("no step of a list")?),
+    })
+}
+
+/// The list of some steps.
+fn list_of(
+    alloc: Global,
+    calls: &Calls,
+    steps: &[(Step<'_>, Reply)],
+) -> Result<Vec<Played<Counting>>, Fail> {
+    let mut list = Vec::new(alloc);
+    for (step, _) in steps {
+        list.push(played(alloc, calls, *step)?)?;
+    }
+    Ok(list)
+}
+
+/// The first step whose reply is another, by its place, and None where there is none.
+fn first_other(replies: &[Reply], steps: &[(Step<'_>, Reply)]) -> Option<usize> {
+    for (at, (_, wanted)) in steps.iter().enumerate() {
+        if replies.get(at) != Some(wanted) {
+            return Some(at);
+        }
+    }
+    None
+}
+
+/// Has a desk run a list of steps: the first whose reply is another.
+fn play(
+    alloc: Global,
+    desk: &mut Desk<Counting>,
+    calls: &Calls,
+    steps: &[(Step<'_>, Reply)],
+) -> Result<Option<usize>, Fail> {
+    let list = list_of(alloc, calls, steps)?;
+    match desk.play(alloc, list) {
+        Ok(replies) => Ok(first_other(&replies, steps)),
+        Err(_) => Err(Fail::new("memory")),
+    }
+}
+
+/// Has a desk run a list of steps, and take further calls: the first step whose reply is another, and the first call that answers
+/// otherwise.
+fn play_and_run(
+    alloc: Global,
+    desk: &mut Desk<Counting>,
+    calls: &Calls,
+    shelf: &mut Shelf,
+    list: &[(Step<'_>, Reply)],
+    behind: &[(Step<'_>, Answer)],
+) -> Result<(Option<usize>, Option<usize>), Fail> {
+    let reply = play(alloc, desk, calls, list)?;
+    let answer = run(alloc, desk, calls, shelf, behind)?;
+    Ok((reply, answer))
+}
+
+/// The same on a desk without edits.
+fn wrong_of_list(
+    alloc: Global,
+    list: &[(Step<'_>, Reply)],
+    behind: &[(Step<'_>, Answer)],
+) -> Result<(Option<usize>, Option<usize>), Fail> {
+    let calls = counters(alloc)?;
+    let mut desk = open_desk(alloc)?;
+    let mut shelf = Shelf::new(alloc);
+    let found = play_and_run(alloc, &mut desk, &calls, &mut shelf, list, behind);
+    shelf.clear();
+    found
+}
+
+#[test]
+fn a_place_stays_empty(rt: HostRuntime) -> Result<(), Fail> {
+    // An abandon of what was checked, and of what was spent, is nothing; the next job has a place of its own.
+    let list = [
+        (Step::Add(GETS[0]), Reply::Edited(1)),
+        (Step::Take, Reply::Took(1)),
+        (Step::Work(0), Reply::Worked),
+        (Step::Abandon(0), Reply::Nothing),
+        (Step::Work(0), Reply::Nothing),
+        (Step::HandIn(1), Reply::Nothing),
+        (Step::Recall(1), Reply::Recalled(true)),
+        (Step::Recall(1), Reply::Recalled(false)),
+        (Step::HandIn(0), Reply::HandedIn { taken: false }),
+        (Step::Work(0), Reply::Nothing),
+        (Step::Take, Reply::Took(2)),
+        (Step::Abandon(1), Reply::Abandoned),
+        (Step::Abandon(1), Reply::Nothing),
+        (Step::Take, Reply::Took(3)),
+        (Step::Work(2), Reply::Worked),
+        (Step::HandIn(2), Reply::HandedIn { taken: true }),
+        (Step::Take, Reply::TookNone),
+        (Step::Publish, Reply::Published(1)),
+    ];
+    let behind = [
+        (Step::Settled, Answer::Settled(true)),
+        (Step::Latest, Answer::Report(1, 1, 0, None)),
+    ];
+    let told = wrong_of_list(rt.alloc(), &list, &behind)?;
+    assert_eq!(rt; told, (None, None));
+    Ok(())
+}
+
+#[test]
+fn what_a_list_refuses_is_dropped_and_what_it_leaves_abandoned(
+    rt: HostRuntime,
+) -> Result<(), Fail> {
+    // Of two monitors the second was refused, and isn't closed. The window that was left is free again, and its ticket isn't live.
+    let list = [
+        (Step::Attach(5, 1), Reply::Edited(1)),
+        (
+            Step::Attach(5, 2),
+            Reply::EditRefused(EditFault::MonitorExists),
+        ),
+        (Step::Add(MISALIGNED_GET), Reply::Edited(2)),
+        (
+            Step::Add(GETS[0]),
+            Reply::EditRefused(EditFault::FragmentExists),
+        ),
+        (Step::Detach(5), Reply::Edited(3)),
+        (Step::Take, Reply::Took(1)),
+        (Step::Publish, Reply::PublishRefused(PublishFault::NotReady)),
+    ];
+    let behind = [
+        (Step::Ended, Answer::Ended(1, Some((5, 1, 3)))),
+        (Step::Calls, Answer::Calls(0, 1)),
+        (Step::Recall(1), Answer::None),
+        (Step::Take, Answer::Out(2, Piece::Manager(0, 0))),
+    ];
+    let told = wrong_of_list(rt.alloc(), &list, &behind)?;
+    assert_eq!(rt; told, (None, None));
+    Ok(())
+}

@@ -1,2 +1,0 @@
-pub mod EntryStates
-pub mod RisingBeats

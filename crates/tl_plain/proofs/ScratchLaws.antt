@@ -16,12 +16,11 @@ use Rattle.tl_beats.specs.declared.watch.Watch.{Watch}
 use Rattle.tl_definitions.proofs.Lists.{contains_none, contains_here, contains_there, contains_cases}
 use Rattle.tl_definitions.proofs.PassLaws.{first_passes_are_reports}
 use Rattle.tl_definitions.specs.Captures.{captures_from}
-use Rattle.tl_definitions.specs.Judging.{snapshot, judging}
-use Rattle.tl_definitions.specs.Passes.{IsPass}
+use Rattle.tl_definitions.specs.Judging.{snapshot}
 use Rattle.tl_definitions.specs.Positions.{Recorded}
 use Rattle.tl_definitions.specs.Report.{Capture, of_manager, Finds, FindsIn, IsReport}
 use Rattle.tl_definitions.specs.Rules.{Manager}
-use Rattle.tl_span.specs.Jobs.{Job, Checked, manager_of, pass_of}
+use Rattle.tl_span.specs.Jobs.{Judges}
 use Rattle.tl_span.specs.States.{shown}
 use Rattle.tl_span.specs.declared.state.SpanState.{SpanState}
 use Rattle.tl_plain.proofs.CaptureLaws.{capture_with}
@@ -29,15 +28,9 @@ use Rattle.tl_plain.specs.Captured.{areas_at, watch_capture, watch_captures}
 use Rattle.tl_plain.specs.Found.{AreFound}
 
 -- A window of these beats from the beginning has their report.
-pub checked_report : (m : Manager) (beats : List Placed) (job : Job) (entry : SpanState) (checked : Checked) → manager_of job ≡ m → job.beats ≡ beats → job.entry ≡ entry → shown entry ≡ snapshot m []
-    → checked.job ≡ job → IsPass (judging (manager_of job)) (pass_of checked) → IsReport (of_manager m beats ∷ []) checked.rows
-checked_report m beats job entry checked manages has begins opening same pass =
-    let bare : pass_of checked ≡ record { entry = shown entry; beats = beats; exit = shown checked.exit; rows = checked.rows } =
-    ap (λ (j : Job). record { entry = shown j.entry; beats = j.beats; exit = shown checked.exit; rows = checked.rows }) same
-    ∙ ap (λ (bs : List Placed). record { entry = shown job.entry; beats = bs; exit = shown checked.exit; rows = checked.rows }) has
-    ∙ ap (λ (s : SpanState). record { entry = shown s; beats = beats; exit = shown checked.exit; rows = checked.rows }) begins in
-    first_passes_are_reports m (record { entry = shown entry; beats = beats; exit = shown checked.exit; rows = checked.rows })
-    (subst (IsPass (judging m)) bare (subst (λ n. IsPass (judging n) (pass_of checked)) manages pass)) opening
+pub judged_report : (m : Manager) (beats : List Placed) (entry exit : SpanState) (rows : List Row) → shown entry ≡ snapshot m [] → Judges m entry beats exit rows → IsReport (of_manager m beats ∷ []) rows
+judged_report m beats entry exit rows opening judges =
+    first_passes_are_reports m (record { entry = shown entry; beats = beats; exit = shown exit; rows = rows }) judges.1 opening
 
 -- What one capture finds, and what the others do.
 finds_cases : (c : Capture) (cs : List Capture) (row : Row) → FindsIn (c ∷ cs) row → Finds c row ⊎ FindsIn cs row

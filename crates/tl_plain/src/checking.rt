@@ -13,7 +13,7 @@ use crate::watching::watches_rows;
 use std::alloc::{AllocError, Global};
 use tl_beats::{Row, Watch};
 use tl_manager_rules::clients_of;
-use tl_span::{SpanJob, SpanState, sort_rows, span_check};
+use tl_span::{SpanState, check_window, sort_rows};
 use tl_topology::{RegionMap, Topo};
 use tl_windows::Present;
 
@@ -29,13 +29,10 @@ fn manager_rows(
     ensures { IfOk result (λ rows. IsReport (of_manager (manager_at topo.now manager (areas_of regions.now)) (manager_beats topo.now present.now manager) ∷ []) rows.items) }
 {
     let links = clients_of(alloc, topo, manager)?;
-    let beats = present.beats(alloc, &links)?;
+    let walk = present.walk(alloc, &links)?;
     let entry = SpanState::opening(alloc, topo, manager)?;
-    let job = SpanJob::new(alloc, topo, manager, regions, beats, entry)?;
-    let Ok(checked) = span_check(alloc, job) else {
-        return Err(AllocError);
-    };
-    Ok(checked.into_rows())
+    let (_, rows) = check_window(alloc, topo, manager, regions, walk, &entry)?;
+    Ok(rows)
 }
 
 /// The rows of all managers with their regions, one manager after the other.

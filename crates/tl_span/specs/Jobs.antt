@@ -56,3 +56,7 @@ pub record IsResult (result : Checked) : Type 0 where
   pub job : IsJob result.job
   pub exit : IsOf (manager_of result.job) result.exit
   pub pass : IsPass (judging (manager_of result.job)) (pass_of result)
+
+-- Judging these beats of a manager from a state leaves a state of the manager and these rows.
+abbrev pub Judges : Manager → SpanState → List Placed → SpanState → List Row → Type 0
+Judges m entry beats exit rows = IsOf m exit × IsPass (judging m) (record { entry = shown entry; beats = beats; exit = shown exit; rows = rows })

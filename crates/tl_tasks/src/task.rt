@@ -16,7 +16,7 @@ use std::marker::Model;
 use std::sync::Arc;
 use tl_manager_rules::clients_of;
 use tl_pieces::Stored;
-use tl_span::{SpanJob, SpanState, span_check};
+use tl_span::{SpanState, check_window};
 use tl_topology::{RegionMap, Topo};
 use tl_windows::{Present, WindowBeats};
 
@@ -113,13 +113,15 @@ impl SpanTask {
         ensures pass { IfOk result (λ stored. IsPassOf self.now (pass_of stored)) }
         ensures entry { IfOk result (λ stored. arc_value stored.entry ≡ self.now.entry) }
     {
-        let entry = self.entry.copy(alloc)?;
-        let beats = self.beats.gathered(alloc)?;
-        let job = SpanJob::new(alloc, &self.topo, self.manager, &self.regions, beats, entry)?;
-        let Ok(checked) = span_check(alloc, job) else {
-            return Err(AllocError);
-        };
-        let (mut exit, rows) = checked.into_parts();
+        let walk = self.beats.walk(alloc)?;
+        let (mut exit, rows) = check_window(
+            alloc,
+            &self.topo,
+            self.manager,
+            &self.regions,
+            walk,
+            &self.entry,
+        )?;
         exit.settle()?;
         Ok(Stored {
             entry: Arc::try_clone(&self.entry)?,

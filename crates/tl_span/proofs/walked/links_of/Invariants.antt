@@ -2,7 +2,7 @@ use Rattle.std.proofs.Common.{◌≡◌, take}
 use Rattle.std.specs.List.{All}
 use Rattle.tl_topology.specs.Topology.{IsSound}
 use Rattle.tl_definitions.specs.Managers.{declared_links}
-use Rattle.tl_span.proofs.job.links_of.Given as goal
+use Rattle.tl_span.proofs.walked.links_of.Given as goal
 
 -- the first links, each sound
 abbrev pub invariant-loop-number : goal.invariant-loop-number

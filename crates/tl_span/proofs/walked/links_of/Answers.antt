@@ -7,8 +7,8 @@ use Rattle.tl_topology.specs.Topology.{IsSound}
 use Rattle.tl_topology.specs.declared.LinkDecl.{LinkDecl}
 use Rattle.tl_definitions.specs.Managers.{declared_links}
 use Rattle.tl_span.proofs.ListLaws.{take_more}
-use Rattle.tl_span.proofs.job.links_of.Goals as goal
-use Rattle.tl_span.proofs.job.links_of.Goals.{in-Some+in_ok-push, in_default}
+use Rattle.tl_span.proofs.walked.links_of.Goals as goal
+use Rattle.tl_span.proofs.walked.links_of.Goals.{in-Some+in_ok-push, in_default}
 
 pub loop-number-preserved : goal.loop-number-preserved
 loop-number-preserved c =

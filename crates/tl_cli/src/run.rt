@@ -3,6 +3,7 @@
 ghost use Rattle.std.specs.Prelude.{◌≡◌, ◌<◌, ◌≤◌, ◌^◌};
 ghost use Rattle.tl_cli.specs.Status.{status_of};
 
+use crate::explain::titles;
 use crate::fault::Fault;
 use crate::files::{fault_of, fragments_of, script_of, topology_of};
 use crate::monitors::{attached_in, settlement_lines};
@@ -235,6 +236,26 @@ fn tell_text<O: ByteOut, E: ByteOut>(alloc: Global, out: &mut O, err: &mut E, te
     }
 }
 
+/// Writes an entry that was asked for, or where none was the first line of each.
+fn tell_entry<O: ByteOut, E: ByteOut>(
+    alloc: Global,
+    out: &mut O,
+    err: &mut E,
+    entry: Option<&'static str>,
+) -> u8
+    requires out { O.failure_count out.old < 2 ^ 63 }
+    requires err { E.failure_count err.old < 2 ^ 63 }
+    ensures { result ≤ 2 }
+{
+    if let Some(entry) = entry {
+        return tell_text(alloc, out, err, entry);
+    }
+    match titles(alloc) {
+        Ok(text) => tell_text(alloc, out, err, text.as_str()),
+        Err(_) => tell(alloc, err, Fault::MEMORY),
+    }
+}
+
 /// Writes clap's own text of words that it refuses.
 fn tell_refusal<E: ByteOut>(alloc: Global, err: &mut E, error: &clap::Error) -> u8
     requires { E.failure_count err.old < 2 ^ 63 }
@@ -331,7 +352,7 @@ pub fn run_words<R: Files + Threads + Wait + Sync + AllocGlobal, I: ByteIn, O: B
             edit,
             show,
         } => audit_of_files(rt, *topology, *script, *edit, *show, out),
-        Command::Explain { entry } => return tell_text(rt.alloc(), out, err, *entry),
+        Command::Explain { entry } => return tell_entry(rt.alloc(), out, err, *entry),
     };
     match outcome {
         Ok(outcome) => status_of(outcome),

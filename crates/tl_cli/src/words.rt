@@ -31,9 +31,9 @@ pub(crate) enum Command<'a> {
         edit: u64,
         show: bool,
     },
-    /// The entry of a rule or of a refusal.
+    /// The entry of a rule or of a refusal, or without one the first line of each.
     Explain {
-        entry: &'static str,
+        entry: Option<&'static str>,
     },
 }
 
@@ -125,10 +125,8 @@ fn audit<'a>(alloc: Global) -> Result<clap::Command<'a>, Error> {
 }
 
 fn explain<'a>(alloc: Global) -> Result<clap::Command<'a>, Error> {
-    let word = word(
-        alloc,
-        "WORD",
-        "Name of a rule, as in the last word of a row, or code of a refusal",
+    let word = Arg::new(alloc, "WORD").action(ArgAction::Set).help(
+        "Name of a rule, in any case, or code of a refusal; without it all are listed, one line each",
     );
     let explain = clap::Command::new(alloc, "explain")
         .about("Says what a rule or a refusal means, and what to look at")
@@ -160,7 +158,7 @@ const RUN_EXAMPLE: &str = "Example: tlcheck run examples/one_manager.topo exampl
 const AUDIT_EXAMPLE: &str =
     "Example: tlcheck audit examples/one_manager.topo examples/edits.script 2";
 
-const EXPLAIN_EXAMPLE: &str = "Examples: tlcheck explain P2, tlcheck explain 12";
+const EXPLAIN_EXAMPLE: &str = "Examples: tlcheck explain, tlcheck explain P2, tlcheck explain 12";
 
 const HELP: &str =
     "tlcheck once TOPO FRAGMENT.. checks the fragments of a capture together, from files: TOPO is a topology text \
@@ -208,18 +206,20 @@ fn audit_asked<'a>(found: &ArgMatches<'a>) -> Command<'a> {
     }
 }
 
-/// The entry that the words of `explain` name; another word is refused.
+/// The entry that the words of `explain` name, or none; another word is refused.
 fn explain_asked<'a>(
     alloc: Global,
     program: &mut clap::Command<'a>,
     found: &ArgMatches<'a>,
 ) -> Result<Command<'a>, Error> {
-    let word = found.get_str("WORD").unwrap_or("");
+    let Some(word) = found.get_str("WORD") else {
+        return Ok(Command::Explain { entry: None });
+    };
     let Some(entry) = entry_of(word) else {
         let text = format!(in alloc; "'{word}' is no rule and no code of a refusal")?;
         return Err(program.error(ErrorKind::InvalidValue, text.as_str())?);
     };
-    Ok(Command::Explain { entry })
+    Ok(Command::Explain { entry: Some(entry) })
 }
 
 /// The command that the words name; the first word is the program's own.

@@ -1,10 +1,20 @@
 //! The words of the command line.
 
+use crate::denial::Deny;
 use crate::explain::entry_of;
 use clap::builder::ValueParser;
 use clap::error::ErrorKind;
 use clap::{Arg, ArgAction, ArgMatches, Error};
 use std::alloc::Global;
+
+/// How a command is to be done.
+#[derive(Clone, Copy, Debug)]
+pub(crate) struct How {
+    /// Whether rows are shown.
+    pub(crate) show: bool,
+    /// What is a fault besides.
+    pub(crate) deny: Deny,
+}
 
 /// What the words ask for.
 #[derive(Debug, Drop)]
@@ -15,21 +25,21 @@ pub(crate) enum Command<'a> {
     Once {
         topology: &'a str,
         fragments: Vec<&'a str>,
-        show: bool,
+        how: How,
     },
     /// The run of a script, from files.
     Run {
         topology: &'a str,
         script: &'a str,
         workers: u8,
-        show: bool,
+        how: How,
     },
     /// What the first edits of a script leave, from files.
     Audit {
         topology: &'a str,
         script: &'a str,
         edit: u64,
-        show: bool,
+        how: How,
     },
     /// The entry of a rule or of a refusal, or without one the first line of each.
     Explain {
@@ -73,6 +83,21 @@ fn show<'a>(alloc: Global) -> Arg<'a> {
         .help("Puts behind each row its beat in words and the earlier beat that makes it so")
 }
 
+/// What can be denied.
+const DENIED: &[&str] = &["refused", "empty"];
+
+fn deny<'a>(alloc: Global) -> Arg<'a> {
+    Arg::new(alloc, "deny")
+        .long("deny")
+        .value_name("WHAT")
+        .action(ArgAction::Append)
+        .value_parser(DENIED)
+        .hide_possible_values(true)
+        .help(
+            "Ends with status 2 where an edit or a report was refused (refused) or no beat was checked (empty)",
+        )
+}
+
 fn once<'a>(alloc: Global) -> Result<clap::Command<'a>, Error> {
     let fragments = word(
         alloc,
@@ -86,7 +111,8 @@ fn once<'a>(alloc: Global) -> Result<clap::Command<'a>, Error> {
         .after_help(ONCE_EXAMPLE)
         .arg(topology(alloc))?
         .arg(fragments)?
-        .arg(show(alloc))?;
+        .arg(show(alloc))?
+        .arg(deny(alloc))?;
     Ok(once)
 }
 
@@ -103,7 +129,8 @@ fn run<'a>(alloc: Global) -> Result<clap::Command<'a>, Error> {
         .arg(topology(alloc))?
         .arg(script(alloc))?
         .arg(workers)?
-        .arg(show(alloc))?;
+        .arg(show(alloc))?
+        .arg(deny(alloc))?;
     Ok(run)
 }
 
@@ -120,7 +147,8 @@ fn audit<'a>(alloc: Global) -> Result<clap::Command<'a>, Error> {
         .arg(topology(alloc))?
         .arg(script(alloc))?
         .arg(edit)?
-        .arg(show(alloc))?;
+        .arg(show(alloc))?
+        .arg(deny(alloc))?;
     Ok(audit)
 }
 
@@ -172,6 +200,25 @@ or `tlcheck: CODE NUMBER`, or a script that stops, told as its last line on stan
 tlcheck explain CODE says more.\n\n\
 Example: cat examples/one_manager.topo examples/edits.script | tlcheck";
 
+/// Whether this is denied.
+fn is_denied(found: &ArgMatches<'_>, what: &str) -> bool {
+    match found.get_strs("deny") {
+        Some(all) => all.iter().any(|word| *word == what),
+        None => false,
+    }
+}
+
+/// How the words want a command to be done.
+fn how_asked(found: &ArgMatches<'_>) -> How {
+    How {
+        show: found.get_flag("show"),
+        deny: Deny {
+            refused: is_denied(found, "refused"),
+            empty: is_denied(found, "empty"),
+        },
+    }
+}
+
 /// The fragments that the words of `once` name.
 fn once_asked<'a>(alloc: Global, found: &ArgMatches<'a>) -> Result<Command<'a>, Error> {
     let mut fragments = Vec::new(alloc);
@@ -181,7 +228,7 @@ fn once_asked<'a>(alloc: Global, found: &ArgMatches<'a>) -> Result<Command<'a>, 
     Ok(Command::Once {
         topology: found.get_str("TOPO").unwrap_or(""),
         fragments,
-        show: found.get_flag("show"),
+        how: how_asked(found),
     })
 }
 
@@ -192,7 +239,7 @@ fn run_asked<'a>(found: &ArgMatches<'a>) -> Command<'a> {
         topology: found.get_str("TOPO").unwrap_or(""),
         script: found.get_str("SCRIPT").unwrap_or(""),
         workers: u8::try_from(workers).unwrap_or(0),
-        show: found.get_flag("show"),
+        how: how_asked(found),
     }
 }
 
@@ -202,7 +249,7 @@ fn audit_asked<'a>(found: &ArgMatches<'a>) -> Command<'a> {
         topology: found.get_str("TOPO").unwrap_or(""),
         script: found.get_str("SCRIPT").unwrap_or(""),
         edit: found.get_one("EDIT").unwrap_or(0),
-        show: found.get_flag("show"),
+        how: how_asked(found),
     }
 }
 

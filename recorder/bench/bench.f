@@ -3,6 +3,7 @@ tlul_pkg.sv
 bench_pkg.sv
 ../tilelink_cycle_counter.sv
 ../tilelink_recorder.sv
+../tilelink_ul_recorder.sv
 bench_cache.sv
 bench_engine.sv
 bench_side.sv

@@ -1,2 +1,3 @@
 ../tilelink_recorder.sv
+../tilelink_ul_recorder.sv
 widths.sv

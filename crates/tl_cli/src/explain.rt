@@ -1,50 +1,55 @@
 //! What a rule or a refusal means, in the words of `docs/RULES.md`.
 
 use crate::{flow_entries, format_entries, permission_entries, refusal_entries};
-use tl_tables::Rule;
+use std::alloc::{AllocError, Global};
+use tl_tables::{Rule, rule_text};
 use tl_text::decimal;
 
 /// The greatest number that a word of a refusal's code may spell.
 const MOST_CODE: u64 = 255;
 
-/// The rule that a report calls so.
+/// The rules, in the order of reports.
+const RULES: [Rule; 32] = [
+    Rule::F1,
+    Rule::F2,
+    Rule::F3,
+    Rule::F4,
+    Rule::F5,
+    Rule::F6,
+    Rule::F7,
+    Rule::F8,
+    Rule::F9,
+    Rule::F10,
+    Rule::U1,
+    Rule::S1,
+    Rule::S2,
+    Rule::S3,
+    Rule::S4,
+    Rule::S5,
+    Rule::S6,
+    Rule::S7,
+    Rule::S8,
+    Rule::S9,
+    Rule::P1,
+    Rule::P2,
+    Rule::P3,
+    Rule::P4,
+    Rule::P5,
+    Rule::P6,
+    Rule::P7,
+    Rule::P8,
+    Rule::M1,
+    Rule::M2,
+    Rule::M3,
+    Rule::X1,
+];
+
+/// The rule that a report calls so, in any case of its letters.
 fn rule_named(name: &str) -> Option<Rule> {
-    let rule = match name.as_bytes() {
-        b"F1" => Rule::F1,
-        b"F2" => Rule::F2,
-        b"F3" => Rule::F3,
-        b"F4" => Rule::F4,
-        b"F5" => Rule::F5,
-        b"F6" => Rule::F6,
-        b"F7" => Rule::F7,
-        b"F8" => Rule::F8,
-        b"F9" => Rule::F9,
-        b"F10" => Rule::F10,
-        b"U1" => Rule::U1,
-        b"S1" => Rule::S1,
-        b"S2" => Rule::S2,
-        b"S3" => Rule::S3,
-        b"S4" => Rule::S4,
-        b"S5" => Rule::S5,
-        b"S6" => Rule::S6,
-        b"S7" => Rule::S7,
-        b"S8" => Rule::S8,
-        b"S9" => Rule::S9,
-        b"P1" => Rule::P1,
-        b"P2" => Rule::P2,
-        b"P3" => Rule::P3,
-        b"P4" => Rule::P4,
-        b"P5" => Rule::P5,
-        b"P6" => Rule::P6,
-        b"P7" => Rule::P7,
-        b"P8" => Rule::P8,
-        b"M1" => Rule::M1,
-        b"M2" => Rule::M2,
-        b"M3" => Rule::M3,
-        b"X1" => Rule::X1,
-        _ => return None,
-    };
-    Some(rule)
+    RULES
+        .iter()
+        .copied()
+        .find(|rule| rule_text(*rule).eq_ignore_ascii_case(name))
 }
 
 /// The entry of a rule.
@@ -135,10 +140,37 @@ fn refusal_entry(code: u64) -> Option<&'static str> {
     Some(entry)
 }
 
-/// The entry of the rule with this name, or of the refusal with this code in decimal; None for any other word.
+/// The entry of the rule with this name in any case, or of the refusal with this code in decimal; None for any other word.
 pub(crate) fn entry_of(word: &str) -> Option<&'static str> {
     match rule_named(word) {
         Some(rule) => Some(rule_entry(rule)),
         None => refusal_entry(decimal(word.as_bytes(), MOST_CODE)?),
     }
+}
+
+/// Puts the first line of an entry behind a text.
+fn push_title(text: &mut String, entry: &str) -> Result<(), AllocError> {
+    let title = entry.lines().next().unwrap_or("");
+    text.push_str(title)?;
+    text.push('\n')
+}
+
+/// Puts the first line of each refusal's entry behind a text.
+fn push_refusals(text: &mut String) -> Result<(), AllocError> {
+    for code in 0..=MOST_CODE {
+        if let Some(entry) = refusal_entry(code) {
+            push_title(text, entry)?;
+        }
+    }
+    Ok(())
+}
+
+/// The first line of each entry: those of the rules, then those of the refusals.
+pub(crate) fn titles(alloc: Global) -> Result<String, AllocError> {
+    let mut text = String::new(alloc);
+    for rule in &RULES {
+        push_title(&mut text, rule_entry(*rule))?;
+    }
+    push_refusals(&mut text)?;
+    Ok(text)
 }

@@ -1,6 +1,7 @@
 //! The program without its process: its words, its files, and what it writes.
 #![tactic(auto)]
 
+mod denial;
 mod explain;
 mod fault;
 mod files;

@@ -33,6 +33,16 @@ B or N, or B where it is N. On a strict link it must say just what its client he
 
 Rows: cpu0 1 2 P2. Run: rows/cases/release_of_what_was_never_held.
 
+A lawful design may have this row too. An Acquire lowers what its client can hold to what it
+grows from, as soon as it is accepted, and in one cycle the order is A to E. So a ProbeAck that
+waits on C has the row where an Acquire of what it keeps is accepted before it, or in its cycle:
+
+    14 A 7 2 6 0 1000 ff 0
+    16 C 4 0 6 0 1000 0
+
+This is AcquirePerm BtoT, and the ProbeAck TtoB that waited. Nothing follows from it; on a
+strict link the Acquire has P1. Run: rows/cases/acquire_before_the_probe_ack_that_waits.
+
 - Topic: permission transitions.
 - Designs: a block is written back after a Probe has taken it; a block is released twice; the
   param comes from the Probe and not from the state of the line.
@@ -150,6 +160,16 @@ on the block.
 
 Rows: cpu0 1 3 P8. Run: rows/cases/acquire_before_the_release_ack.
 
+A lawful design may have this row too. In one cycle the order is A to E, so a Release is still
+open for the beats on A, B and C in the cycle of its ReleaseAck. A cache that takes the
+ReleaseAck and sends an Acquire or a ProbeAck of the block in the same cycle has the row:
+
+    12 A 6 1 6 0 1000 ff 0
+    12 D 6 0 6 0 0 0 0
+
+This is AcquireBlock NtoT, and the ReleaseAck. Nothing follows from it. Run:
+rows/cases/acquire_in_the_cycle_of_the_release_ack.
+
 - Topic: own profile, after the concurrency rules.
 - Designs: a miss does not look into the write-back queue; a Probe of a block in that queue is
   answered at once and not after the ReleaseAck.
@@ -219,6 +239,16 @@ A Probe comes while any client of the manager has a Grant without its GrantAck o
     end
 
 Rows: cpu0 1 4 M3. Run: rows/cases/probe_before_the_grant_ack.
+
+A lawful design may have this row too. In one cycle the order is A to E over all clients, so a
+Grant is still open for the beats on B in the cycle of its GrantAck. A manager that takes the
+GrantAck and sends a Probe of the block in the same cycle has the row:
+
+    12 B 6 2 6 0 1000 ff 0
+    12 E 1
+
+This is ProbeBlock toN, and the GrantAck. Nothing follows from it. Run:
+rows/cases/probe_in_the_cycle_of_the_grant_ack.
 
 - Topic: own profile, after the concurrency rules.
 - Designs: a manager begins the next transfer of a block when the Grant is sent, and not at its

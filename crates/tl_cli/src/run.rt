@@ -3,11 +3,13 @@
 ghost use Rattle.std.specs.Prelude.{◌≡◌, ◌<◌, ◌≤◌, ◌^◌};
 ghost use Rattle.tl_cli.specs.Status.{status_of};
 
+use crate::denial::Denial;
+use crate::explain::titles;
 use crate::fault::Fault;
 use crate::files::{fault_of, fragments_of, script_of, topology_of};
 use crate::monitors::{attached_in, settlement_lines};
 use crate::showing::{show_audit, show_once, show_script};
-use crate::words::{Command, not_utf8, read_words};
+use crate::words::{Command, How, not_utf8, read_words};
 use clap::error::ErrorKind;
 use std::alloc::Global;
 use std::io;
@@ -54,24 +56,41 @@ fn report_of(rows: u64) -> Outcome {
     }
 }
 
+/// How a command ends that has no fault.
+enum Ending {
+    /// As its run came out.
+    Came(Outcome),
+    /// It is denied.
+    Denied(Denial),
+}
+
+/// How a run ends that came to this, and that is denied or not.
+fn ending_of(outcome: Outcome, denial: Option<Denial>) -> Ending {
+    match denial {
+        Some(denial) => Ending::Denied(denial),
+        None => Ending::Came(outcome),
+    }
+}
+
 /// The report of files' fragments.
 fn once_of_files<R: Files + AllocGlobal, O: ByteOut>(
     rt: &R,
     topology: &str,
     fragments: &[&str],
-    show: bool,
+    how: How,
     out: &mut O,
-) -> Result<Outcome, Fault>
+) -> Result<Ending, Fault>
     requires { O.failure_count out.old < 2 ^ 63 }
 {
     let topo = topology_of(rt, topology)?;
     let fragments = fragments_of(rt, fragments)?;
-    let rows = if show {
+    let rows = if how.show {
         show_once(rt.alloc(), &topo, &fragments, out)?
     } else {
         run_once(rt.alloc(), &topo, &fragments, out)?
     };
-    Ok(report_of(rows))
+    let denial = how.deny.of_fragments(&fragments);
+    Ok(ending_of(report_of(rows), denial))
 }
 
 /// The run of a script with the monitors that it attaches, and behind a run that did not stop what each of them told. So many
@@ -122,15 +141,20 @@ fn run_of_files<R: Files + Threads + Wait + Sync + AllocGlobal, O: ByteOut>(
     topology: &str,
     script: &str,
     workers: u8,
-    show: bool,
+    how: How,
     out: &mut O,
-) -> Result<Outcome, Fault>
+) -> Result<Ending, Fault>
     requires workers { workers ≤ 16 }
     requires out { O.failure_count out.old < 2 ^ 63 }
 {
     let topo = topology_of(rt, topology)?;
     let script = script_of(rt, script)?;
-    run_of_script(rt, &topo, &script, workers, show, out)
+    let outcome = run_of_script(rt, &topo, &script, workers, how.show, out)?;
+    if outcome.stop.is_some() {
+        return Ok(Ending::Came(outcome));
+    }
+    let denial = how.deny.of_run(rt.alloc(), &topo, &script)?;
+    Ok(ending_of(outcome, denial))
 }
 
 /// What checking everything anew finds behind so many accepted edits of a file's script.
@@ -139,19 +163,20 @@ fn audit_of_files<R: Files + AllocGlobal, O: ByteOut>(
     topology: &str,
     script: &str,
     edit: u64,
-    show: bool,
+    how: How,
     out: &mut O,
-) -> Result<Outcome, Fault>
+) -> Result<Ending, Fault>
     requires { O.failure_count out.old < 2 ^ 63 }
 {
     let topo = topology_of(rt, topology)?;
     let script = script_of(rt, script)?;
-    let rows = if show {
+    let rows = if how.show {
         show_audit(rt.alloc(), &topo, &script, edit, out)?
     } else {
         audit_script(rt.alloc(), &topo, &script, edit, out)?
     };
-    Ok(report_of(rows))
+    let denial = how.deny.of_audit(rt.alloc(), &topo, &script, edit)?;
+    Ok(ending_of(report_of(rows), denial))
 }
 
 /// The run of a script behind its topology's text.
@@ -159,7 +184,7 @@ fn run_of_input<R: Threads + Wait + Sync + AllocGlobal, I: ByteIn, O: ByteOut>(
     rt: &R,
     input: &mut I,
     out: &mut O,
-) -> Result<Outcome, Fault>
+) -> Result<Ending, Fault>
     requires reads { I.read_count input.old < 2 ^ 63 }
     requires failures { I.failure_count input.old < 2 ^ 63 }
     requires out { O.failure_count out.old < 2 ^ 63 }
@@ -167,7 +192,8 @@ fn run_of_input<R: Threads + Wait + Sync + AllocGlobal, I: ByteIn, O: ByteOut>(
     let alloc = rt.alloc();
     let text = read_text(alloc, input, MOST_INPUT)?;
     let (topo, used) = read_topo(alloc, &text)?;
-    run_of_script(rt, &topo, &text[used..], 0, false, out)
+    let outcome = run_of_script(rt, &topo, &text[used..], 0, false, out)?;
+    Ok(Ending::Came(outcome))
 }
 
 /// Tells of a fault in one line; that this can't be written changes nothing.
@@ -176,6 +202,17 @@ fn tell<E: ByteOut>(alloc: Global, err: &mut E, fault: Fault) -> u8
     ensures { result ≡ 2 }
 {
     if let Ok(line) = format!(in alloc; "{fault}\n") {
+        let _ = write_all(err, line.as_bytes());
+    }
+    FAULT
+}
+
+/// Tells in one line why a run is denied; that this can't be written changes nothing.
+fn tell_denial<E: ByteOut>(alloc: Global, err: &mut E, denial: Denial) -> u8
+    requires { E.failure_count err.old < 2 ^ 63 }
+    ensures { result ≡ 2 }
+{
+    if let Ok(line) = format!(in alloc; "{denial}\n") {
         let _ = write_all(err, line.as_bytes());
     }
     FAULT
@@ -191,10 +228,10 @@ fn sentence_of<R: Files + AllocGlobal>(
         Command::Once {
             topology,
             fragments,
-            show,
-        } if *show => fault_of(rt, fault, *topology, fragments),
-        Command::Run { topology, show, .. } if *show => fault_of(rt, fault, *topology, &[]),
-        Command::Audit { topology, show, .. } if *show => fault_of(rt, fault, *topology, &[]),
+            how,
+        } if how.show => fault_of(rt, fault, *topology, fragments),
+        Command::Run { topology, how, .. } if how.show => fault_of(rt, fault, *topology, &[]),
+        Command::Audit { topology, how, .. } if how.show => fault_of(rt, fault, *topology, &[]),
         _ => Ok(None),
     }
 }
@@ -232,6 +269,26 @@ fn tell_text<O: ByteOut, E: ByteOut>(alloc: Global, out: &mut O, err: &mut E, te
     match write_all(out, text.as_bytes()) {
         Ok(()) => NO_ROWS,
         Err(_) => tell(alloc, err, Fault::WRITE),
+    }
+}
+
+/// Writes an entry that was asked for, or where none was the first line of each.
+fn tell_entry<O: ByteOut, E: ByteOut>(
+    alloc: Global,
+    out: &mut O,
+    err: &mut E,
+    entry: Option<&'static str>,
+) -> u8
+    requires out { O.failure_count out.old < 2 ^ 63 }
+    requires err { E.failure_count err.old < 2 ^ 63 }
+    ensures { result ≤ 2 }
+{
+    if let Some(entry) = entry {
+        return tell_text(alloc, out, err, entry);
+    }
+    match titles(alloc) {
+        Ok(text) => tell_text(alloc, out, err, text.as_str()),
+        Err(_) => tell(alloc, err, Fault::MEMORY),
     }
 }
 
@@ -305,36 +362,37 @@ pub fn run_words<R: Files + Threads + Wait + Sync + AllocGlobal, I: ByteIn, O: B
         Ok(command) => command,
         Err(error) => return tell_words(rt.alloc(), out, err, &error),
     };
-    let outcome = match &command {
+    let ending = match &command {
         Command::Input => run_of_input(rt, input, out),
         Command::Once {
             topology,
             fragments,
-            show,
-        } => once_of_files(rt, *topology, fragments, *show, out),
+            how,
+        } => once_of_files(rt, *topology, fragments, *how, out),
         Command::Run {
             topology,
             script,
             workers,
-            show,
+            how,
         } => run_of_files(
             rt,
             *topology,
             *script,
             (*workers).min(MOST_WORKERS),
-            *show,
+            *how,
             out,
         ),
         Command::Audit {
             topology,
             script,
             edit,
-            show,
-        } => audit_of_files(rt, *topology, *script, *edit, *show, out),
-        Command::Explain { entry } => return tell_text(rt.alloc(), out, err, *entry),
+            how,
+        } => audit_of_files(rt, *topology, *script, *edit, *how, out),
+        Command::Explain { entry } => return tell_entry(rt.alloc(), out, err, *entry),
     };
-    match outcome {
-        Ok(outcome) => status_of(outcome),
+    match ending {
+        Ok(Ending::Came(outcome)) => status_of(outcome),
+        Ok(Ending::Denied(denial)) => tell_denial(rt.alloc(), err, denial),
         Err(fault) => tell_fault(rt, err, fault, &command),
     }
 }

@@ -1,10 +1,20 @@
 //! The words of the command line.
 
+use crate::denial::Deny;
 use crate::explain::entry_of;
 use clap::builder::ValueParser;
 use clap::error::ErrorKind;
 use clap::{Arg, ArgAction, ArgMatches, Error};
 use std::alloc::Global;
+
+/// How a command is to be done.
+#[derive(Clone, Copy, Debug)]
+pub(crate) struct How {
+    /// Whether rows are shown.
+    pub(crate) show: bool,
+    /// What is a fault besides.
+    pub(crate) deny: Deny,
+}
 
 /// What the words ask for.
 #[derive(Debug, Drop)]
@@ -15,25 +25,25 @@ pub(crate) enum Command<'a> {
     Once {
         topology: &'a str,
         fragments: Vec<&'a str>,
-        show: bool,
+        how: How,
     },
     /// The run of a script, from files.
     Run {
         topology: &'a str,
         script: &'a str,
         workers: u8,
-        show: bool,
+        how: How,
     },
     /// What the first edits of a script leave, from files.
     Audit {
         topology: &'a str,
         script: &'a str,
         edit: u64,
-        show: bool,
+        how: How,
     },
-    /// The entry of a rule or of a refusal.
+    /// The entry of a rule or of a refusal, or without one the first line of each.
     Explain {
-        entry: &'static str,
+        entry: Option<&'static str>,
     },
 }
 
@@ -73,6 +83,21 @@ fn show<'a>(alloc: Global) -> Arg<'a> {
         .help("Puts behind each row its beat in words and the earlier beat that makes it so")
 }
 
+/// What can be denied.
+const DENIED: &[&str] = &["refused", "empty"];
+
+fn deny<'a>(alloc: Global) -> Arg<'a> {
+    Arg::new(alloc, "deny")
+        .long("deny")
+        .value_name("WHAT")
+        .action(ArgAction::Append)
+        .value_parser(DENIED)
+        .hide_possible_values(true)
+        .help(
+            "Ends with status 2 where an edit or a report was refused (refused) or no beat was checked (empty)",
+        )
+}
+
 fn once<'a>(alloc: Global) -> Result<clap::Command<'a>, Error> {
     let fragments = word(
         alloc,
@@ -86,7 +111,8 @@ fn once<'a>(alloc: Global) -> Result<clap::Command<'a>, Error> {
         .after_help(ONCE_EXAMPLE)
         .arg(topology(alloc))?
         .arg(fragments)?
-        .arg(show(alloc))?;
+        .arg(show(alloc))?
+        .arg(deny(alloc))?;
     Ok(once)
 }
 
@@ -103,7 +129,8 @@ fn run<'a>(alloc: Global) -> Result<clap::Command<'a>, Error> {
         .arg(topology(alloc))?
         .arg(script(alloc))?
         .arg(workers)?
-        .arg(show(alloc))?;
+        .arg(show(alloc))?
+        .arg(deny(alloc))?;
     Ok(run)
 }
 
@@ -120,15 +147,14 @@ fn audit<'a>(alloc: Global) -> Result<clap::Command<'a>, Error> {
         .arg(topology(alloc))?
         .arg(script(alloc))?
         .arg(edit)?
-        .arg(show(alloc))?;
+        .arg(show(alloc))?
+        .arg(deny(alloc))?;
     Ok(audit)
 }
 
 fn explain<'a>(alloc: Global) -> Result<clap::Command<'a>, Error> {
-    let word = word(
-        alloc,
-        "WORD",
-        "Name of a rule, as in the last word of a row, or code of a refusal",
+    let word = Arg::new(alloc, "WORD").action(ArgAction::Set).help(
+        "Name of a rule, in any case, or code of a refusal; without it all are listed, one line each",
     );
     let explain = clap::Command::new(alloc, "explain")
         .about("Says what a rule or a refusal means, and what to look at")
@@ -160,7 +186,7 @@ const RUN_EXAMPLE: &str = "Example: tlcheck run examples/one_manager.topo exampl
 const AUDIT_EXAMPLE: &str =
     "Example: tlcheck audit examples/one_manager.topo examples/edits.script 2";
 
-const EXPLAIN_EXAMPLE: &str = "Examples: tlcheck explain P2, tlcheck explain 12";
+const EXPLAIN_EXAMPLE: &str = "Examples: tlcheck explain, tlcheck explain P2, tlcheck explain 12";
 
 const HELP: &str =
     "tlcheck once TOPO FRAGMENT.. checks the fragments of a capture together, from files: TOPO is a topology text \
@@ -174,6 +200,25 @@ or `tlcheck: CODE NUMBER`, or a script that stops, told as its last line on stan
 tlcheck explain CODE says more.\n\n\
 Example: cat examples/one_manager.topo examples/edits.script | tlcheck";
 
+/// Whether this is denied.
+fn is_denied(found: &ArgMatches<'_>, what: &str) -> bool {
+    match found.get_strs("deny") {
+        Some(all) => all.iter().any(|word| *word == what),
+        None => false,
+    }
+}
+
+/// How the words want a command to be done.
+fn how_asked(found: &ArgMatches<'_>) -> How {
+    How {
+        show: found.get_flag("show"),
+        deny: Deny {
+            refused: is_denied(found, "refused"),
+            empty: is_denied(found, "empty"),
+        },
+    }
+}
+
 /// The fragments that the words of `once` name.
 fn once_asked<'a>(alloc: Global, found: &ArgMatches<'a>) -> Result<Command<'a>, Error> {
     let mut fragments = Vec::new(alloc);
@@ -183,7 +228,7 @@ fn once_asked<'a>(alloc: Global, found: &ArgMatches<'a>) -> Result<Command<'a>, 
     Ok(Command::Once {
         topology: found.get_str("TOPO").unwrap_or(""),
         fragments,
-        show: found.get_flag("show"),
+        how: how_asked(found),
     })
 }
 
@@ -194,7 +239,7 @@ fn run_asked<'a>(found: &ArgMatches<'a>) -> Command<'a> {
         topology: found.get_str("TOPO").unwrap_or(""),
         script: found.get_str("SCRIPT").unwrap_or(""),
         workers: u8::try_from(workers).unwrap_or(0),
-        show: found.get_flag("show"),
+        how: how_asked(found),
     }
 }
 
@@ -204,22 +249,24 @@ fn audit_asked<'a>(found: &ArgMatches<'a>) -> Command<'a> {
         topology: found.get_str("TOPO").unwrap_or(""),
         script: found.get_str("SCRIPT").unwrap_or(""),
         edit: found.get_one("EDIT").unwrap_or(0),
-        show: found.get_flag("show"),
+        how: how_asked(found),
     }
 }
 
-/// The entry that the words of `explain` name; another word is refused.
+/// The entry that the words of `explain` name, or none; another word is refused.
 fn explain_asked<'a>(
     alloc: Global,
     program: &mut clap::Command<'a>,
     found: &ArgMatches<'a>,
 ) -> Result<Command<'a>, Error> {
-    let word = found.get_str("WORD").unwrap_or("");
+    let Some(word) = found.get_str("WORD") else {
+        return Ok(Command::Explain { entry: None });
+    };
     let Some(entry) = entry_of(word) else {
         let text = format!(in alloc; "'{word}' is no rule and no code of a refusal")?;
         return Err(program.error(ErrorKind::InvalidValue, text.as_str())?);
     };
-    Ok(Command::Explain { entry })
+    Ok(Command::Explain { entry: Some(entry) })
 }
 
 /// The command that the words name; the first word is the program's own.

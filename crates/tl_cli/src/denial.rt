@@ -1,0 +1,156 @@
+//! What `--deny` makes a fault: that something was refused, or that no beat was checked.
+
+use std::alloc::Global;
+use std::fmt;
+use std::sync::Arc;
+use tl_beats::Fragment;
+use tl_run::{AuditFault, log_of};
+use tl_script::{Command, read_command};
+use tl_topology::Topo;
+
+/// The most reports of a script; a further one is refused.
+const MOST_REPORTS: u64 = 65_536;
+
+/// What is denied.
+#[derive(Clone, Copy, Debug)]
+pub(crate) struct Deny {
+    /// That an edit or a report is refused.
+    pub(crate) refused: bool,
+    /// That no beat is checked.
+    pub(crate) empty: bool,
+}
+
+/// Why a run is denied.
+#[derive(Clone, Copy, Debug)]
+pub(crate) enum Denial {
+    /// An edit or a report was refused.
+    Refused,
+    /// No beat was checked.
+    Empty,
+}
+
+impl fmt::Display for Denial {
+    fn fmt<W: fmt::Write>(&self, f: &mut fmt::Formatter<W>) -> fmt::Result {
+        match self {
+            Denial::Refused => f.write_str("tlcheck: denied: an edit or a report was refused"),
+            Denial::Empty => f.write_str("tlcheck: denied: no beat was checked"),
+        }
+    }
+}
+
+/// What the commands of a script ask for.
+#[derive(Clone, Copy)]
+struct Asked {
+    /// How many edits.
+    edits: u64,
+    /// How many reports.
+    reports: u64,
+    /// How many bytes of the script stand before what no report looks at.
+    checked: usize,
+}
+
+/// What the commands of a script ask for, up to its end or its first bad command.
+fn asked_in(script: &[u8]) -> Asked {
+    let mut asked = Asked {
+        edits: 0,
+        reports: 0,
+        checked: 0,
+    };
+    let mut rest = script;
+    let mut used = 0_usize;
+    for _ in 0..u64::MAX {
+        let Some((command, taken)) = read_command(rest).ok().flatten() else {
+            return asked;
+        };
+        rest = &rest[taken..];
+        used = used.saturating_add(taken);
+        if matches!(command, Command::Publish) {
+            asked.reports = asked.reports.saturating_add(1);
+            asked.checked = used;
+        } else {
+            asked.edits = asked.edits.saturating_add(1);
+        }
+    }
+    asked
+}
+
+/// Whether an edit of a script is refused.
+fn is_edit_refused(
+    alloc: Global,
+    topo: &Topo,
+    script: &[u8],
+    asked: Asked,
+) -> Result<bool, AuditFault> {
+    let log = log_of(alloc, topo, script)?;
+    Ok(asked.edits > log.len())
+}
+
+/// Whether what a script leaves, or its first so many accepted edits, has no beat.
+fn has_no_beat(
+    alloc: Global,
+    topo: &Topo,
+    script: &[u8],
+    edit: Option<u64>,
+) -> Result<bool, AuditFault> {
+    let log = log_of(alloc, topo, script)?;
+    let inputs = log.inputs_at(alloc, edit.unwrap_or(log.len()))?;
+    let present = inputs.present();
+    for link in 0..u16::MAX {
+        if usize::from(link) >= topo.link_count() {
+            return Ok(true);
+        }
+        if !present.windows(alloc, &[link])?.is_empty() {
+            return Ok(false);
+        }
+    }
+    Ok(true)
+}
+
+impl Deny {
+    /// Why a report of these fragments is denied. None of them was refused.
+    pub(crate) fn of_fragments(self, fragments: &[Arc<Fragment>]) -> Option<Denial> {
+        let is_empty = fragments.iter().all(|fragment| fragment.beats().is_empty());
+        if self.empty && is_empty {
+            Some(Denial::Empty)
+        } else {
+            None
+        }
+    }
+
+    /// Why a run of a script that doesn't stop is denied: an edit or a report was refused, or its last report saw no beat.
+    pub(crate) fn of_run(
+        self,
+        alloc: Global,
+        topo: &Topo,
+        script: &[u8],
+    ) -> Result<Option<Denial>, AuditFault> {
+        let asked = asked_in(script);
+        if self.refused
+            && (asked.reports > MOST_REPORTS || is_edit_refused(alloc, topo, script, asked)?)
+        {
+            return Ok(Some(Denial::Refused));
+        }
+        let checked = script.get(..asked.checked).unwrap_or(script);
+        if self.empty && has_no_beat(alloc, topo, checked, None)? {
+            return Ok(Some(Denial::Empty));
+        }
+        Ok(None)
+    }
+
+    /// Why an audit of a script that doesn't stop is denied: an edit of the script was refused, or what is audited has no beat.
+    pub(crate) fn of_audit(
+        self,
+        alloc: Global,
+        topo: &Topo,
+        script: &[u8],
+        edit: u64,
+    ) -> Result<Option<Denial>, AuditFault> {
+        if self.refused && is_edit_refused(alloc, topo, script, asked_in(script))? {
+            return Ok(Some(Denial::Refused));
+        }
+        if self.empty && has_no_beat(alloc, topo, script, Some(edit))? {
+            return Ok(Some(Denial::Empty));
+        }
+        Ok(None)
+    }
+}

@@ -11,7 +11,7 @@ returns-in-Taken g c =
     let done = c.args.done in
     let q = c.hand_in-pass.result.0 in
     let made = subst (λ h. HandsIn p done h q) c.in-Taken.is c.hand_in-pass.ensures in
-    came_taken (done_ticket done) (done_window done) c.piece.result p q c.piece.ensures (ComesTo done answer.Taken) made
+    came_taken (done_ticket done) (done_window done) c.piece-piece.result p q c.piece-piece.ensures (ComesTo done answer.Taken) made
 
 pub returns-in-Void : goal.returns-in-Void
 returns-in-Void g c =
@@ -19,7 +19,7 @@ returns-in-Void g c =
     let done = c.args.done in
     let q = c.hand_in-pass.result.0 in
     let made = subst (λ h. HandsIn p done h q) c.in-Void.is c.hand_in-pass.ensures in
-    came_void (done_ticket done) (done_window done) c.piece.result p q c.piece.ensures (ComesTo done answer.Void) made
+    came_void (done_ticket done) (done_window done) c.piece-piece.result p q c.piece-piece.ensures (ComesTo done answer.Void) made
 
 pub returns-in-Stranger : goal.returns-in-Stranger
 returns-in-Stranger g c =
@@ -27,4 +27,4 @@ returns-in-Stranger g c =
     let done = c.args.done in
     let q = c.hand_in-pass.result.0 in
     let look = subst (λ h. HandsIn p done h q) c.in-Stranger.is c.hand_in-pass.ensures in
-    came_strange (done_ticket done) (done_window done) c.piece.result p q c.piece.ensures (IsStranger (job_of done)) look.1
+    came_strange (done_ticket done) (done_window done) c.piece-piece.result p q c.piece-piece.ensures (IsStranger (job_of done)) look.1

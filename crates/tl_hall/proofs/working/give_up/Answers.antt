@@ -12,7 +12,7 @@ returns-in-Ok g c =
     let job = c.args.job in
     let q = c.abandon-pass.result.0 in
     let made = subst (λ x. OnOk x (Made p (call.Abandon (ticket_of job) (window_of job)) (IsAbandoned job) q)) c.in-Ok.is c.abandon-pass.ensures.ok in
-    came_abandoned (ticket_of job) (window_of job) c.piece.result p q c.piece.ensures (IsAbandoned job) made
+    came_abandoned (ticket_of job) (window_of job) c.piece-piece.result p q c.piece-piece.ensures (IsAbandoned job) made
 
 pub returns-in-Err : goal.returns-in-Err
 returns-in-Err g c =
@@ -20,4 +20,4 @@ returns-in-Err g c =
     let job = c.args.job in
     let q = c.abandon-pass.result.0 in
     let look = subst (λ x. OnErr x (Looked p (IsStranger job) q)) c.in-Err.is c.abandon-pass.ensures.err in
-    came_lost (ticket_of job) (window_of job) c.piece.result p q c.piece.ensures (IsStranger job) look
+    came_lost (ticket_of job) (window_of job) c.piece-piece.result p q c.piece-piece.ensures (IsStranger job) look

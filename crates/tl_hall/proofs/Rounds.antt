@@ -1,52 +1,29 @@
 -- Rounds of a worker, one after the other.
-use Rattle.std.proofs.Common.{◌≡◌, ℕ, ◌+◌, ◌≤◌, true, false, List, [], ◌∷◌, ◌++◌, sym, refl, ap, ◌∙◌, subst, arith, append_assoc, append-nil}
+use Rattle.std.proofs.Common.{◌≡◌, ℕ, ◌+◌, ◌≤◌, true, false, List, [], ◌∷◌, ◌++◌, map, Option, Some, None, sym, refl, ap, ◌∙◌, subst, arith, append_assoc, append-nil}
+use Rattle.std.specs.Option.{option_map_or}
 use mathlib.Core.List.{IsPrefix}
 use Rattle.tl_tickets.specs.declared.piece.Piece.{Piece}
+use Rattle.tl_tickets.specs.declared.piece.Piece.TheVariants as piece
+use Rattle.tl_watches.specs.Tasks.{WatchTaskData}
+use Rattle.tl_jobs.specs.Jobs.{JobData, piece_of}
+use Rattle.tl_jobs.specs.Works.{ticket_of, window_of, ComesBack}
+use Rattle.tl_jobs.specs.declared.fault.TakeFault.{TakeFault}
+use Rattle.tl_jobs.specs.declared.job.Job.{Job}
+use Rattle.tl_jobs.specs.declared.job.Job.TheVariants as job
 use Rattle.tl_desk.specs.Core.{Core}
 use Rattle.tl_desk.specs.declared.call.Call.{Call}
 use Rattle.tl_desk.specs.declared.call.Call.TheVariants as call
 use Rattle.tl_hall.specs.declared.entry.Entry.{Entry}
+use Rattle.tl_hall.specs.declared.working.Round.{Round}
+use Rattle.tl_hall.specs.declared.working.Round.TheVariants as round
 use Rattle.tl_hall.specs.declared.working.WorkCount.{WorkCount}
 use Rattle.tl_hall.specs.History.{entry, own}
-use Rattle.tl_hall.specs.Passes.{PassData, Made, Looked}
-use Rattle.tl_hall.specs.Working.{IsOfWorker, AreOfWorker, one_take, one_taken, one_void, one_abandon, total, counted, nothing_done, Worked}
+use Rattle.tl_hall.specs.Passes.{PassData, Made, Looked, HasNone, IsUntaken}
+use Rattle.tl_hall.specs.Working.{AreOfWorker, one_take, one_taken, one_void, one_abandon, total, counted, nothing_done, Worked, window_in, back_in, calls_in, IsIdle, CameBack, WorkedOnce, counted_with}
 use Rattle.tl_hall.proofs.Histories.{prefix_self, prefix_trans, prefix_push}
 
 seen_more : (p q : PassData) (k : Call) (Told : Core → Core → Type 0) → Made p k Told q → IsPrefix p.seen q.seen
 seen_more p q k Told made = subst (IsPrefix p.seen) (sym made.now) (prefix_push p.seen made.before (entry p.number k ∷ []) made.saw)
-
--- A job comes back by a call.
-pub worked_one : (lost : ℕ) (p q : PassData) (k : Call) (Told : Core → Core → Type 0) (n m : WorkCount) → Made p k Told q → IsOfWorker k → 1 + one_take k ≡ one_taken k + one_void k + lost → one_abandon k ≤ lost
-    → m.taken ≡ counted n.taken (one_taken k) → m.void ≡ counted n.void (one_void k) → m.abandoned ≡ counted n.abandoned lost → Worked 1 p n q m
-worked_one lost p q k Told n m made is jobs among taken void abandoned = record {
-  same = made.same;
-  saw = seen_more p q k Told made;
-  added = entry p.number k ∷ [];
-  own_is = made.own_is;
-  only = (is, tt);
-  lost = lost;
-  jobs = omega (arith, jobs);
-  among = omega (arith, among);
-  taken = taken ∙ ap (counted n.taken) (let e : one_taken k ≡ one_taken k + 0 = omega arith in e);
-  void = void ∙ ap (counted n.void) (let e : one_void k ≡ one_void k + 0 = omega arith in e);
-  abandoned = abandoned;
-}
-
--- No call makes an entry, and those that were held are lost.
-pub worked_none : (held : ℕ) (p q : PassData) (Answer : Core → Type 0) (n m : WorkCount) → Looked p Answer q → m.taken ≡ counted n.taken 0 → m.void ≡ counted n.void 0 → m.abandoned ≡ counted n.abandoned held → Worked held p n q m
-worked_none held p q Answer n m look taken void abandoned = record {
-  same = look.same;
-  saw = look.saw;
-  added = [];
-  own_is = look.own_is ∙ sym (append-nil (own p.number p.seen));
-  only = tt;
-  lost = held;
-  jobs = omega arith;
-  among = omega arith;
-  taken = taken;
-  void = void;
-  abandoned = abandoned;
-}
 
 pub worked_start : (p : PassData) → Worked 0 p nothing_done p nothing_done
 worked_start p = record {
@@ -62,27 +39,6 @@ worked_start p = record {
   void = refl;
   abandoned = refl;
 }
-
--- A job is taken, and then all else is done.
-pub worked_behind : (p q r : PassData) (ticket : ℕ) (window : Piece) (Told : Core → Core → Type 0) (n m : WorkCount) → Made p (call.Take ticket window) Told q → Worked 1 q n r m → Worked 0 p n r m
-worked_behind p q r ticket window Told n m made b =
-    let took : List Entry = entry p.number (call.Take ticket window) ∷ [] in
-    let jobs : 1 + total one_take b.added ≡ total one_taken b.added + total one_void b.added + b.lost = b.jobs in
-    let among : total one_abandon b.added ≤ b.lost = b.among in
-    record {
-      same = (b.same.0 ∙ made.same.0, b.same.1 ∙ made.same.1, b.same.2 ∙ made.same.2, b.same.3 ∙ made.same.3);
-      saw = prefix_trans p.seen q.seen r.seen (seen_more p q (call.Take ticket window) Told made) b.saw;
-      added = took ++ b.added;
-      own_is = ap (λ (i : ℕ). own i r.seen) (sym made.same.2) ∙ b.own_is ∙ ap (λ (i : ℕ). own i q.seen ++ b.added) made.same.2 ∙ ap (λ (l : List Entry). l ++ b.added) made.own_is
-          ∙ append_assoc (own p.number p.seen) took b.added;
-      only = (tt, b.only);
-      lost = b.lost;
-      jobs = omega (arith, jobs);
-      among = omega (arith, among);
-      taken = b.taken ∙ ap (counted n.taken) (let e : total one_taken b.added ≡ 0 + total one_taken b.added = omega arith in e);
-      void = b.void ∙ ap (counted n.void) (let e : total one_void b.added ≡ 0 + total one_void b.added = omega arith in e);
-      abandoned = b.abandoned;
-    }
 
 both_work : (xs ys : List Entry) → AreOfWorker xs → AreOfWorker ys → AreOfWorker (xs ++ ys)
 both_work [] ys a b = b
@@ -123,6 +79,86 @@ worked_then p q r n m k a b =
 
 -- ---- what becomes of a job
 
+module _ (ticket : ℕ) (window piece : Piece) (p q : PassData) (is : piece ≡ window) where
+  back_by : (came : Round) (call : Piece → Call) (Told : Core → Core → Type 0) → window_in came ≡ Some piece → map (entry p.number) (back_in ticket came) ≡ entry p.number (call piece) ∷ [] → Made p (call window) Told q
+      → CameBack ticket window p came q
+  back_by came call Told some calls made = record {
+    same = made.same;
+    saw = seen_more p q (call window) Told made;
+    is = some ∙ ap (λ (w : Piece). Some w) is;
+    own_is = made.own_is ∙ ap (λ (w : Piece). own p.number p.seen ++ entry p.number (call w) ∷ []) (sym is) ∙ ap (λ (l : List Entry). own p.number p.seen ++ l) (sym calls);
+  }
+
+  forfeited : (came : Round) (Answer : Core → Type 0) → window_in came ≡ Some piece → map (entry p.number) (back_in ticket came) ≡ [] → Looked p Answer q → CameBack ticket window p came q
+  forfeited came Answer some calls look = record {
+    same = look.same;
+    saw = look.saw;
+    is = some ∙ ap (λ (w : Piece). Some w) is;
+    own_is = look.own_is ∙ sym (append-nil (own p.number p.seen)) ∙ ap (λ (l : List Entry). own p.number p.seen ++ l) (sym calls);
+  }
+
+  pub came_taken : (Told : Core → Core → Type 0) → Made p (call.HandIn ticket window true) Told q → CameBack ticket window p (round.Taken piece) q
+  came_taken Told made = back_by (round.Taken piece) (λ w. call.HandIn ticket w true) Told refl refl made
+
+  pub came_void : (Told : Core → Core → Type 0) → Made p (call.HandIn ticket window false) Told q → CameBack ticket window p (round.Void piece) q
+  came_void Told made = back_by (round.Void piece) (λ w. call.HandIn ticket w false) Told refl refl made
+
+  pub came_strange : (Answer : Core → Type 0) → Looked p Answer q → CameBack ticket window p (round.Strange piece) q
+  came_strange Answer look = forfeited (round.Strange piece) Answer refl refl look
+
+  pub came_abandoned : (Told : Core → Core → Type 0) → Made p (call.Abandon ticket window) Told q → CameBack ticket window p (round.Abandoned piece) q
+  came_abandoned Told made = back_by (round.Abandoned piece) (λ w. call.Abandon ticket w) Told refl refl made
+
+  pub came_lost : (Answer : Core → Type 0) → Looked p Answer q → CameBack ticket window p (round.Lost piece) q
+  came_lost Answer look = forfeited (round.Lost piece) Answer refl refl look
+
+-- A job that comes back is of the same ticket and window.
+same_job : {M : Type 0} (old new : Job M) → ComesBack old new → (ticket_of new ≡ ticket_of old) × (window_of new ≡ window_of old)
+same_job (job.Manager old) (job.Manager new) e = (ap (λ (j : JobData). j.ticket) e, ap (λ (j : JobData). piece_of j) e)
+same_job (job.Monitor old) (job.Monitor new) e = (e.ticket, ap (λ (t : WatchTaskData). piece.Monitor t.number t.window) e.task)
+same_job (job.Manager old) (job.Monitor new) e = absurd e
+same_job (job.Monitor old) (job.Manager new) e = absurd e
+
+pub came_as : {M : Type 0} (old new : Job M) (p q : PassData) (came : Round) → ComesBack old new → CameBack (ticket_of new) (window_of new) p came q → CameBack (ticket_of old) (window_of old) p came q
+came_as old new p q came back is =
+    let same = same_job old new back in
+    let there = subst (λ (t : ℕ). CameBack t (window_of new) p came q) same.0 is in
+    subst (λ (w : Piece). CameBack (ticket_of old) w p came q) same.1 there
+
+-- ---- one round
+
+never_idle : (p q : PassData) (window : Piece) (came : Round) → window_in came ≡ Some window → IsIdle p came q
+never_idle p q window round.NoWindow e = absurd (cc e)
+never_idle p q window (round.Refused fault) e = absurd (cc e)
+never_idle p q window (round.Taken w) e = tt
+never_idle p q window (round.Void w) e = tt
+never_idle p q window (round.Strange w) e = tt
+never_idle p q window (round.Abandoned w) e = tt
+never_idle p q window (round.Lost w) e = tt
+
+-- A job is taken, and comes back.
+pub once_behind : (p q r : PassData) (ticket : ℕ) (window : Piece) (came : Round) (Told : Core → Core → Type 0) → Made p (call.Take ticket window) Told q → CameBack ticket window q came r → WorkedOnce p came r
+once_behind p q r ticket window came Told made b =
+    let back : List Entry = map (entry p.number) (back_in ticket came) in
+    let number : q.number ≡ p.number = made.same.2 in
+    let behind : own p.number r.seen ≡ own p.number q.seen ++ back = subst (λ (n : ℕ). own n r.seen ≡ own n q.seen ++ map (entry n) (back_in ticket came)) number b.own_is in
+    let calls : map (entry p.number) (calls_in ticket came) ≡ entry p.number (call.Take ticket window) ∷ back =
+    ap (λ (o : Option Piece). map (entry p.number) (option_map_or (λ w. call.Take ticket w ∷ back_in ticket came) o [])) b.is in
+    record {
+      same = (b.same.0 ∙ made.same.0, b.same.1 ∙ made.same.1, b.same.2 ∙ made.same.2, b.same.3 ∙ made.same.3);
+      saw = prefix_trans p.seen q.seen r.seen (seen_more p q (call.Take ticket window) Told made) b.saw;
+      ticket = ticket;
+      own_is = behind ∙ ap (λ (l : List Entry). l ++ back) made.own_is ∙ append_assoc (own p.number p.seen) (entry p.number (call.Take ticket window) ∷ []) back
+          ∙ ap (λ (l : List Entry). own p.number p.seen ++ l) (sym calls);
+      idle = never_idle p r window came b.is;
+    }
+
+pub once_none : (p q : PassData) → Looked p HasNone q → WorkedOnce p round.NoWindow q
+once_none p q look = record { same = look.same; saw = look.saw; ticket = 0; own_is = look.own_is ∙ sym (append-nil (own p.number p.seen)); idle = look }
+
+pub once_refused : (p q : PassData) (fault : TakeFault) → Looked p (IsUntaken fault) q → WorkedOnce p (round.Refused fault) q
+once_refused p q fault look = record { same = look.same; saw = look.saw; ticket = 0; own_is = look.own_is ∙ sym (append-nil (own p.number p.seen)); idle = look }
+
 -- Each number has 64 bits.
 abbrev pub Fits : WorkCount → Type 0
 Fits n = (n.taken ≤ 18446744073709551615) × (n.void ≤ 18446744073709551615) × (n.abandoned ≤ 18446744073709551615)
@@ -130,22 +166,40 @@ Fits n = (n.taken ≤ 18446744073709551615) × (n.void ≤ 18446744073709551615)
 same_count : (n : ℕ) → n ≤ 18446744073709551615 → n ≡ counted n 0
 same_count n fits = omega (arith, fits)
 
-module _ (p q : PassData) (n m : WorkCount) (fits : Fits n) where
-  pub hand_in_taken : (ticket : ℕ) (window : Piece) (Told : Core → Core → Type 0) → Made p (call.HandIn ticket window true) Told q → m ≡ record n { taken = counted n.taken 1 } → Worked 1 p n q m
-  hand_in_taken ticket window Told made is =
-      worked_one 0 p q (call.HandIn ticket window true) Told n m made tt refl (omega arith) (ap (λ (w : WorkCount). w.taken) is) (ap (λ (w : WorkCount). w.void) is ∙ same_count n.void fits.1) (ap (λ (w : WorkCount). w.abandoned) is ∙ same_count n.abandoned fits.2)
+-- A round as it is counted: these are its entries, all of them a worker's, and so many jobs were lost.
+module _ (p q : PassData) (n : WorkCount) (fits : Fits n) where
+  counted_as : (came : Round) (w : WorkedOnce p came q) (lost : ℕ) → AreOfWorker (map (entry p.number) (calls_in w.ticket came))
+      → (let added = map (entry p.number) (calls_in w.ticket came) in (0 + total one_take added ≡ total one_taken added + total one_void added + lost) × (total one_abandon added ≤ lost)
+      × ((counted_with came n).taken ≡ counted n.taken (total one_taken added)) × ((counted_with came n).void ≡ counted n.void (total one_void added)) × ((counted_with came n).abandoned ≡ counted n.abandoned lost))
+      → Worked 0 p n q (counted_with came n)
+  counted_as came w lost only counts = record {
+    same = w.same;
+    saw = w.saw;
+    added = map (entry p.number) (calls_in w.ticket came);
+    own_is = w.own_is;
+    only = only;
+    lost = lost;
+    jobs = counts.0;
+    among = counts.1;
+    taken = counts.2;
+    void = counts.3;
+    abandoned = counts.4;
+  }
 
-  pub hand_in_void : (ticket : ℕ) (window : Piece) (Told : Core → Core → Type 0) → Made p (call.HandIn ticket window false) Told q → m ≡ record n { void = counted n.void 1 } → Worked 1 p n q m
-  hand_in_void ticket window Told made is =
-      worked_one 0 p q (call.HandIn ticket window false) Told n m made tt refl (omega arith) (ap (λ (w : WorkCount). w.taken) is ∙ same_count n.taken fits.0) (ap (λ (w : WorkCount). w.void) is) (ap (λ (w : WorkCount). w.abandoned) is ∙ same_count n.abandoned fits.2)
+  abbrev none_taken : n.taken ≡ counted n.taken 0
+  none_taken = same_count n.taken fits.0
 
-  pub abandon_made : (ticket : ℕ) (window : Piece) (Told : Core → Core → Type 0) → Made p (call.Abandon ticket window) Told q → m ≡ record n { abandoned = counted n.abandoned 1 } → Worked 1 p n q m
-  abandon_made ticket window Told made is =
-      worked_one 1 p q (call.Abandon ticket window) Told n m made tt refl (omega arith) (ap (λ (w : WorkCount). w.taken) is ∙ same_count n.taken fits.0) (ap (λ (w : WorkCount). w.void) is ∙ same_count n.void fits.1) (ap (λ (w : WorkCount). w.abandoned) is)
+  abbrev none_void : n.void ≡ counted n.void 0
+  none_void = same_count n.void fits.1
 
-  pub job_lost : (Answer : Core → Type 0) → Looked p Answer q → m ≡ record n { abandoned = counted n.abandoned 1 } → Worked 1 p n q m
-  job_lost Answer look is =
-      worked_none 1 p q Answer n m look (ap (λ (w : WorkCount). w.taken) is ∙ same_count n.taken fits.0) (ap (λ (w : WorkCount). w.void) is ∙ same_count n.void fits.1) (ap (λ (w : WorkCount). w.abandoned) is)
+  abbrev none_lost : n.abandoned ≡ counted n.abandoned 0
+  none_lost = same_count n.abandoned fits.2
 
-pub nothing_found : (p q : PassData) (n : WorkCount) (Answer : Core → Type 0) → Fits n → Looked p Answer q → Worked 0 p n q n
-nothing_found p q n Answer fits look = worked_none 0 p q Answer n n look (same_count n.taken fits.0) (same_count n.void fits.1) (same_count n.abandoned fits.2)
+  pub worked_round : (came : Round) → WorkedOnce p came q → Worked 0 p n q (counted_with came n)
+  worked_round round.NoWindow w = counted_as round.NoWindow w 0 tt (refl, omega arith, none_taken, none_void, none_lost)
+  worked_round (round.Refused fault) w = counted_as (round.Refused fault) w 0 tt (refl, omega arith, none_taken, none_void, none_lost)
+  worked_round (round.Taken window) w = counted_as (round.Taken window) w 0 (tt, (tt, tt)) (refl, omega arith, refl, none_void, none_lost)
+  worked_round (round.Void window) w = counted_as (round.Void window) w 0 (tt, (tt, tt)) (refl, omega arith, none_taken, refl, none_lost)
+  worked_round (round.Strange window) w = counted_as (round.Strange window) w 1 (tt, tt) (refl, omega arith, none_taken, none_void, refl)
+  worked_round (round.Abandoned window) w = counted_as (round.Abandoned window) w 1 (tt, (tt, tt)) (refl, omega arith, none_taken, none_void, refl)
+  worked_round (round.Lost window) w = counted_as (round.Lost window) w 1 (tt, tt) (refl, omega arith, none_taken, none_void, refl)

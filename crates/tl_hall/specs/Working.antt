@@ -1,12 +1,16 @@
 -- What a worker makes of its pass, and what it counts.
-use Rattle.std.specs.Prelude.{◌≡◌, ◌≤◌, ℕ, ◌+◌, min, true, false, List, [], ◌∷◌, ◌++◌}
+use Rattle.std.specs.Prelude.{◌≡◌, ◌≤◌, ℕ, ◌+◌, min, true, false, List, [], ◌∷◌, ◌++◌, map, Option, Some, None}
+use Rattle.std.specs.Option.{option_map_or}
 use mathlib.Core.List.{IsPrefix}
+use Rattle.tl_tickets.specs.declared.piece.Piece.{Piece}
 use Rattle.tl_desk.specs.declared.call.Call.{Call}
 use Rattle.tl_desk.specs.declared.call.Call.TheVariants as call
 use Rattle.tl_hall.specs.declared.entry.Entry.{Entry}
+use Rattle.tl_hall.specs.declared.working.Round.{Round}
+use Rattle.tl_hall.specs.declared.working.Round.TheVariants as round
 use Rattle.tl_hall.specs.declared.working.WorkCount.{WorkCount}
-use Rattle.tl_hall.specs.History.{own}
-use Rattle.tl_hall.specs.Passes.{PassData, IsSame}
+use Rattle.tl_hall.specs.History.{entry, own}
+use Rattle.tl_hall.specs.Passes.{PassData, Looked, HasNone, IsUntaken, IsSame}
 
 -- A worker takes, hands in and abandons, and makes no other call.
 abbrev pub IsOfWorker : Call → Type 0
@@ -69,3 +73,65 @@ pub record Worked (held : ℕ) (p : PassData) (before : WorkCount) (q : PassData
   pub taken : after.taken ≡ counted before.taken (total one_taken added)
   pub void : after.void ≡ counted before.void (total one_void added)
   pub abandoned : after.abandoned ≡ counted before.abandoned lost
+
+-- ---- one round
+
+-- the window that went out, if one did
+abbrev pub window_in : Round → Option Piece
+window_in round.NoWindow = None
+window_in (round.Refused fault) = None
+window_in (round.Taken window) = Some window
+window_in (round.Void window) = Some window
+window_in (round.Strange window) = Some window
+window_in (round.Abandoned window) = Some window
+window_in (round.Lost window) = Some window
+
+-- the call by which its job came back, if the hall knows it
+abbrev pub back_in : ℕ → Round → List Call
+back_in ticket round.NoWindow = []
+back_in ticket (round.Refused fault) = []
+back_in ticket (round.Taken window) = call.HandIn ticket window true ∷ []
+back_in ticket (round.Void window) = call.HandIn ticket window false ∷ []
+back_in ticket (round.Strange window) = []
+back_in ticket (round.Abandoned window) = call.Abandon ticket window ∷ []
+back_in ticket (round.Lost window) = []
+
+-- all calls of a round that made an entry
+abbrev pub calls_in : ℕ → Round → List Call
+calls_in ticket came = option_map_or (λ window. call.Take ticket window ∷ back_in ticket came) (window_in came) []
+
+-- Why no window went out: there was none, or the take was refused.
+abbrev pub IsIdle : PassData → Round → PassData → Type 0
+IsIdle p round.NoWindow q = Looked p HasNone q
+IsIdle p (round.Refused fault) q = Looked p (IsUntaken fault) q
+IsIdle p (round.Taken window) q = Unit {0}
+IsIdle p (round.Void window) q = Unit {0}
+IsIdle p (round.Strange window) q = Unit {0}
+IsIdle p (round.Abandoned window) q = Unit {0}
+IsIdle p (round.Lost window) q = Unit {0}
+
+-- A job of this ticket and window came back, or was forfeited: the pass has seen more, and its own entries are those that it had and that call.
+pub record CameBack (ticket : ℕ) (window : Piece) (p : PassData) (came : Round) (q : PassData) : Type 0 where
+  pub same : IsSame p q
+  pub saw : IsPrefix p.seen q.seen
+  pub is : window_in came ≡ Some window
+  pub own_is : own p.number q.seen ≡ own p.number p.seen ++ map (entry p.number) (back_in ticket came)
+
+-- One round: the pass has seen more, and its own entries are those that it had and the calls of the round, under one ticket. Where no window
+-- went out, it is true why.
+pub record WorkedOnce (p : PassData) (came : Round) (q : PassData) : Type 0 where
+  pub same : IsSame p q
+  pub saw : IsPrefix p.seen q.seen
+  pub ticket : ℕ
+  pub own_is : own p.number q.seen ≡ own p.number p.seen ++ map (entry p.number) (calls_in ticket came)
+  pub idle : IsIdle p came q
+
+-- what a worker counts of a round
+abbrev pub counted_with : Round → WorkCount → WorkCount
+counted_with round.NoWindow n = n
+counted_with (round.Refused fault) n = n
+counted_with (round.Taken window) n = record n { taken = counted n.taken 1 }
+counted_with (round.Void window) n = record n { void = counted n.void 1 }
+counted_with (round.Strange window) n = record n { abandoned = counted n.abandoned 1 }
+counted_with (round.Abandoned window) n = record n { abandoned = counted n.abandoned 1 }
+counted_with (round.Lost window) n = record n { abandoned = counted n.abandoned 1 }

@@ -13,4 +13,4 @@ mod working;
 pub use entry::{Entry, View};
 pub use hall::{Hall, Note, Pass};
 pub use rule::HallRule;
-pub use working::{Gate, WorkCount, worker};
+pub use working::{Gate, Round, WorkCount, work_once, worker};

@@ -1,12 +1,13 @@
 //! Workers, which take windows, check them, and hand them in.
 
 ghost use Rattle.std.specs.Prelude.{◌≡◌};
-ghost use Rattle.tl_hall.specs.Working.{Worked, counted, nothing_done};
+ghost use Rattle.tl_jobs.specs.Works.{ticket_of, window_of, done_ticket, done_window};
+ghost use Rattle.tl_hall.specs.Working.{Worked, WorkedOnce, CameBack, counted, counted_with, nothing_done};
 
 use crate::hall::{Hall, Pass};
 use std::alloc::Global;
 use std::sync::Wait;
-use tl_desk::{Done, HandIn, Job, work};
+use tl_desk::{Done, HandIn, Job, Piece, TakeFault, work};
 use tl_monitor::Monitor;
 
 /// What a worker tells as it works, and asks. Several workers may have the same gate.
@@ -19,6 +20,25 @@ pub trait Gate: Sync {
 
     /// Whether the worker is to go on. It asks before each round.
     fn go_on(&self) -> bool;
+}
+
+/// What came of one round of a worker.
+#[derive(Clone, Copy, Debug, PartialEq, Eq)]
+pub enum Round {
+    /// No window was to be taken.
+    NoWindow,
+    /// A window was to be taken, and that was refused.
+    Refused(TakeFault),
+    /// The window was checked and handed in, and its result taken.
+    Taken(Piece),
+    /// The window was checked and handed in, and its result stands for nothing any more.
+    Void(Piece),
+    /// The window was checked, and the hall doesn't know its job, which was forfeited.
+    Strange(Piece),
+    /// The window could not be checked for want of memory, and its job was abandoned.
+    Abandoned(Piece),
+    /// The same, and the hall doesn't know its job, which was forfeited.
+    Lost(Piece),
 }
 
 /// What became of the jobs that a worker took, each number up to the greatest of 64 bits.
@@ -56,6 +76,21 @@ impl WorkCount {
         let abandoned = self.abandoned.saturating_add(1);
         WorkCount { abandoned, ..self }
     }
+
+    /// One round more.
+    fn with(self, round: Round) -> WorkCount
+        ensures { result ≡ counted_with round self }
+    {
+        match round {
+            Round::NoWindow => self,
+            Round::Refused(_) => self,
+            Round::Taken(_) => self.one_taken(),
+            Round::Void(_) => self.one_void(),
+            Round::Strange(_) => self.one_abandoned(),
+            Round::Abandoned(_) => self.one_abandoned(),
+            Round::Lost(_) => self.one_abandoned(),
+        }
+    }
 }
 
 /// Takes windows, checks them outside the turn, and hands them in, for as long as the gate says so. Where no window is to be taken,
@@ -81,33 +116,33 @@ pub fn worker<R: Wait, M: Monitor, G: Gate>(
         if !gate.go_on() {
             return (pass, count);
         }
-        let (next, more) = round(rt, alloc, hall, pass, gate, count);
+        let (next, round) = work_once(rt, alloc, hall, pass, gate);
         pass = next;
-        count = more;
+        count = count.with(round);
     }
     unreachable!()
 }
 
-/// Takes one window, if there is one, and checks it.
-fn round<R: Wait, M: Monitor, G: Gate>(
+/// Takes the first window that is to be checked, if there is one, checks it outside the turn, and hands it in or gives it up, and
+/// answers what came of it. It waits for other threads.
+pub fn work_once<R: Wait, M: Monitor, G: Gate>(
     rt: &R,
     alloc: Global,
     hall: &Hall<M>,
     pass: Pass<M>,
     gate: &G,
-    count: WorkCount,
-) -> (Pass<M>, WorkCount)
+) -> (Pass<M>, Round)
     requires { pass.hall ≡ hall.now.hall }
-    ensures { Worked 0 pass count result.0 result.1 }
+    ensures { WorkedOnce pass result.1 result.0 }
 {
     let (pass, found) = hall.take(rt, alloc, pass);
     match found {
         Ok(Some(job)) => {
             gate.taken(job.ticket());
-            check(rt, alloc, hall, pass, gate, count, job)
+            check(rt, alloc, hall, pass, gate, job)
         }
-        Ok(None) => (pass, count),
-        Err(_) => (pass, count),
+        Ok(None) => (pass, Round::NoWindow),
+        Err(fault) => (pass, Round::Refused(fault)),
     }
 }
 
@@ -118,15 +153,14 @@ fn check<R: Wait, M: Monitor, G: Gate>(
     hall: &Hall<M>,
     pass: Pass<M>,
     gate: &G,
-    count: WorkCount,
     job: Job<M>,
-) -> (Pass<M>, WorkCount)
+) -> (Pass<M>, Round)
     requires { pass.hall ≡ hall.now.hall }
-    ensures { Worked 1 pass count result.0 result.1 }
+    ensures { CameBack (ticket_of job) (window_of job) pass result.1 result.0 }
 {
     match work(alloc, job) {
-        Ok(done) => finish(rt, hall, pass, gate, count, done),
-        Err(job) => give_up(rt, hall, pass, count, job),
+        Ok(done) => finish(rt, hall, pass, gate, done),
+        Err(job) => give_up(rt, hall, pass, job),
     }
 }
 
@@ -136,21 +170,21 @@ fn finish<R: Wait, M: Monitor, G: Gate>(
     hall: &Hall<M>,
     pass: Pass<M>,
     gate: &G,
-    count: WorkCount,
     done: Done<M>,
-) -> (Pass<M>, WorkCount)
+) -> (Pass<M>, Round)
     requires { pass.hall ≡ hall.now.hall }
-    ensures { Worked 1 pass count result.0 result.1 }
+    ensures { CameBack (done_ticket done) (done_window done) pass result.1 result.0 }
 {
     let ticket = done.ticket();
+    let piece = done.piece();
     let (pass, answer) = hall.hand_in(rt, pass, done);
     gate.handed_in(ticket);
     match answer {
-        HandIn::Taken => (pass, count.one_taken()),
-        HandIn::Void => (pass, count.one_void()),
+        HandIn::Taken => (pass, Round::Taken(piece)),
+        HandIn::Void => (pass, Round::Void(piece)),
         HandIn::Stranger(done) => {
             done.forfeit();
-            (pass, count.one_abandoned())
+            (pass, Round::Strange(piece))
         }
     }
 }
@@ -160,18 +194,18 @@ fn give_up<R: Wait, M: Monitor>(
     rt: &R,
     hall: &Hall<M>,
     pass: Pass<M>,
-    count: WorkCount,
     job: Job<M>,
-) -> (Pass<M>, WorkCount)
+) -> (Pass<M>, Round)
     requires { pass.hall ≡ hall.now.hall }
-    ensures { Worked 1 pass count result.0 result.1 }
+    ensures { CameBack (ticket_of job) (window_of job) pass result.1 result.0 }
 {
+    let piece = job.piece();
     let (pass, answer) = hall.abandon(rt, pass, job);
     match answer {
-        Ok(()) => (pass, count.one_abandoned()),
+        Ok(()) => (pass, Round::Abandoned(piece)),
         Err(job) => {
             job.forfeit();
-            (pass, count.one_abandoned())
+            (pass, Round::Lost(piece))
         }
     }
 }

@@ -7,6 +7,7 @@ ghost use Rattle.tl_beats.specs.declared.watch.Watch.{Watch as AnyWatch};
 ghost use Rattle.tl_inputs.specs.Edits.{plain_change, attach};
 ghost use Rattle.tl_inputs.specs.Log.{inputs_after};
 ghost use Rattle.tl_desk.specs.Core.{AreLinked};
+ghost use Rattle.tl_desk.specs.Ends.{AllHaveEnded};
 ghost use Rattle.tl_run.specs.Boxes.{watches_in};
 ghost use Rattle.tl_run.specs.Commands.{asking, an_edit, a_report};
 ghost use Rattle.tl_run.specs.Output.{start, edit_text, refused_text, IsStep, TakesBox, LacksBox};
@@ -20,7 +21,7 @@ use thiserror::Error;
 use tl_beats::Watch;
 use tl_desk::{Desk, PublishFault, RecheckFault, is_watch};
 use tl_inputs::{Change, EditFault, Inputs};
-use tl_monitor::Monitor;
+use tl_monitor::{Monitor, Settlement};
 use tl_report::{Report, report_text};
 use tl_topology::Topo;
 
@@ -212,14 +213,18 @@ impl<M: Monitor> Session<M> {
         }
     }
 
-    /// Ends the run: each monitor that is still attached is closed with the number of the last edit, and all are dropped.
-    pub fn finish(self) {
+    /// Ends the run: each monitor that is still attached is closed with the number of the last edit, and all are dropped. Answers
+    /// what each monitor told, with its number: one that was detached what it had just before that, with the number of that edit,
+    /// and one that is still attached what it has now, with the number of the last edit.
+    pub fn finish(self) -> Vec<(u32, Settlement)>
+        ensures { AllHaveEnded (record { topo = self.topo; edits = self.now.edits }) result.items }
+    {
         let Session { desk, boxes } = self;
         let _ = desk.settlements();
+        drop(boxes);
         match desk.finish() {
-            Ok(done) => drop(done),
+            Ok((_, told)) => told,
             Err(_) => unreachable!(),
         }
-        drop(boxes);
     }
 }

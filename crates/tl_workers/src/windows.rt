@@ -5,17 +5,9 @@ ghost use Rattle.std.specs.Prelude.{◌≡◌};
 use crate::shift::Shift;
 use std::alloc::Global;
 use std::sync::Wait;
-use tl_desk::{Done, HandIn, Job, Piece, work};
-use tl_hall::{Gate, Hall, Pass};
+use tl_desk::Piece;
+use tl_hall::{Gate, Hall, Pass, Round, work_once};
 use tl_monitor::Monitor;
-
-/// What came of a look for a window.
-#[derive(Clone, Copy)]
-pub(crate) enum Found {
-    NoWindow,
-    Checked(Piece),
-    NoMemory,
-}
 
 /// How many windows may be checked again, beside one for each that is checked the first time, before the workers rest. Where what a
 /// window leaves doesn't hang on what was before it, two checks of each are enough, and that is worth it where there are several
@@ -65,81 +57,6 @@ fn is_not_behind(piece: Piece, other: Piece) -> bool {
     }
 }
 
-/// Hands a window in that was checked.
-fn finish<R: Wait, M: Monitor, G: Gate>(
-    rt: &R,
-    hall: &Hall<M>,
-    pass: Pass<M>,
-    gate: &G,
-    done: Done<M>,
-) -> Pass<M>
-    requires { pass.hall ≡ hall.now.hall }
-    ensures { result.hall ≡ pass.hall }
-{
-    let ticket = done.ticket();
-    let (pass, answer) = hall.hand_in(rt, pass, done);
-    gate.handed_in(ticket);
-    match answer {
-        HandIn::Taken => pass,
-        HandIn::Void => pass,
-        HandIn::Stranger(done) => {
-            done.forfeit();
-            pass
-        }
-    }
-}
-
-/// Checks a window, and hands it in or gives it up.
-fn check<R: Wait, M: Monitor, G: Gate>(
-    rt: &R,
-    alloc: Global,
-    hall: &Hall<M>,
-    pass: Pass<M>,
-    gate: &G,
-    job: Job<M>,
-) -> (Pass<M>, Found)
-    requires { pass.hall ≡ hall.now.hall }
-    ensures { result.0.hall ≡ pass.hall }
-{
-    gate.taken(job.ticket());
-    let piece = job.piece();
-    match work(alloc, job) {
-        Ok(done) => {
-            let pass = finish(rt, hall, pass, gate, done);
-            (pass, Found::Checked(piece))
-        }
-        Err(job) => {
-            let (pass, answer) = hall.abandon(rt, pass, job);
-            match answer {
-                Ok(()) => (pass, Found::NoMemory),
-                Err(job) => {
-                    job.forfeit();
-                    (pass, Found::NoMemory)
-                }
-            }
-        }
-    }
-}
-
-/// Checks the first window that is to be checked, if there is one.
-pub(crate) fn check_one<R: Wait, M: Monitor, G: Gate>(
-    rt: &R,
-    alloc: Global,
-    hall: &Hall<M>,
-    pass: Pass<M>,
-    gate: &G,
-) -> (Pass<M>, Found)
-    requires { pass.hall ≡ hall.now.hall }
-    ensures { result.0.hall ≡ pass.hall }
-{
-    let (pass, found) = hall.take(rt, alloc, pass);
-    match found {
-        Ok(Some(job)) => check(rt, alloc, hall, pass, gate, job),
-        Ok(None) => (pass, Found::NoWindow),
-        Err(_) => (pass, Found::NoMemory),
-    }
-}
-
 /// Checks windows until there is none to be taken: whether memory sufficed. Where guesses are wrong the workers rest.
 pub(crate) fn check_wanted<R: Wait, M: Monitor, G: Gate>(
     rt: &R,
@@ -154,16 +71,16 @@ pub(crate) fn check_wanted<R: Wait, M: Monitor, G: Gate>(
     let mut pass = pass;
     let mut stretch = Stretch::new();
     for _ in rt.forever() {
-        let (next, found) = check_one(rt, alloc, hall, pass, shift);
+        let (next, round) = work_once(rt, alloc, hall, pass, shift);
         pass = next;
-        match found {
-            Found::Checked(piece) => {
+        match round {
+            Round::Taken(piece) | Round::Void(piece) | Round::Strange(piece) => {
                 if stretch.is_in_doubt(piece) {
                     shift.give_up();
                 }
             }
-            Found::NoWindow => return (pass, true),
-            Found::NoMemory => return (pass, false),
+            Round::NoWindow => return (pass, true),
+            Round::Refused(_) | Round::Abandoned(_) | Round::Lost(_) => return (pass, false),
         }
     }
     unreachable!()
@@ -195,10 +112,12 @@ pub(crate) fn work_ahead<R: Wait, M: Monitor, G: Gate>(
         if is_in_doubt || !shift.has_whole() {
             return pass;
         }
-        let (next, found) = check_one(rt, alloc, hall, pass, shift);
+        let (next, round) = work_once(rt, alloc, hall, pass, shift);
         pass = next;
-        match found {
-            Found::Checked(piece) if shift.seems_whole(piece) => {
+        match round {
+            Round::Taken(piece) | Round::Void(piece) | Round::Strange(piece)
+                if shift.seems_whole(piece) =>
+            {
                 is_in_doubt = stretch.is_in_doubt(piece) && !is_first;
             }
             _ => shift.found_none_whole(),

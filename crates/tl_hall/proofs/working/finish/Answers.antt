@@ -1,8 +1,8 @@
-use Rattle.std.proofs.Common.{subst, arith, rules}
+use Rattle.std.proofs.Common.{subst}
 use Rattle.tl_jobs.specs.Works.{done_ticket, done_window, job_of}
 use Rattle.tl_jobs.specs.declared.job.HandIn.TheVariants as answer
 use Rattle.tl_hall.specs.Passes.{HandsIn, ComesTo, IsStranger}
-use Rattle.tl_hall.proofs.Rounds.{hand_in_taken, hand_in_void, job_lost}
+use Rattle.tl_hall.proofs.Rounds.{came_taken, came_void, came_strange}
 use Rattle.tl_hall.proofs.working.finish.Goals as goal
 
 pub returns-in-Taken : goal.returns-in-Taken
@@ -11,7 +11,7 @@ returns-in-Taken g c =
     let done = c.args.done in
     let q = c.hand_in-pass.result.0 in
     let made = subst (λ h. HandsIn p done h q) c.in-Taken.is c.hand_in-pass.ensures in
-    hand_in_taken p q c.args.count c.one_taken.result (omega arith, omega arith, omega arith) (done_ticket done) (done_window done) (ComesTo done answer.Taken) made c.one_taken.ensures
+    came_taken (done_ticket done) (done_window done) c.piece-piece.result p q c.piece-piece.ensures (ComesTo done answer.Taken) made
 
 pub returns-in-Void : goal.returns-in-Void
 returns-in-Void g c =
@@ -19,7 +19,7 @@ returns-in-Void g c =
     let done = c.args.done in
     let q = c.hand_in-pass.result.0 in
     let made = subst (λ h. HandsIn p done h q) c.in-Void.is c.hand_in-pass.ensures in
-    hand_in_void p q c.args.count c.one_void.result (search rules, search rules, search rules) (done_ticket done) (done_window done) (ComesTo done answer.Void) made c.one_void.ensures
+    came_void (done_ticket done) (done_window done) c.piece-piece.result p q c.piece-piece.ensures (ComesTo done answer.Void) made
 
 pub returns-in-Stranger : goal.returns-in-Stranger
 returns-in-Stranger g c =
@@ -27,4 +27,4 @@ returns-in-Stranger g c =
     let done = c.args.done in
     let q = c.hand_in-pass.result.0 in
     let look = subst (λ h. HandsIn p done h q) c.in-Stranger.is c.hand_in-pass.ensures in
-    job_lost p q c.args.count c.one_abandoned.result (grind arith, grind arith, grind arith) (IsStranger (job_of done)) look.1 c.one_abandoned.ensures
+    came_strange (done_ticket done) (done_window done) c.piece-piece.result p q c.piece-piece.ensures (IsStranger (job_of done)) look.1

@@ -116,8 +116,7 @@ pub(crate) fn work_ahead<R: Wait, M: Monitor, G: Gate>(
         pass = next;
         match round {
             Round::Taken(piece) | Round::Void(piece) | Round::Strange(piece)
-                if shift.seems_whole(piece) =>
-            {
+                if shift.seems_whole(piece) => {
                 is_in_doubt = stretch.is_in_doubt(piece) && !is_first;
             }
             _ => shift.found_none_whole(),

@@ -1,5 +1,5 @@
 -- Beginnings of one list, and the entries of one pass.
-use Rattle.std.proofs.Common.{inl, inr, ⊎_elim, ◌⊎◌, ◌≡◌, ◌≢◌, ℕ, zero, suc, ◌≤◌, ◌<◌, eqb, Bool, true, false, cond, List, [], ◌∷◌, ◌++◌, length, refl, ap, sym, ◌∙◌, arith, append_assoc, eq-eqb, ne_eqb}
+use Rattle.std.proofs.Common.{inl, inr, ⊎_elim, ◌⊎◌, ◌≡◌, ◌≢◌, ℕ, zero, suc, ◌≤◌, ◌<◌, eqb, Bool, true, false, cond, List, [], ◌∷◌, ◌++◌, length, refl, ap, sym, ◌∙◌, subst, arith, append_assoc, eq-eqb, ne_eqb}
 use Rattle.std.specs.Prelude.{nat_le, leb}
 use Rattle.std.proofs.Common.{true≢false}
 use Rattle.std.proofs.lemmas.Bool.{leb-true}
@@ -10,7 +10,7 @@ use Rattle.tl_hall.specs.Rule.{longer}
 use mathlib.Core.List.{IsPrefix}
 use Rattle.tl_desk.specs.declared.call.Call.{Call}
 use Rattle.tl_hall.specs.declared.entry.Entry.{Entry}
-use Rattle.tl_hall.specs.History.{entry, own}
+use Rattle.tl_hall.specs.History.{entry, own, IsOfWorker, AreOfWorker, OnlyWork}
 
 pub prefix_self : {A : Type 0} (xs : List A) → IsPrefix xs xs
 prefix_self [] = ([], refl)
@@ -60,6 +60,36 @@ left_empty (x ∷ xs) ys e = absurd (cc (e))
 -- where a list has no entry of the pass, no beginning of it has one
 pub own_within : (by : ℕ) (xs ys : List Entry) → IsPrefix xs ys → own by ys ≡ [] → own by xs ≡ []
 own_within by xs ys p none = left_empty (own by xs) (own by p.0) (sym (own-append by xs p.0) ∙ ap (own by) p.1 ∙ none)
+
+-- ---- workers' calls alone
+
+pub both_work : (xs ys : List Entry) → AreOfWorker xs → AreOfWorker ys → AreOfWorker (xs ++ ys)
+both_work [] ys a b = b
+both_work (x ∷ xs) ys a b = (a.0, both_work xs ys a.1 b)
+
+part_work : (xs ys : List Entry) → AreOfWorker (xs ++ ys) → AreOfWorker xs × AreOfWorker ys
+part_work [] ys a = (tt, a)
+part_work (x ∷ xs) ys a = let more = part_work xs ys a.1 in ((a.0, more.0), more.1)
+
+same_tail : {A : Type 0} (xs ys zs : List A) → xs ++ ys ≡ xs ++ zs → ys ≡ zs
+same_tail [] ys zs e = e
+same_tail (x ∷ xs) ys zs e = same_tail xs ys zs (cc (e))
+
+pub only_self : (xs : List Entry) → OnlyWork xs xs
+only_self xs = ([], append-nil xs, tt)
+
+pub only_trans : (xs ys zs : List Entry) → OnlyWork xs ys → OnlyWork ys zs → OnlyWork xs zs
+only_trans xs ys zs a b = (a.0 ++ b.0, sym (append_assoc xs a.0 b.0) ∙ (ap (λ w. w ++ b.0) a.1 ∙ b.1), both_work a.0 b.0 a.2 b.2)
+
+pub only_push : (xs ys : List Entry) (e : Entry) → OnlyWork xs ys → IsOfWorker e.call → OnlyWork xs (ys ++ e ∷ [])
+only_push xs ys e a is = only_trans xs ys (ys ++ e ∷ []) a (e ∷ [], refl, (is, tt))
+
+-- the same up to each list between, and from there on
+pub only_between : (xs ys zs : List Entry) → OnlyWork xs zs → IsPrefix xs ys → IsPrefix ys zs → OnlyWork xs ys × OnlyWork ys zs
+only_between xs ys zs a p q =
+    let whole : xs ++ (p.0 ++ q.0) ≡ xs ++ a.0 = sym (append_assoc xs p.0 q.0) ∙ (ap (λ w. w ++ q.0) p.1 ∙ (q.1 ∙ sym a.1)) in
+    let parts = part_work p.0 q.0 (subst AreOfWorker (sym (same_tail xs (p.0 ++ q.0) a.0 whole)) a.2) in
+    ((p.0, p.1, parts.0), (q.0, q.1, parts.1))
 
 tail_empty : {A : Type 0} (xs ys : List A) → xs ++ ys ≡ xs → ys ≡ []
 tail_empty [] ys e = e

@@ -1,5 +1,5 @@
 -- Each step keeps the rule of the table.
-use Rattle.std.proofs.Common.{◌≡◌, ◌≢◌, ℕ, zero, suc, ◌+◌, ◌*◌, ◌%◌, ◌^◌, ◌<◌, ◌≤◌, eqb, true, false, List, [], ◌∷◌, ◌++◌, length, get_or, set, sym, refl, ap, ◌∙◌, subst, ⊎_elim, arith, Option, Some, length-append, eq-eqb, ne_eqb, true≢false, mul-le-mul_right, le_of_mul-le-mul_right, mul_assoc, suc-mul, one-mul}
+use Rattle.std.proofs.Common.{◌≡◌, ◌≢◌, ℕ, zero, suc, ◌+◌, ◌*◌, ◌%◌, ◌^◌, ◌<◌, ◌≤◌, eqb, Bool, true, false, List, [], ◌∷◌, ◌++◌, length, get_or, set, sym, refl, ap, ◌∙◌, subst, ⊎_elim, arith, Option, Some, length-append, eq-eqb, ne_eqb, true≢false, mul-le-mul_right, le_of_mul-le-mul_right, mul_assoc, suc-mul, one-mul}
 use mathlib.Core.Logic.{dite}
 use mathlib.Core.Option.{none, some, some-injective, some-ne-none}
 use mathlib.Core.List.{IsPrefix}
@@ -15,10 +15,10 @@ use Rattle.tl_topology.specs.Topology.{Topology}
 use Rattle.tl_hall.proofs.Running.{leads_short}
 use Rattle.tl_hall.specs.declared.entry.Entry.{Entry}
 use Rattle.tl_hall.specs.declared.entry.View.{View}
-use Rattle.tl_hall.specs.History.{entry, own, Leads}
-use Rattle.tl_hall.specs.Rule.{newcomer, nobody, Owns, Fits, Kept, Sat, entered, recorded, stayed, left, elder, younger, both, longer, learned}
+use Rattle.tl_hall.specs.History.{entry, own, IsOfWorker, OnlyWork, Leads}
+use Rattle.tl_hall.specs.Rule.{newcomer, nobody, Owns, Fits, Kept, Sat, entered, recorded, stayed, left, elder, younger, helped, helper, both, longer, learned}
 use Rattle.tl_hall.specs.Passes.{IsResting}
-use Rattle.tl_hall.proofs.Histories.{prefix_self, prefix_push, own-other, own_within, own_between, at_snoc_where, below_length, longer_begins}
+use Rattle.tl_hall.proofs.Histories.{prefix_self, prefix_push, own-other, own_within, own_between, at_snoc_where, below_length, longer_begins, only_self, only_push, only_between}
 
 abbrev St : Type 0
 St = State (Option Core) View
@@ -71,6 +71,23 @@ module _ (topo : Topology) where
       (at_set views id j w b eb))
       (at_set views id i w a ea)
 
+  abbrev AreLone : List View → Type 0
+  AreLone views = (i j : ℕ) (v w : View) → get_elem? views i ≡ some v → get_elem? views j ≡ some w → v.spent ≡ false → w.spent ≡ false → i ≢ j → v.sole ≡ true → w.helps ≡ true
+
+  -- a view that may do no more, and is sole only where it was
+  lone_set : (views : List View) (id : ℕ) (v w : View) → AreLone views → get_elem? views id ≡ some v → v.spent ≡ false → (w.sole ≡ true → v.sole ≡ true) → w.helps ≡ v.helps → AreLone (set views id w)
+  lone_set views id v w lone at lives fewer helps i j a b ea eb la lb ne is =
+      ⊎_elim
+      (λ (x : (i ≡ id) × (w ≡ a)). ⊎_elim
+      (λ (y : (j ≡ id) × (w ≡ b)). absurd (ne (x.0 ∙ sym y.0)))
+      (λ (y : (j ≢ id) × (get_elem? views j ≡ some b)). lone id j v b at y.1 lives lb (λ e. y.0 (sym e)) (fewer (ap (λ (z : View). z.sole) x.1 ∙ is)))
+      (at_set views id j w b eb))
+      (λ (x : (i ≢ id) × (get_elem? views i ≡ some a)). ⊎_elim
+      (λ (y : (j ≡ id) × (w ≡ b)). sym (ap (λ (z : View). z.helps) y.1) ∙ (helps ∙ lone i id a v x.1 at la lives x.0 is))
+      (λ (y : (j ≢ id) × (get_elem? views j ≡ some b)). lone i j a b x.1 y.1 la lb ne is)
+      (at_set views id j w b eb))
+      (at_set views id i w a ea)
+
   -- nothing has changed
   unmoved : (s : St) (i id : ℕ) (v : View) (cs : List (ℕ × Option Core)) → get_elem? s.views id ≡ some v → Kept topo s → Kept topo (stepped s i (get_or s.words i 0) id cs v keeps)
   unmoved s i id v cs at h =
@@ -101,12 +118,13 @@ module _ (topo : Topology) where
           words = ap (λ (ws : List ℕ). set ws 1 1) h.words;
           free = λ z. absurd (omega arith);
           each = each_set s.views id w h.log 1 id
-              record { topo_is = mine.topo_is; strides = mine.strides; saw = prefix_self h.log; heard = mine.heard; own_is = refl; unmade = mine.unmade; turn_is = λ _. (refl, refl, refl) }
+              record { topo_is = mine.topo_is; strides = mine.strides; saw = prefix_self h.log; heard = mine.heard; own_is = refl; unmade = mine.unmade; turn_is = λ _. (refl, refl, refl); others = λ _. only_self h.log }
               (λ j u other e lives. let fits = h.each j u e lives in
-              record { topo_is = fits.topo_is; strides = fits.strides; saw = fits.saw; heard = fits.heard; own_is = fits.own_is; unmade = fits.unmade; turn_is = λ t. let was = fits.turn_is t in let free : h.turn ≡ 0 = sym (turn_of s h) ∙ hit in absurd (omega (arith, was.0, free)) });
+              record { topo_is = fits.topo_is; strides = fits.strides; saw = fits.saw; heard = fits.heard; own_is = fits.own_is; unmade = fits.unmade; turn_is = λ t. let was = fits.turn_is t in let free : h.turn ≡ 0 = sym (turn_of s h) ∙ hit in absurd (omega (arith, was.0, free)); others = fits.others });
           apart = apart_set s.views id me.0 w h.apart at calm.lives (λ m o. o);
+          lone = lone_set s.views id me.0 w h.lone at calm.lives (λ is. is) refl;
         },
-        ((λ _. record { log = h.log; core = free.0; now = refl; leads = subst (λ (r : Topology). Leads r h.log free.0) (sym mine.topo_is) free.2; saw = mine.saw; own_is = mine.own_is; unmade = mine.unmade }), λ not. absurd (not hit)),
+        ((λ _. record { log = h.log; core = free.0; now = refl; leads = subst (λ (r : Topology). Leads r h.log free.0) (sym mine.topo_is) free.2; saw = mine.saw; own_is = mine.own_is; unmade = mine.unmade; others = mine.others }), λ not. absurd (not hit)),
       ))
       (λ miss. (
         me.0,
@@ -120,9 +138,9 @@ module _ (topo : Topology) where
   owns_own v = (0, omega arith)
 
   -- An entry is added to the history, which the holder of the turn has seen
-  pub records : (slots id : ℕ) (me : Sat) (call : Call) (core : Core) → me.0.turn ≡ true → me.0.spent ≡ false → Leads me.0.topo (me.0.seen ++ entry me.0.number call ∷ []) core
+  pub records : (slots id : ℕ) (me : Sat) (call : Call) (core : Core) → (me.0.helps ≡ true → IsOfWorker call) → me.0.turn ≡ true → me.0.spent ≡ false → Leads me.0.topo (me.0.seen ++ entry me.0.number call ∷ []) core
       → Allows (Kept topo) slots id me 0 (λ n. (n + 1) % 2 ^ 64) (recorded call (step slots 0 1 0 none) me)
-  records slots id me call core holds lives leads s h deep at lt =
+  records slots id me call core may holds lives leads s h deep at lt =
       let mine = h.each id me.0 at lives in
       let known = mine.turn_is holds in
       let e : Entry = entry me.0.number call in
@@ -153,6 +171,7 @@ module _ (topo : Topology) where
                 own_is = ap (own me.0.number) (sym same);
                 unmade = λ k. own-other (me.0.number + (k + 1) * me.0.stride) h.log e (above me.0.number me.0.stride k mine.strides) ∙ mine.unmade k;
                 turn_is = λ _. (known.0, known.1, same);
+                others = λ _. subst (OnlyWork w.seen) same (only_self w.seen);
               }
               (λ j u other found alive. let fits = h.each j u found alive in
               let ne : (k : ℕ) → me.0.number ≢ u.number + k * u.stride = λ k is. h.apart id j me.0 u at found lives alive (λ x. other (sym x)) me.0.number (owns_own me.0) (k, is) in
@@ -164,8 +183,10 @@ module _ (topo : Topology) where
                 own_is = own-other u.number h.log e (λ is. ne 0 (omega (arith, is))) ∙ fits.own_is;
                 unmade = λ k. own-other (u.number + (k + 1) * u.stride) h.log e (ne (k + 1)) ∙ fits.unmade k;
                 turn_is = λ t. absurd (other ((fits.turn_is t).1 ∙ sym known.1));
+                others = λ is. only_push u.seen h.log e (fits.others is) (may (h.lone j id u me.0 found at alive lives other is));
               });
           apart = apart_set s.views id me.0 w h.apart at lives (λ m o. o);
+          lone = lone_set s.views id me.0 w h.lone at lives (λ is. is) refl;
         },
         refl,
       )
@@ -199,10 +220,11 @@ module _ (topo : Topology) where
             subst (λ (r : Topology). Leads r h.log core) mine.topo_is (subst (λ (l : List Entry). Leads me.0.topo l core) known.2 leads),
           );
           each = each_set s.views id w h.log 0 h.holder
-              record { topo_is = mine.topo_is; strides = mine.strides; saw = mine.saw; heard = mine.heard; own_is = mine.own_is; unmade = mine.unmade; turn_is = λ t. absurd (off t) }
+              record { topo_is = mine.topo_is; strides = mine.strides; saw = mine.saw; heard = mine.heard; own_is = mine.own_is; unmade = mine.unmade; turn_is = λ t. absurd (off t); others = mine.others }
               (λ j u other found alive. let fits = h.each j u found alive in
-              record { topo_is = fits.topo_is; strides = fits.strides; saw = fits.saw; heard = fits.heard; own_is = fits.own_is; unmade = fits.unmade; turn_is = λ t. absurd (other ((fits.turn_is t).1 ∙ sym known.1)) });
+              record { topo_is = fits.topo_is; strides = fits.strides; saw = fits.saw; heard = fits.heard; own_is = fits.own_is; unmade = fits.unmade; turn_is = λ t. absurd (other ((fits.turn_is t).1 ∙ sym known.1)); others = fits.others });
           apart = apart_set s.views id me.0 w h.apart at lives (λ m o. o);
+          lone = lone_set s.views id me.0 w h.lone at lives (λ is. is) refl;
         },
         λ i. (w, after i),
       )
@@ -219,11 +241,12 @@ module _ (topo : Topology) where
     free = λ _. (core, refl, (core, is, refl));
     each = one;
     apart = alone;
+    lone = first;
   }
     where
       one : (by : ℕ) (v : View) → get_elem? (newcomer topo ∷ []) by ≡ some v → v.spent ≡ false → Fits topo [] 0 0 by v
       one zero v e lives = subst (Fits topo [] 0 0 0) (some-injective _ _ e)
-          record { topo_is = refl; strides = omega arith; saw = ([], refl); heard = ([], refl); own_is = refl; unmade = λ _. refl; turn_is = λ t. absurd (off t) }
+          record { topo_is = refl; strides = omega arith; saw = ([], refl); heard = ([], refl); own_is = refl; unmade = λ _. refl; turn_is = λ t. absurd (off t); others = λ _. only_self [] }
       one (suc by) v e lives = absurd (some-ne-none v (sym e))
 
       alone : AreApart (newcomer topo ∷ [])
@@ -231,15 +254,20 @@ module _ (topo : Topology) where
       alone zero (suc j) v w ea eb la lb ne n oa ob = absurd (some-ne-none w (sym eb))
       alone (suc i) j v w ea eb la lb ne n oa ob = absurd (some-ne-none v (sym ea))
 
+      first : AreLone (newcomer topo ∷ [])
+      first zero zero v w ea eb la lb ne is = absurd (ne refl)
+      first zero (suc j) v w ea eb la lb ne is = absurd (some-ne-none w (sym eb))
+      first (suc i) j v w ea eb la lb ne is = absurd (some-ne-none v (sym ea))
+
   -- the same of a seat that is known to hold the desk
   abbrev holding : View → Core → Sat
   holding v core = (v, (0, Some core) ∷ [])
 
-  pub records_as : (slots id : ℕ) (me : Sat) (v : View) (call : Call) (core : Core) → me ≡ holding v core → v.turn ≡ true → v.spent ≡ false → Leads v.topo (v.seen ++ entry v.number call ∷ []) core
+  pub records_as : (slots id : ℕ) (me : Sat) (v : View) (call : Call) (core : Core) → me ≡ holding v core → (v.helps ≡ true → IsOfWorker call) → v.turn ≡ true → v.spent ≡ false → Leads v.topo (v.seen ++ entry v.number call ∷ []) core
       → Allows (Kept topo) slots id me 0 (λ n. (n + 1) % 2 ^ 64) (recorded call (step slots 0 1 0 none) me)
-  records_as slots id me v call core is holds lives leads =
+  records_as slots id me v call core is may holds lives leads =
       subst (λ (m : Sat). Allows (Kept topo) slots id m 0 (λ n. (n + 1) % 2 ^ 64) (recorded call (step slots 0 1 0 none) m)) (sym is)
-      (records slots id (holding v core) call core holds lives leads)
+      (records slots id (holding v core) call core may holds lives leads)
 
   pub stays_as : (slots id : ℕ) (me : Sat) (v : View) (core : Core) → me ≡ holding v core → v.turn ≡ true → Allows (Kept topo) slots id me 0 (λ n. (n + 0) % 2 ^ 64) (stayed (step slots 0 0 0 none) me)
   stays_as slots id me v core is holds =
@@ -260,22 +288,32 @@ module _ (topo : Topology) where
   twins_apart : (v : View) (n : ℕ) → 0 < v.stride → Owns (elder v) n → Owns (younger v) n → ⊥
   twins_apart v n more a b = no_meeting a.0 b.0 v.stride more (omega (arith, a.1, b.1, even a.0 v.stride, odd b.0 v.stride))
 
-  pub splits : (id : ℕ) (v : View) → v.turn ≡ false → v.spent ≡ false → Splits (Kept topo) id v (elder v) (younger v)
-  splits id v waits lives s h at =
+  -- A pass that only helps gives one that does, and so does one that stays sole
+  splits_as : (id : ℕ) (v : View) (sole helps : Bool) → (sole ≡ true → v.sole ≡ true) → (sole ≡ true → helps ≡ true) → (v.helps ≡ true → helps ≡ true) → v.turn ≡ false → v.spent ≡ false
+      → Splits (Kept topo) id v (record (elder v) { sole = sole }) (record (younger v) { helps = helps })
+  splits_as id v sole helps fewer helped both waits lives s h at =
+      let one : View = record (elder v) { sole = sole } in
+      let two : View = record (younger v) { helps = helps } in
       let mine = h.each id v at lives in
-      let views : List View = set s.views id (elder v) in
-      let here : AreApart views = apart_set s.views id v (elder v) h.apart at lives (elder_owns v) in
+      let views : List View = set s.views id one in
+      let here : AreApart views = apart_set s.views id v one h.apart at lives (elder_owns v) in
+      let lone : AreLone views = lone_set s.views id v one h.lone at lives fewer refl in
       let low : id < length s.views = below_length s.views v id at in
-      let old : Fits topo h.log h.turn h.holder id (elder v) =
-      record { topo_is = mine.topo_is; strides = omega (arith, mine.strides); saw = mine.saw; heard = mine.heard; own_is = mine.own_is; unmade = λ k. ap (λ (n : ℕ). own n h.log) (omega (arith, even (k + 1) v.stride)) ∙ mine.unmade (k * 2 + 1); turn_is = mine.turn_is } in
+      let old : Fits topo h.log h.turn h.holder id one =
+      record { topo_is = mine.topo_is; strides = omega (arith, mine.strides); saw = mine.saw; heard = mine.heard; own_is = mine.own_is; unmade = λ k. ap (λ (n : ℕ). own n h.log) (omega (arith, even (k + 1) v.stride)) ∙ mine.unmade (k * 2 + 1); turn_is = mine.turn_is; others = λ is. mine.others (fewer is) } in
       let none : own (v.number + v.stride) h.log ≡ [] = ap (λ (n : ℕ). own n h.log) (omega (arith, one-mul v.stride)) ∙ mine.unmade 0 in
-      let new : (j : ℕ) → Fits topo h.log h.turn h.holder j (younger v) = λ j.
-      record { topo_is = mine.topo_is; strides = omega (arith, mine.strides); saw = mine.saw; heard = (h.log, refl); own_is = none ∙ sym (own_within (v.number + v.stride) v.seen h.log mine.saw none); unmade = λ k. ap (λ (n : ℕ). own n h.log) (omega (arith, odd (k + 1) v.stride)) ∙ mine.unmade ((k + 1) * 2); turn_is = λ t. absurd (off t) } in
-      let meets : (i : ℕ) (u : View) → get_elem? views i ≡ some u → u.spent ≡ false → (n : ℕ) → Owns u n → Owns (younger v) n → ⊥ = λ i u found alive n a b.
+      let new : (j : ℕ) → Fits topo h.log h.turn h.holder j two = λ j.
+      record { topo_is = mine.topo_is; strides = omega (arith, mine.strides); saw = mine.saw; heard = (h.log, refl); own_is = none ∙ sym (own_within (v.number + v.stride) v.seen h.log mine.saw none); unmade = λ k. ap (λ (n : ℕ). own n h.log) (omega (arith, odd (k + 1) v.stride)) ∙ mine.unmade ((k + 1) * 2); turn_is = λ t. absurd (off t); others = λ is. absurd (off is) } in
+      let meets : (i : ℕ) (u : View) → get_elem? views i ≡ some u → u.spent ≡ false → (n : ℕ) → Owns u n → Owns two n → ⊥ = λ i u found alive n a b.
       ⊎_elim
-      (λ (x : (i ≡ id) × (elder v ≡ u)). twins_apart v n mine.strides (subst (λ (z : View). Owns z n) (sym x.1) a) b)
+      (λ (x : (i ≡ id) × (one ≡ u)). twins_apart v n mine.strides (subst (λ (z : View). Owns z n) (sym x.1) a) b)
       (λ (x : (i ≢ id) × (get_elem? s.views i ≡ some u)). h.apart i id u v x.1 at alive lives x.0 n a (younger_owns v n b))
-      (at_set s.views id i (elder v) u found) in
+      (at_set s.views id i one u found) in
+      let helps_it : (i : ℕ) (u : View) → get_elem? views i ≡ some u → u.spent ≡ false → u.sole ≡ true → helps ≡ true = λ i u found alive is.
+      ⊎_elim
+      (λ (x : (i ≡ id) × (one ≡ u)). helped (ap (λ (z : View). z.sole) x.1 ∙ is))
+      (λ (x : (i ≢ id) × (get_elem? s.views i ≡ some u)). both (h.lone i id u v x.1 at alive lives x.0 is))
+      (at_set s.views id i one u found) in
       record {
         log = h.log;
         turn = h.turn;
@@ -283,20 +321,33 @@ module _ (topo : Topology) where
         words = h.words;
         free = h.free;
         each = λ j u found alive. ⊎_elim
-            (λ (x : get_elem? views j ≡ some u). each_set s.views id (elder v) h.log h.turn h.holder old (λ i y other e l. h.each i y e l) j u x alive)
-            (λ (x : (j ≡ length views) × (younger v ≡ u)). subst (Fits topo h.log h.turn h.holder j) x.1 (new j))
-            (at_snoc_where views (younger v) u j found);
+            (λ (x : get_elem? views j ≡ some u). each_set s.views id one h.log h.turn h.holder old (λ i y other e l. h.each i y e l) j u x alive)
+            (λ (x : (j ≡ length views) × (two ≡ u)). subst (Fits topo h.log h.turn h.holder j) x.1 (new j))
+            (at_snoc_where views two u j found);
         apart = λ i j a b ea eb la lb ne n oa ob. ⊎_elim
             (λ (x : get_elem? views i ≡ some a). ⊎_elim
             (λ (y : get_elem? views j ≡ some b). here i j a b x y la lb ne n oa ob)
-            (λ (y : (j ≡ length views) × (younger v ≡ b)). meets i a x la n oa (subst (λ (z : View). Owns z n) (sym y.1) ob))
-            (at_snoc_where views (younger v) b j eb))
-            (λ (x : (i ≡ length views) × (younger v ≡ a)). ⊎_elim
+            (λ (y : (j ≡ length views) × (two ≡ b)). meets i a x la n oa (subst (λ (z : View). Owns z n) (sym y.1) ob))
+            (at_snoc_where views two b j eb))
+            (λ (x : (i ≡ length views) × (two ≡ a)). ⊎_elim
             (λ (y : get_elem? views j ≡ some b). meets j b y lb n ob (subst (λ (z : View). Owns z n) (sym x.1) oa))
-            (λ (y : (j ≡ length views) × (younger v ≡ b)). ne (x.0 ∙ sym y.0))
-            (at_snoc_where views (younger v) b j eb))
-            (at_snoc_where views (younger v) a i ea);
+            (λ (y : (j ≡ length views) × (two ≡ b)). ne (x.0 ∙ sym y.0))
+            (at_snoc_where views two b j eb))
+            (at_snoc_where views two a i ea);
+        lone = λ i j a b ea eb la lb ne is. ⊎_elim
+            (λ (x : get_elem? views i ≡ some a). ⊎_elim
+            (λ (y : get_elem? views j ≡ some b). lone i j a b x y la lb ne is)
+            (λ (y : (j ≡ length views) × (two ≡ b)). sym (ap (λ (z : View). z.helps) y.1) ∙ helps_it i a x la is)
+            (at_snoc_where views two b j eb))
+            (λ (x : (i ≡ length views) × (two ≡ a)). absurd (off (ap (λ (z : View). z.sole) x.1 ∙ is)))
+            (at_snoc_where views two a i ea);
       }
+
+  pub splits : (id : ℕ) (v : View) → v.turn ≡ false → v.spent ≡ false → Splits (Kept topo) id v (elder v) (younger v)
+  splits id v waits lives = splits_as id v false v.helps (λ is. absurd (off is)) (λ is. absurd (off is)) (λ is. is) waits lives
+
+  pub splits_off : (id : ℕ) (v : View) → v.turn ≡ false → v.spent ≡ false → Splits (Kept topo) id v (helped v) (helper v)
+  splits_off id v waits lives = splits_as id v v.sole true (λ is. is) (λ _. refl) (λ _. refl) waits lives
 
   -- One pass keeps both lists, and the other is spent
   pub joins : (id other : ℕ) (v w : View) → v.spent ≡ false → w.spent ≡ false → Joins (Kept topo) id v other w (both v w) nobody
@@ -308,9 +359,10 @@ module _ (topo : Topology) where
       let views : List View = set s.views id x in
       let each : (j : ℕ) (u : View) → get_elem? views j ≡ some u → u.spent ≡ false → Fits topo h.log h.turn h.holder j u =
       each_set s.views id x h.log h.turn h.holder
-      record { topo_is = mine.topo_is; strides = mine.strides; saw = mine.saw; heard = theirs.saw; own_is = mine.own_is; unmade = mine.unmade; turn_is = mine.turn_is }
+      record { topo_is = mine.topo_is; strides = mine.strides; saw = mine.saw; heard = theirs.saw; own_is = mine.own_is; unmade = mine.unmade; turn_is = mine.turn_is; others = mine.others }
       (λ j u _ e l. h.each j u e l) in
       let keep : AreApart views = apart_set s.views id v x h.apart at lives (λ n o. o) in
+      let lone : AreLone views = lone_set s.views id v x h.lone at lives (λ is. is) refl in
       record {
         log = h.log;
         turn = h.turn;
@@ -326,6 +378,13 @@ module _ (topo : Topology) where
             (λ (y : (i ≢ other) × (get_elem? views i ≡ some a)). ⊎_elim
             (λ (z : (j ≡ other) × (nobody ≡ b)). absurd (off (sym lb ∙ sym (ap (λ (q : View). q.spent) z.1))))
             (λ (z : (j ≢ other) × (get_elem? views j ≡ some b)). keep i j a b y.1 z.1 la lb ne n oa ob)
+            (at_set views other j nobody b eb))
+            (at_set views other i nobody a ea);
+        lone = λ i j a b ea eb la lb ne is. ⊎_elim
+            (λ (y : (i ≡ other) × (nobody ≡ a)). absurd (off (sym la ∙ sym (ap (λ (z : View). z.spent) y.1))))
+            (λ (y : (i ≢ other) × (get_elem? views i ≡ some a)). ⊎_elim
+            (λ (z : (j ≡ other) × (nobody ≡ b)). absurd (off (sym lb ∙ sym (ap (λ (q : View). q.spent) z.1))))
+            (λ (z : (j ≢ other) × (get_elem? views j ≡ some b)). lone i j a b y.1 z.1 la lb ne is)
             (at_set views other j nobody b eb))
             (at_set views other i nobody a ea);
       }
@@ -349,9 +408,10 @@ module _ (topo : Topology) where
           words = h.words;
           free = h.free;
           each = each_set s.views id w h.log h.turn h.holder
-              record { topo_is = mine.topo_is; strides = mine.strides; saw = all.2; heard = (h.log, refl); own_is = mine.own_is ∙ sym own_is; unmade = mine.unmade; turn_is = λ t. absurd (off (sym waits ∙ t)) }
+              record { topo_is = mine.topo_is; strides = mine.strides; saw = all.2; heard = (h.log, refl); own_is = mine.own_is ∙ sym own_is; unmade = mine.unmade; turn_is = λ t. absurd (off (sym waits ∙ t)); others = λ is. (only_between v.seen most h.log (mine.others is) all.0 all.2).1 }
               (λ j u _ e l. h.each j u e l);
           apart = apart_set s.views id v w h.apart at lives (λ n o. o);
+          lone = lone_set s.views id v w h.lone at lives (λ is. is) refl;
         },
-        record { now = refl; one = all.0; other = all.1; own_is = own_is; unmade = λ k. own_within (v.number + (k + 1) * v.stride) most h.log all.2 (mine.unmade k) },
+        record { now = refl; one = all.0; other = all.1; own_is = own_is; unmade = λ k. own_within (v.number + (k + 1) * v.stride) most h.log all.2 (mine.unmade k); others = λ is. (only_between v.seen most h.log (mine.others is) all.0 all.2).0 },
       )

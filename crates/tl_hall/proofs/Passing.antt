@@ -1,5 +1,6 @@
 -- What a call leaves of a pass.
-use Rattle.std.proofs.Common.{◌≡◌, ℕ, ◌+◌, ◌*◌, false, List, [], ◌∷◌, ◌++◌, sym, refl, ap, ◌∙◌, subst, arith, one-mul}
+use Rattle.std.proofs.Common.{◌≡◌, ℕ, ◌+◌, ◌*◌, Bool, true, false, List, [], ◌∷◌, ◌++◌, sym, refl, ap, ◌∙◌, subst, arith, one-mul}
+use Rattle.std.specs.Prelude.{Result, Ok, Err, IfOk, OnErr}
 use Rattle.atomic_table.specs.Seated.{TableId}
 use Rattle.tl_desk.specs.Core.{Core}
 use Rattle.tl_desk.specs.Steps.{Step}
@@ -8,8 +9,8 @@ use Rattle.tl_hall.proofs.Running.{leads_more}
 use Rattle.tl_hall.specs.declared.entry.Entry.{Entry}
 use Rattle.tl_hall.specs.declared.entry.View.{View}
 use Rattle.tl_hall.specs.History.{entry, own, IsOfHall, Leads}
-use Rattle.tl_hall.specs.Rule.{Sat, elder, younger}
-use Rattle.tl_hall.specs.Passes.{passed, IsResting, IsInside, Saw, Made, Looked, IsAnother}
+use Rattle.tl_hall.specs.Rule.{Sat, elder, younger, helped, helper}
+use Rattle.tl_hall.specs.Passes.{passed, IsResting, IsAtRest, IsInside, Saw, Made, Looked, IsAnother}
 use Rattle.tl_hall.proofs.Histories.{own-mine, own-other}
 use Rattle.tl_hall.proofs.Keeping.{above, even, odd}
 
@@ -18,11 +19,12 @@ pub made : (z z' : TableId) (v : View) (w m : Sat) (c d : Core) (call : Call) (T
     → m ≡ (record w.0 { turn = false; seen = w.0.seen ++ entry w.0.number call ∷ [] }, []) → Made (passed z v) call Told (passed z' m.0)
 made z z' v w m c d call Told same saw leads of_hall step told is =
     subst (λ (x : Sat). Made (passed z v) call Told (passed z' x.0)) (sym is) record {
-      same = (same, saw.topo_is, saw.number_is, saw.stride_is);
+      same = (same, saw.topo_is, saw.number_is, saw.stride_is, saw.sole_is);
       before = w.0.seen;
       saw = saw.saw;
       now = ap (λ (n : ℕ). w.0.seen ++ entry n call ∷ []) saw.number_is;
       own_is = ap (λ (n : ℕ). own v.number (w.0.seen ++ entry n call ∷ [])) saw.number_is ∙ own-mine v.number call w.0.seen ∙ ap (λ (l : List Entry). l ++ entry v.number call ∷ []) saw.own_is;
+      others = saw.others;
       from = c;
       to = d;
       led = leads;
@@ -42,47 +44,82 @@ pub looked : (z z' : TableId) (v : View) (w m : Sat) (c : Core) (Answer : Core �
     → m ≡ (record w.0 { turn = false }, []) → Looked (passed z v) Answer (passed z' m.0)
 looked z z' v w m c Answer same saw leads answer is =
     subst (λ (x : Sat). Looked (passed z v) Answer (passed z' x.0)) (sym is) record {
-      same = (same, saw.topo_is, saw.number_is, saw.stride_is);
+      same = (same, saw.topo_is, saw.number_is, saw.stride_is, saw.sole_is);
       saw = saw.saw;
       own_is = saw.own_is;
+      others = saw.others;
       core = c;
       leads = leads;
       answer = answer;
     }
 
-pub rests : (w m : Sat) → IsInside w → m ≡ (record w.0 { turn = false }, []) → IsResting m
-rests w m inside is = subst IsResting (sym is) record { bare = refl; waits = refl; lives = inside.lives; strides = inside.strides; alone = inside.alone; unmade = inside.unmade }
+pub rests : (b : Bool) (v : View) (w m : Sat) → v.helps ≡ b → Saw v w.0 → IsInside w → m ≡ (record w.0 { turn = false }, []) → IsAtRest b m
+rests b v w m helps saw inside is = subst (IsAtRest b) (sym is) (record { bare = refl; waits = refl; lives = inside.lives; strides = inside.strides; alone = inside.alone; unmade = inside.unmade }, saw.helps_is ∙ helps)
 
-pub rests_with : (w m : Sat) (call : Call) → IsInside w → m ≡ (record w.0 { turn = false; seen = w.0.seen ++ entry w.0.number call ∷ [] }, []) → IsResting m
-rests_with w m call inside is = subst IsResting (sym is) record {
-  bare = refl;
-  waits = refl;
-  lives = inside.lives;
-  strides = inside.strides;
-  alone = inside.alone;
-  unmade = λ k. own-other (w.0.number + (k + 1) * w.0.stride) w.0.seen (entry w.0.number call) (above w.0.number w.0.stride k inside.strides) ∙ inside.unmade k;
-}
+pub rests_with : (b : Bool) (v : View) (w m : Sat) (call : Call) → v.helps ≡ b → Saw v w.0 → IsInside w → m ≡ (record w.0 { turn = false; seen = w.0.seen ++ entry w.0.number call ∷ [] }, []) → IsAtRest b m
+rests_with b v w m call helps saw inside is = subst (IsAtRest b) (sym is) (
+  record {
+    bare = refl;
+    waits = refl;
+    lives = inside.lives;
+    strides = inside.strides;
+    alone = inside.alone;
+    unmade = λ k. own-other (w.0.number + (k + 1) * w.0.stride) w.0.seen (entry w.0.number call) (above w.0.number w.0.stride k inside.strides) ∙ inside.unmade k;
+  },
+  saw.helps_is ∙ helps,
+)
 
-pub rests_elder : (m m' : Sat) → IsResting m → m' ≡ (elder m.0, m.1) → IsResting m'
-rests_elder m m' calm is = subst IsResting (sym is) record {
-  bare = calm.bare;
-  waits = calm.waits;
-  lives = calm.lives;
-  strides = omega (arith, calm.strides);
-  alone = calm.alone;
-  unmade = λ k. ap (λ (n : ℕ). own n m.0.seen) (omega (arith, even (k + 1) m.0.stride)) ∙ calm.unmade (k * 2 + 1);
-}
+-- The pass that gives another one, and what it gives: both own half of the numbers.
+module _ (m m' : Sat) (calm : IsResting m) where
+  half : (sole : Bool) → m' ≡ (record (elder m.0) { sole = sole }, m.1) → IsResting m'
+  half sole is = subst IsResting (sym is) record {
+    bare = calm.bare;
+    waits = calm.waits;
+    lives = calm.lives;
+    strides = omega (arith, calm.strides);
+    alone = calm.alone;
+    unmade = λ k. ap (λ (n : ℕ). own n m.0.seen) (omega (arith, even (k + 1) m.0.stride)) ∙ calm.unmade (k * 2 + 1);
+  }
 
-pub rests_younger : (m m' : Sat) → IsResting m → m' ≡ (younger m.0, []) → IsResting m'
-rests_younger m m' calm is = subst IsResting (sym is) record {
-  bare = refl;
-  waits = refl;
-  lives = refl;
-  strides = omega (arith, calm.strides);
-  alone = refl;
-  unmade = λ k. ap (λ (n : ℕ). own n m.0.seen) (omega (arith, odd (k + 1) m.0.stride)) ∙ calm.unmade ((k + 1) * 2);
-}
+  other_half : (helps : Bool) → m' ≡ (record (younger m.0) { helps = helps }, []) → IsResting m'
+  other_half helps is = subst IsResting (sym is) record {
+    bare = refl;
+    waits = refl;
+    lives = refl;
+    strides = omega (arith, calm.strides);
+    alone = refl;
+    unmade = λ k. ap (λ (n : ℕ). own n m.0.seen) (omega (arith, odd (k + 1) m.0.stride)) ∙ calm.unmade ((k + 1) * 2);
+  }
 
-pub is_another : (z z' : TableId) (m m' : Sat) → IsResting m → z' ≡ z → m' ≡ (younger m.0, []) → IsAnother (passed z m.0) (passed z' m'.0)
-is_another z z' m m' calm same is = subst (λ (x : Sat). IsAnother (passed z m.0) (passed z' x.0)) (sym is)
-    (same, refl, (λ e. absurd (omega (arith, e, calm.strides))), refl, ap (λ (n : ℕ). own n m.0.seen) (omega (arith, one-mul m.0.stride)) ∙ calm.unmade 0)
+  pub rests_elder : (b : Bool) → m.0.helps ≡ b → m' ≡ (elder m.0, m.1) → IsAtRest b m'
+  rests_elder b helps is = (half false is, ap (λ (x : Sat). x.0.helps) is ∙ helps)
+
+  pub rests_younger : (b : Bool) → m.0.helps ≡ b → m' ≡ (younger m.0, []) → IsAtRest b m'
+  rests_younger b helps is = (other_half m.0.helps is, ap (λ (x : Sat). x.0.helps) is ∙ helps)
+
+  pub rests_helped : (b : Bool) → m.0.helps ≡ b → m' ≡ (helped m.0, m.1) → IsAtRest b m'
+  rests_helped b helps is = (half m.0.sole is, ap (λ (x : Sat). x.0.helps) is ∙ helps)
+
+  pub rests_helper : m' ≡ (helper m.0, []) → IsAtRest true m'
+  rests_helper is = (other_half true is, ap (λ (x : Sat). x.0.helps) is)
+
+module _ (z z' : TableId) (m m' : Sat) (calm : IsResting m) (same : z' ≡ z) where
+  given : (helps : Bool) → m' ≡ (record (younger m.0) { helps = helps }, []) → IsAnother (passed z m.0) (passed z' m'.0)
+  given helps is = subst (λ (x : Sat). IsAnother (passed z m.0) (passed z' x.0)) (sym is)
+      (same, refl, (λ e. absurd (omega (arith, e, calm.strides))), refl, ap (λ (n : ℕ). own n m.0.seen) (omega (arith, one-mul m.0.stride)) ∙ calm.unmade 0)
+
+  pub is_another : m' ≡ (younger m.0, []) → IsAnother (passed z m.0) (passed z' m'.0)
+  is_another is = given m.0.helps is
+
+  pub is_helper : m' ≡ (helper m.0, []) → IsAnother (passed z m.0) (passed z' m'.0)
+  is_helper is = given true is
+
+-- ---- both outcomes
+
+pub if_ok : {T E : Type 0} (P Q : T → Type 0) (r : Result T E) → ((x : T) → P x → Q x) → IfOk r P → IfOk r Q
+if_ok P Q (Ok x) then is = then x is
+if_ok P Q (Err e) then is = tt
+
+pub on_err : {T E : Type 0} (P : Type 0) (r : Result T E) → P → OnErr r P
+on_err P (Ok x) is = tt
+on_err P (Err e) is = is

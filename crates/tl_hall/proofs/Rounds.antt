@@ -17,17 +17,20 @@ use Rattle.tl_hall.specs.declared.entry.Entry.{Entry}
 use Rattle.tl_hall.specs.declared.working.Round.{Round}
 use Rattle.tl_hall.specs.declared.working.Round.TheVariants as round
 use Rattle.tl_hall.specs.declared.working.WorkCount.{WorkCount}
-use Rattle.tl_hall.specs.History.{entry, own}
+use Rattle.tl_hall.specs.History.{entry, own, IsOfWorker, AreOfWorker, OnlyWork}
 use Rattle.tl_hall.specs.Passes.{PassData, Made, Looked, HasNone, IsUntaken}
-use Rattle.tl_hall.specs.Working.{AreOfWorker, one_take, one_taken, one_void, one_abandon, total, counted, nothing_done, Worked, window_in, back_in, calls_in, IsIdle, CameBack, WorkedOnce, counted_with}
-use Rattle.tl_hall.proofs.Histories.{prefix_self, prefix_trans, prefix_push}
+use Rattle.tl_hall.specs.Working.{one_take, one_taken, one_void, one_abandon, total, counted, nothing_done, Worked, window_in, back_in, calls_in, IsIdle, CameBack, WorkedOnce, counted_with}
+use Rattle.tl_hall.proofs.Histories.{prefix_self, prefix_trans, prefix_push, both_work, only_self, only_trans, only_push}
 
 seen_more : (p q : PassData) (k : Call) (Told : Core → Core → Type 0) → Made p k Told q → IsPrefix p.seen q.seen
 seen_more p q k Told made = subst (IsPrefix p.seen) (sym made.now) (prefix_push p.seen made.before (entry p.number k ∷ []) made.saw)
 
+only_more : (p q : PassData) (k : Call) (Told : Core → Core → Type 0) → IsOfWorker k → Made p k Told q → p.sole ≡ true → OnlyWork p.seen q.seen
+only_more p q k Told work made is = subst (OnlyWork p.seen) (sym made.now) (only_push p.seen made.before (entry p.number k) (made.others is) work)
+
 pub worked_start : (p : PassData) → Worked 0 p nothing_done p nothing_done
 worked_start p = record {
-  same = (refl, refl, refl, refl);
+  same = (refl, refl, refl, refl, refl);
   saw = prefix_self p.seen;
   added = [];
   own_is = sym (append-nil (own p.number p.seen));
@@ -38,11 +41,8 @@ worked_start p = record {
   taken = refl;
   void = refl;
   abandoned = refl;
+  others = λ _. only_self p.seen;
 }
-
-both_work : (xs ys : List Entry) → AreOfWorker xs → AreOfWorker ys → AreOfWorker (xs ++ ys)
-both_work [] ys a b = b
-both_work (x ∷ xs) ys a b = (a.0, both_work xs ys a.1 b)
 
 both_total : (one : Call → ℕ) (xs ys : List Entry) → total one (xs ++ ys) ≡ total one xs + total one ys
 both_total one [] ys = let e : total one ys ≡ 0 + total one ys = omega arith in e
@@ -63,7 +63,7 @@ worked_then p q r n m k a b =
     let a_among : total one_abandon a.added ≤ a.lost = a.among in
     let b_among : total one_abandon b.added ≤ b.lost = b.among in
     record {
-      same = (b.same.0 ∙ a.same.0, b.same.1 ∙ a.same.1, b.same.2 ∙ a.same.2, b.same.3 ∙ a.same.3);
+      same = (b.same.0 ∙ a.same.0, b.same.1 ∙ a.same.1, b.same.2 ∙ a.same.2, b.same.3 ∙ a.same.3, b.same.4 ∙ a.same.4);
       saw = prefix_trans p.seen q.seen r.seen a.saw b.saw;
       added = a.added ++ b.added;
       own_is = ap (λ (i : ℕ). own i r.seen) (sym a.same.2) ∙ b.own_is ∙ ap (λ (i : ℕ). own i q.seen ++ b.added) a.same.2 ∙ ap (λ (l : List Entry). l ++ b.added) a.own_is
@@ -75,18 +75,20 @@ worked_then p q r n m k a b =
       taken = counted_then n.taken m.taken k.taken (total one_taken a.added) (total one_taken b.added) (total one_taken (a.added ++ b.added)) a.taken b.taken taken;
       void = counted_then n.void m.void k.void (total one_void a.added) (total one_void b.added) (total one_void (a.added ++ b.added)) a.void b.void void;
       abandoned = counted_then n.abandoned m.abandoned k.abandoned a.lost b.lost (a.lost + b.lost) a.abandoned b.abandoned refl;
+      others = λ is. only_trans p.seen q.seen r.seen (a.others is) (b.others (a.same.4 ∙ is));
     }
 
 -- ---- what becomes of a job
 
 module _ (ticket : ℕ) (window piece : Piece) (p q : PassData) (is : piece ≡ window) where
-  back_by : (came : Round) (call : Piece → Call) (Told : Core → Core → Type 0) → window_in came ≡ Some piece → map (entry p.number) (back_in ticket came) ≡ entry p.number (call piece) ∷ [] → Made p (call window) Told q
+  back_by : (came : Round) (call : Piece → Call) (Told : Core → Core → Type 0) → window_in came ≡ Some piece → map (entry p.number) (back_in ticket came) ≡ entry p.number (call piece) ∷ [] → IsOfWorker (call window) → Made p (call window) Told q
       → CameBack ticket window p came q
-  back_by came call Told some calls made = record {
+  back_by came call Told some calls work made = record {
     same = made.same;
     saw = seen_more p q (call window) Told made;
     is = some ∙ ap (λ (w : Piece). Some w) is;
     own_is = made.own_is ∙ ap (λ (w : Piece). own p.number p.seen ++ entry p.number (call w) ∷ []) (sym is) ∙ ap (λ (l : List Entry). own p.number p.seen ++ l) (sym calls);
+    others = only_more p q (call window) Told work made;
   }
 
   forfeited : (came : Round) (Answer : Core → Type 0) → window_in came ≡ Some piece → map (entry p.number) (back_in ticket came) ≡ [] → Looked p Answer q → CameBack ticket window p came q
@@ -95,19 +97,20 @@ module _ (ticket : ℕ) (window piece : Piece) (p q : PassData) (is : piece ≡ 
     saw = look.saw;
     is = some ∙ ap (λ (w : Piece). Some w) is;
     own_is = look.own_is ∙ sym (append-nil (own p.number p.seen)) ∙ ap (λ (l : List Entry). own p.number p.seen ++ l) (sym calls);
+    others = look.others;
   }
 
   pub came_taken : (Told : Core → Core → Type 0) → Made p (call.HandIn ticket window true) Told q → CameBack ticket window p (round.Taken piece) q
-  came_taken Told made = back_by (round.Taken piece) (λ w. call.HandIn ticket w true) Told refl refl made
+  came_taken Told made = back_by (round.Taken piece) (λ w. call.HandIn ticket w true) Told refl refl tt made
 
   pub came_void : (Told : Core → Core → Type 0) → Made p (call.HandIn ticket window false) Told q → CameBack ticket window p (round.Void piece) q
-  came_void Told made = back_by (round.Void piece) (λ w. call.HandIn ticket w false) Told refl refl made
+  came_void Told made = back_by (round.Void piece) (λ w. call.HandIn ticket w false) Told refl refl tt made
 
   pub came_strange : (Answer : Core → Type 0) → Looked p Answer q → CameBack ticket window p (round.Strange piece) q
   came_strange Answer look = forfeited (round.Strange piece) Answer refl refl look
 
   pub came_abandoned : (Told : Core → Core → Type 0) → Made p (call.Abandon ticket window) Told q → CameBack ticket window p (round.Abandoned piece) q
-  came_abandoned Told made = back_by (round.Abandoned piece) (λ w. call.Abandon ticket w) Told refl refl made
+  came_abandoned Told made = back_by (round.Abandoned piece) (λ w. call.Abandon ticket w) Told refl refl tt made
 
   pub came_lost : (Answer : Core → Type 0) → Looked p Answer q → CameBack ticket window p (round.Lost piece) q
   came_lost Answer look = forfeited (round.Lost piece) Answer refl refl look
@@ -145,19 +148,20 @@ once_behind p q r ticket window came Told made b =
     let calls : map (entry p.number) (calls_in ticket came) ≡ entry p.number (call.Take ticket window) ∷ back =
     ap (λ (o : Option Piece). map (entry p.number) (option_map_or (λ w. call.Take ticket w ∷ back_in ticket came) o [])) b.is in
     record {
-      same = (b.same.0 ∙ made.same.0, b.same.1 ∙ made.same.1, b.same.2 ∙ made.same.2, b.same.3 ∙ made.same.3);
+      same = (b.same.0 ∙ made.same.0, b.same.1 ∙ made.same.1, b.same.2 ∙ made.same.2, b.same.3 ∙ made.same.3, b.same.4 ∙ made.same.4);
       saw = prefix_trans p.seen q.seen r.seen (seen_more p q (call.Take ticket window) Told made) b.saw;
       ticket = ticket;
       own_is = behind ∙ ap (λ (l : List Entry). l ++ back) made.own_is ∙ append_assoc (own p.number p.seen) (entry p.number (call.Take ticket window) ∷ []) back
           ∙ ap (λ (l : List Entry). own p.number p.seen ++ l) (sym calls);
+      others = λ is. only_trans p.seen q.seen r.seen (only_more p q (call.Take ticket window) Told tt made is) (b.others (made.same.4 ∙ is));
       idle = never_idle p r window came b.is;
     }
 
 pub once_none : (p q : PassData) → Looked p HasNone q → WorkedOnce p round.NoWindow q
-once_none p q look = record { same = look.same; saw = look.saw; ticket = 0; own_is = look.own_is ∙ sym (append-nil (own p.number p.seen)); idle = look }
+once_none p q look = record { same = look.same; saw = look.saw; ticket = 0; own_is = look.own_is ∙ sym (append-nil (own p.number p.seen)); others = look.others; idle = look }
 
 pub once_refused : (p q : PassData) (fault : TakeFault) → Looked p (IsUntaken fault) q → WorkedOnce p (round.Refused fault) q
-once_refused p q fault look = record { same = look.same; saw = look.saw; ticket = 0; own_is = look.own_is ∙ sym (append-nil (own p.number p.seen)); idle = look }
+once_refused p q fault look = record { same = look.same; saw = look.saw; ticket = 0; own_is = look.own_is ∙ sym (append-nil (own p.number p.seen)); others = look.others; idle = look }
 
 -- Each number has 64 bits.
 abbrev pub Fits : WorkCount → Type 0
@@ -184,6 +188,7 @@ module _ (p q : PassData) (n : WorkCount) (fits : Fits n) where
     taken = counts.2;
     void = counts.3;
     abandoned = counts.4;
+    others = w.others;
   }
 
   abbrev none_taken : n.taken ≡ counted n.taken 0

@@ -18,7 +18,7 @@ is_inside m m' m'' calm e out = subst IsInside (sym (now_inside m m' m'' e out))
 
 pub is_seen : (m m' m'' : Sat) → Entered m m' → m'' ≡ (m'.0, (0, None) ∷ []) → Saw m.0 m''.0
 is_seen m m' m'' e out = subst (λ (x : Sat). Saw m.0 x.0) (sym (now_inside m m' m'' e out))
-    record { topo_is = refl; number_is = refl; stride_is = refl; saw = e.saw; own_is = e.own_is }
+    record { topo_is = refl; number_is = refl; stride_is = refl; helps_is = refl; sole_is = refl; saw = e.saw; own_is = e.own_is; others = e.others }
 
 pub carries : (m m' : Sat) → IsResting m → (e : Entered m m') → m'.1 ≡ (0, Some e.core) ∷ []
 carries m m' calm e = ap (λ (x : Sat). x.1) e.now ∙ ap (λ (cs : List (ℕ × Option Core)). (0, Some e.core) ∷ cs) calm.bare

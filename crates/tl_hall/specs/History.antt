@@ -1,5 +1,5 @@
 -- The history of a hall: the calls that changed its desk, the oldest first, each with the number of the pass that made it.
-use Rattle.std.specs.Prelude.{◌≡◌, ◌==◌, ℕ, cond, List, [], ◌∷◌, map}
+use Rattle.std.specs.Prelude.{◌≡◌, ◌==◌, ℕ, cond, List, [], ◌∷◌, ◌++◌, map}
 use Rattle.tl_topology.specs.Topology.{Topology}
 use Rattle.tl_desk.specs.Core.{Core, IsNew}
 use Rattle.tl_desk.specs.Steps.{Step}
@@ -12,6 +12,25 @@ entry by made = record { by = by; call = made }
 
 abbrev pub call_of : Entry → Call
 call_of e = e.call
+
+-- A worker takes, hands in and abandons, and makes no other call.
+abbrev pub IsOfWorker : Call → Type 0
+IsOfWorker (call.Take ticket piece) = Unit {0}
+IsOfWorker (call.HandIn ticket piece taken) = Unit {0}
+IsOfWorker (call.Abandon ticket piece) = Unit {0}
+IsOfWorker (call.Edit change number) = ⊥
+IsOfWorker (call.Attach monitor w number) = ⊥
+IsOfWorker (call.Recheck count) = ⊥
+IsOfWorker (call.Publish version) = ⊥
+IsOfWorker (call.Recall ticket) = ⊥
+
+abbrev pub AreOfWorker : List Entry → Type 0
+AreOfWorker [] = Unit {0}
+AreOfWorker (e ∷ es) = IsOfWorker e.call × AreOfWorker es
+
+-- The history begins with what was seen, and all entries after that are workers'.
+abbrev pub OnlyWork : List Entry → List Entry → Type 0
+OnlyWork seen log = (added : List Entry) × (seen ++ added ≡ log) × AreOfWorker added
 
 -- the entries of the pass of this number
 abbrev pub own : ℕ → List Entry → List Entry

@@ -1,5 +1,5 @@
 -- A hall and its passes, as contracts see them.
-use Rattle.std.specs.Prelude.{◌≡◌, ◌≢◌, ◌<◌, ◌≤◌, ℕ, true, false, List, [], ◌∷◌, ◌++◌, length, take, Option, Some, None}
+use Rattle.std.specs.Prelude.{◌≡◌, ◌≢◌, ◌<◌, ◌≤◌, ℕ, Bool, true, false, List, [], ◌∷◌, ◌++◌, length, take, Option, Some, None}
 use mathlib.Core.List.{IsPrefix}
 use Rattle.atomic_table.specs.Seated.{TableId}
 use Rattle.tl_definitions.specs.Report.{IsReport}
@@ -30,7 +30,7 @@ use Rattle.tl_desk.specs.declared.fault.PublishFault.{PublishFault}
 use Rattle.tl_desk.specs.declared.fault.PublishFault.TheVariants as publish_fault
 use Rattle.tl_hall.specs.declared.entry.Entry.{Entry}
 use Rattle.tl_hall.specs.declared.entry.View.{View}
-use Rattle.tl_hall.specs.History.{entry, own, Leads}
+use Rattle.tl_hall.specs.History.{entry, own, OnlyWork, Leads}
 use Rattle.tl_hall.specs.Rule.{Sat, IsUnmade, longer}
 
 -- which hall it is, and its topology
@@ -38,16 +38,18 @@ pub record HallData : Type 0 where
   pub hall : TableId
   pub topo : Topology
 
--- the hall of a pass and its topology, the number of the pass and the distance to those that it may give, and what it has seen of the history
+-- the hall of a pass and its topology, the number of the pass and the distance to those that it may give, what it has seen of the history, and
+-- whether each other pass of the hall only helps
 pub record PassData : Type 0 where
   pub hall : TableId
   pub topo : Topology
   pub number : ℕ
   pub stride : ℕ
   pub seen : List Entry
+  pub sole : Bool
 
 abbrev pub passed : TableId → View → PassData
-passed table v = record { hall = table; topo = v.topo; number = v.number; stride = v.stride; seen = v.seen }
+passed table v = record { hall = table; topo = v.topo; number = v.number; stride = v.stride; seen = v.seen; sole = v.sole }
 
 -- a seat between two calls
 pub record IsResting (m : Sat) : Type 0 where
@@ -57,6 +59,10 @@ pub record IsResting (m : Sat) : Type 0 where
   pub strides : 0 < m.0.stride
   pub alone : m.0.met ≡ []
   pub unmade : IsUnmade m.0 m.0.seen
+
+-- a seat between two calls whose pass only helps, or makes all calls
+abbrev pub IsAtRest : Bool → Sat → Type 0
+IsAtRest helps m = IsResting m × (m.0.helps ≡ helps)
 
 -- a seat that holds the turn and the empty slot
 pub record IsInside (m : Sat) : Type 0 where
@@ -72,21 +78,25 @@ pub record Saw (v w : View) : Type 0 where
   pub topo_is : w.topo ≡ v.topo
   pub number_is : w.number ≡ v.number
   pub stride_is : w.stride ≡ v.stride
+  pub helps_is : w.helps ≡ v.helps
+  pub sole_is : w.sole ≡ v.sole
   pub saw : IsPrefix v.seen w.seen
   pub own_is : own v.number w.seen ≡ own v.number v.seen
+  pub others : v.sole ≡ true → OnlyWork v.seen w.seen
 
 -- The same pass of the same hall.
 abbrev pub IsSame : PassData → PassData → Type 0
-IsSame p q = (q.hall ≡ p.hall) × (q.topo ≡ p.topo) × (q.number ≡ p.number) × (q.stride ≡ p.stride)
+IsSame p q = (q.hall ≡ p.hall) × (q.topo ≡ p.topo) × (q.number ≡ p.number) × (q.stride ≡ p.stride) × (q.sole ≡ p.sole)
 
 -- The pass after a call that made an entry. The history ends with this entry, and before it stands all that was seen, with no other entry of the
--- pass besides its earlier ones. It leads to a desk, of which the call, as one step, makes the desk that the whole history leads to.
+-- pass besides its earlier ones, and where all others only help, workers' calls alone. It leads to a desk, of which the call, as one step, makes the desk that the whole history leads to.
 pub record Made (p : PassData) (made : Call) (Told : Core → Core → Type 0) (q : PassData) : Type 0 where
   pub same : IsSame p q
   pub before : List Entry
   pub saw : IsPrefix p.seen before
   pub now : q.seen ≡ before ++ entry p.number made ∷ []
   pub own_is : own p.number q.seen ≡ own p.number p.seen ++ entry p.number made ∷ []
+  pub others : p.sole ≡ true → OnlyWork p.seen before
   pub from : Core
   pub to : Core
   pub led : Leads p.topo before from
@@ -98,11 +108,13 @@ pub record Made (p : PassData) (made : Call) (Told : Core → Core → Type 0) (
 abbrev pub NoMore : Core → Core → Type 0
 NoMore from to = Unit {0}
 
--- The pass after a call that made no entry: it has seen a history that has no new entry of its own and leads to a desk of which the answer is true.
+-- The pass after a call that made no entry: it has seen a history that has no new entry of its own, and only workers' where all others help, and
+-- leads to a desk of which the answer is true.
 pub record Looked (p : PassData) (Answer : Core → Type 0) (q : PassData) : Type 0 where
   pub same : IsSame p q
   pub saw : IsPrefix p.seen q.seen
   pub own_is : own p.number q.seen ≡ own p.number p.seen
+  pub others : p.sole ≡ true → OnlyWork p.seen q.seen
   pub core : Core
   pub leads : Leads p.topo q.seen core
   pub answer : Answer core
@@ -193,10 +205,12 @@ pub record Meets (p : PassData) (heard : List Entry) (q : PassData) : Type 0 whe
   pub one : IsPrefix p.seen q.seen
   pub other : IsPrefix heard q.seen
   pub own_is : own p.number q.seen ≡ own p.number p.seen
+  pub others : p.sole ≡ true → OnlyWork p.seen q.seen
 
 -- A history leads to the desk that begins with all that the pass has seen, and has no other entry of it.
 pub record Closes (p : PassData) (core : Core) : Type 0 where
   pub log : List Entry
   pub saw : IsPrefix p.seen log
   pub own_is : own p.number log ≡ own p.number p.seen
+  pub others : p.sole ≡ true → OnlyWork p.seen log
   pub leads : Leads p.topo log core

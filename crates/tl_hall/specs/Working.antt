@@ -9,23 +9,8 @@ use Rattle.tl_hall.specs.declared.entry.Entry.{Entry}
 use Rattle.tl_hall.specs.declared.working.Round.{Round}
 use Rattle.tl_hall.specs.declared.working.Round.TheVariants as round
 use Rattle.tl_hall.specs.declared.working.WorkCount.{WorkCount}
-use Rattle.tl_hall.specs.History.{entry, own}
+use Rattle.tl_hall.specs.History.{entry, own, AreOfWorker, OnlyWork}
 use Rattle.tl_hall.specs.Passes.{PassData, Looked, HasNone, IsUntaken, IsSame}
-
--- A worker takes, hands in and abandons, and makes no other call.
-abbrev pub IsOfWorker : Call → Type 0
-IsOfWorker (call.Take ticket piece) = Unit {0}
-IsOfWorker (call.HandIn ticket piece taken) = Unit {0}
-IsOfWorker (call.Abandon ticket piece) = Unit {0}
-IsOfWorker (call.Edit change number) = ⊥
-IsOfWorker (call.Attach monitor w number) = ⊥
-IsOfWorker (call.Recheck count) = ⊥
-IsOfWorker (call.Publish version) = ⊥
-IsOfWorker (call.Recall ticket) = ⊥
-
-abbrev pub AreOfWorker : List Entry → Type 0
-AreOfWorker [] = Unit {0}
-AreOfWorker (e ∷ es) = IsOfWorker e.call × AreOfWorker es
 
 -- 1 for a window that went out
 abbrev pub one_take : Call → ℕ
@@ -73,6 +58,7 @@ pub record Worked (held : ℕ) (p : PassData) (before : WorkCount) (q : PassData
   pub taken : after.taken ≡ counted before.taken (total one_taken added)
   pub void : after.void ≡ counted before.void (total one_void added)
   pub abandoned : after.abandoned ≡ counted before.abandoned lost
+  pub others : p.sole ≡ true → OnlyWork p.seen q.seen
 
 -- ---- one round
 
@@ -116,6 +102,7 @@ pub record CameBack (ticket : ℕ) (window : Piece) (p : PassData) (came : Round
   pub saw : IsPrefix p.seen q.seen
   pub is : window_in came ≡ Some window
   pub own_is : own p.number q.seen ≡ own p.number p.seen ++ map (entry p.number) (back_in ticket came)
+  pub others : p.sole ≡ true → OnlyWork p.seen q.seen
 
 -- One round: the pass has seen more, and its own entries are those that it had and the calls of the round, under one ticket. Where no window
 -- went out, it is true why.
@@ -124,6 +111,7 @@ pub record WorkedOnce (p : PassData) (came : Round) (q : PassData) : Type 0 wher
   pub saw : IsPrefix p.seen q.seen
   pub ticket : ℕ
   pub own_is : own p.number q.seen ≡ own p.number p.seen ++ map (entry p.number) (calls_in ticket came)
+  pub others : p.sole ≡ true → OnlyWork p.seen q.seen
   pub idle : IsIdle p came q
 
 -- what a worker counts of a round

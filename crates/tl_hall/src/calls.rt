@@ -5,7 +5,7 @@ ghost use Rattle.tl_inputs.specs.Edits.{plain_change, attach};
 ghost use Rattle.tl_desk.specs.declared.call.Call.TheVariants as call;
 ghost use Rattle.tl_hall.specs.Passes.{Made, NoMore, Looked, NoWord, IsRefused, IsUnready, IsLatest, HasEdits};
 
-use crate::hall::{Hall, Pass};
+use crate::hall::{Access, Hall, Pass};
 use crate::rule::Asked;
 use std::alloc::{AllocError, Global};
 use std::marker::Brand;
@@ -55,16 +55,16 @@ impl<M: Monitor> Hall<M> {
         ensures ok { IfOk result.1 (λ number. Made pass (call.Edit C.change number) NoMore result.0) }
         ensures err { IfErr result.1 (λ fault. Looked pass (IsRefused (plain_change C.change) fault) result.0) }
     {
-        let Pass { mut seat } = pass;
+        let Access { mut seat, rights } = pass;
         let mut desk = self.enter(rt, &mut seat);
         match desk.edit(alloc, change) {
             Ok(number) => {
                 self.leave_with::<Brand, u64>(&mut seat, desk, &number);
-                (Pass { seat }, Ok(number))
+                (Access { seat, rights }, Ok(number))
             }
             Err(fault) => {
                 self.leave(&mut seat, desk);
-                (Pass { seat }, Err(fault))
+                (Access { seat, rights }, Err(fault))
             }
         }
     }
@@ -84,7 +84,7 @@ impl<M: Monitor> Hall<M> {
         ensures back { IfErr result.1 (λ e. M.held e.1 ≡ M.held monitor) }
         ensures err { IfErr result.1 (λ e. Looked pass (IsRefused (attach number (M.held monitor).watch) e.0) result.0) }
     {
-        let Pass { mut seat } = pass;
+        let Access { mut seat, rights } = pass;
         let mut desk = self.enter(rt, &mut seat);
         let watch = monitor.watch();
         match desk.attach(alloc, number, monitor) {
@@ -94,11 +94,11 @@ impl<M: Monitor> Hall<M> {
                     desk,
                     &(number, watch, edit),
                 );
-                (Pass { seat }, Ok(edit))
+                (Access { seat, rights }, Ok(edit))
             }
             Err(refused) => {
                 self.leave(&mut seat, desk);
-                (Pass { seat }, Err(refused))
+                (Access { seat, rights }, Err(refused))
             }
         }
     }
@@ -115,16 +115,16 @@ impl<M: Monitor> Hall<M> {
         ensures ok { IfOk result.1 (λ version. Made pass (call.Publish version) NoMore result.0) }
         ensures err { IfErr result.1 (λ fault. Looked pass (IsUnready fault) result.0) }
     {
-        let Pass { mut seat } = pass;
+        let Access { mut seat, rights } = pass;
         let mut desk = self.enter(rt, &mut seat);
         match desk.publish(alloc) {
             Ok(version) => {
                 self.leave_with::<Brand, u64>(&mut seat, desk, &version);
-                (Pass { seat }, Ok(version))
+                (Access { seat, rights }, Ok(version))
             }
             Err(fault) => {
                 self.leave(&mut seat, desk);
-                (Pass { seat }, Err(fault))
+                (Access { seat, rights }, Err(fault))
             }
         }
     }
@@ -140,11 +140,11 @@ impl<M: Monitor> Hall<M> {
         ensures ok { IfOk result.1 (λ found. Looked pass (IsLatest found) result.0) }
         ensures err { OnErr result.1 (Looked pass NoWord result.0) }
     {
-        let Pass { mut seat } = pass;
+        let Access { mut seat, rights } = pass;
         let desk = self.enter(rt, &mut seat);
         let found = latest(&desk);
         self.leave(&mut seat, desk);
-        (Pass { seat }, found)
+        (Access { seat, rights }, found)
     }
 
     /// How many edits the history has that the pass has then seen. It takes no memory, and may wait for another thread.
@@ -152,10 +152,10 @@ impl<M: Monitor> Hall<M> {
         requires { pass.hall ≡ self.now.hall }
         ensures { Looked pass (HasEdits result.1) result.0 }
     {
-        let Pass { mut seat } = pass;
+        let Access { mut seat, rights } = pass;
         let desk = self.enter(rt, &mut seat);
         let count = desk.log().len();
         self.leave(&mut seat, desk);
-        (Pass { seat }, count)
+        (Access { seat, rights }, count)
     }
 }

@@ -24,6 +24,10 @@ pub struct View {
     pub met: LinkedList<Entry>,
     /// Whether it holds the turn.
     pub turn: bool,
+    /// Whether it only takes windows, hands them in and abandons them.
+    pub helps: bool,
+    /// Whether each other pass of its hall only helps.
+    pub sole: bool,
     /// Whether it is gone.
     pub spent: bool,
 }

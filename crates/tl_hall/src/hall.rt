@@ -2,13 +2,13 @@
 
 ghost use Rattle.std.specs.Prelude.{◌≡◌, ◌++◌, [], ◌∷◌, IfOk, true, false, None, Some};
 ghost use Rattle.tl_desk.specs.Core.{Core};
-ghost use Rattle.tl_hall.specs.History.{entry, Leads};
+ghost use Rattle.tl_hall.specs.History.{entry, IsOfWorker, Leads};
 ghost use Rattle.tl_hall.specs.Passes.{IsResting, IsInside, Saw, Closes};
 
 use crate::rule::{Board, Enter, Leave, Place, Record, Said, Stay};
 use atomic_table::{Refused, Table};
 use std::alloc::{AllocError, Global};
-use std::marker::Model;
+use std::marker::{Model, PhantomData};
 use std::sync::Wait;
 use std::thread::yield_now;
 use tl_desk::Desk;
@@ -32,17 +32,50 @@ impl<M: Monitor> Model for Hall<M> {
     ghost invariant = { λ h. (h.table.shared.table_id.words ≡ 2) × (h.table.shared.table_id.slots ≡ 1) };
 }
 
+/// Which calls are allowed.
+pub trait Rights {
+    ghost use Rattle.std.specs.Prelude.{Bool};
+
+    /// Whether these are to take windows, to hand them in and to abandon them, and no other.
+    ghost helps: { Bool };
+}
+
+/// Each call.
+pub struct All;
+
+impl Rights for All {
+    ghost use Rattle.std.specs.Prelude.{false};
+
+    ghost helps = { false };
+}
+
+/// To take windows, to hand them in and to abandon them.
+pub struct Windows;
+
+impl Rights for Windows {
+    ghost use Rattle.std.specs.Prelude.{true};
+
+    ghost helps = { true };
+}
+
 /// The right to call a hall, with what its holder knows of the hall's history: a beginning of it, in which all entries of this
 /// pass stand.
 #[derive(Drop)]
-pub struct Pass<M: Monitor> {
+pub struct Access<M: Monitor, K: Rights> {
     pub(crate) seat: Place<M>,
+    pub(crate) rights: PhantomData<K>,
 }
 
-impl<M: Monitor> Model for Pass<M> {
+/// The right to make each call.
+pub type Pass<M> = Access<M, All>;
+
+/// The right to check windows, and no other.
+pub type Helper<M> = Access<M, Windows>;
+
+impl<M: Monitor, K: Rights> Model for Access<M, K> {
     ghost use Rattle.std.specs.Coded.{codes};
     ghost use Rattle.tl_hall.specs.contracts.entry.Entry as entry_row;
-    ghost use Rattle.tl_hall.specs.Passes.{PassData, passed, IsResting};
+    ghost use Rattle.tl_hall.specs.Passes.{PassData, passed, IsAtRest};
 
     ghost Value = { PassData };
 
@@ -50,7 +83,7 @@ impl<M: Monitor> Model for Pass<M> {
 
     ghost view = { λ p. passed p.seat.table_id p.seat.me.0 };
 
-    ghost invariant = { λ p. IsResting p.seat.me };
+    ghost invariant = { λ p. IsAtRest K.helps p.seat.me };
 }
 
 /// What a pass had seen of a hall's history.
@@ -77,25 +110,28 @@ impl<M: Monitor> Hall<M> {
     /// A hall with a desk of its own, on which nothing was done, and the pass that has seen the empty history. AllocError where
     /// memory is refused.
     pub fn new(alloc: Global, topo: Topo) -> Result<(Hall<M>, Pass<M>), AllocError>
-        ensures { IfOk result (λ r. (r.1.hall ≡ r.0.hall) × (r.0.topo ≡ topo) × (r.1.topo ≡ topo) × (r.1.seen ≡ [])) }
+        ensures { IfOk result (λ r. (r.1.hall ≡ r.0.hall) × (r.0.topo ≡ topo) × (r.1.topo ≡ topo) × (r.1.seen ≡ []) × (r.1.sole ≡ true)) }
     {
         let key = topo.copy(alloc)?;
         let mut slots = Vec::with_capacity(alloc, 1)?;
         let desk = Desk::new(alloc, topo)?;
         slots.push(Some(desk))?;
         match Table::new(alloc, &[0, 0], slots, &key) {
-            Ok((table, seat)) => Ok((Hall { table }, Pass { seat })),
+            Ok((table, seat)) => {
+                let rights = PhantomData;
+                Ok((Hall { table }, Access { seat, rights }))
+            }
             Err(Refused { slots: _ }) => Err(AllocError),
         }
     }
 
     /// Takes the turn for good, and keeps the desk: a history leads to it that begins with all that the pass has seen, and has no
     /// other entry of it. It may wait for another thread.
-    pub fn close<R: Wait>(self, rt: &R, pass: Pass<M>) -> Desk<M>
+    pub fn close<R: Wait, K: Rights>(self, rt: &R, pass: Access<M, K>) -> Desk<M>
         requires { pass.hall ≡ self.hall }
         ensures { Closes pass result }
     {
-        let Pass { mut seat } = pass;
+        let Access { mut seat, .. } = pass;
         let desk = self.enter(rt, &mut seat);
         self.table.shared.fetch_add::<Stay>(&mut seat, 0, 0);
         let Hall { table } = self;
@@ -152,6 +188,7 @@ impl<M: Monitor> Hall<M> {
     pub(crate) fn leave_with<C: Said, T>(&self, seat: &mut Place<M>, desk: Desk<M>, told: &T)
         requires hall { seat.old.table_id ≡ self.now.hall }
         requires inside { IsInside seat.old.me }
+        requires may { seat.old.me.0.helps ≡ true → IsOfWorker C.call }
         requires desk { Leads seat.old.me.0.topo (seat.old.me.0.seen ++ entry seat.old.me.0.number C.call ∷ []) desk }
         ensures hall { seat.new.table_id ≡ seat.old.table_id }
         ensures now { seat.new.me ≡ (record seat.old.me.0 { turn = false; seen = seat.old.me.0.seen ++ entry seat.old.me.0.number C.call ∷ [] }, []) }

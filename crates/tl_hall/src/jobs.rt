@@ -5,7 +5,7 @@ ghost use Rattle.tl_jobs.specs.Works.{ticket_of, window_of};
 ghost use Rattle.tl_desk.specs.declared.call.Call.TheVariants as call;
 ghost use Rattle.tl_hall.specs.Passes.{Made, NoMore, Looked, Takes, HasNone, IsUntaken, IsStranger, IsAbandoned, HandsIn, IsDead, IsOldest};
 
-use crate::hall::{Hall, Pass};
+use crate::hall::{Access, Hall, Pass, Rights};
 use std::alloc::Global;
 use std::marker::Brand;
 use std::sync::Wait;
@@ -16,44 +16,49 @@ impl<M: Monitor> Hall<M> {
     /// Gives the first window that is to be checked, with all that its check asks, under the next ticket, or None, or refuses it, as
     /// `Desk::take` does: a window of a monitor takes its monitor along. It may wait for another thread; the check stands outside
     /// the turn.
-    pub fn take<R: Wait>(
+    pub fn take<R: Wait, K: Rights>(
         &self,
         rt: &R,
         alloc: Global,
-        pass: Pass<M>,
-    ) -> (Pass<M>, Result<Option<Job<M>>, TakeFault>)
+        pass: Access<M, K>,
+    ) -> (Access<M, K>, Result<Option<Job<M>>, TakeFault>)
         requires { pass.hall ≡ self.now.hall }
         ensures some { IfOk result.1 (λ found. IfSome found (λ job. Made pass (call.Take (ticket_of job) (window_of job)) (Takes job) result.0)) }
         ensures none { IfOk result.1 (λ found. IfNone found (Looked pass HasNone result.0)) }
         ensures err { IfErr result.1 (λ fault. Looked pass (IsUntaken fault) result.0) }
     {
-        let Pass { mut seat } = pass;
+        let Access { mut seat, rights } = pass;
         let mut desk = self.enter(rt, &mut seat);
         match desk.take(alloc) {
             Ok(Some(job)) => {
                 let ticket = job.ticket();
                 let piece = job.piece();
                 self.leave_with::<Brand, (u64, Piece)>(&mut seat, desk, &(ticket, piece));
-                (Pass { seat }, Ok(Some(job)))
+                (Access { seat, rights }, Ok(Some(job)))
             }
             Ok(None) => {
                 self.leave(&mut seat, desk);
-                (Pass { seat }, Ok(None))
+                (Access { seat, rights }, Ok(None))
             }
             Err(fault) => {
                 self.leave(&mut seat, desk);
-                (Pass { seat }, Err(fault))
+                (Access { seat, rights }, Err(fault))
             }
         }
     }
 
     /// Takes a checked window in, as `Desk::hand_in` does. A stranger's job comes back, and is no entry of the history. It takes no
     /// memory, and may wait for another thread.
-    pub fn hand_in<R: Wait>(&self, rt: &R, pass: Pass<M>, done: Done<M>) -> (Pass<M>, HandIn<M>)
+    pub fn hand_in<R: Wait, K: Rights>(
+        &self,
+        rt: &R,
+        pass: Access<M, K>,
+        done: Done<M>,
+    ) -> (Access<M, K>, HandIn<M>)
         requires { pass.hall ≡ self.now.hall }
         ensures { HandsIn pass done result.1 result.0 }
     {
-        let Pass { mut seat } = pass;
+        let Access { mut seat, rights } = pass;
         let mut desk = self.enter(rt, &mut seat);
         let ticket = done.ticket();
         let piece = done.piece();
@@ -64,7 +69,7 @@ impl<M: Monitor> Hall<M> {
                     desk,
                     &(ticket, piece, true),
                 );
-                (Pass { seat }, HandIn::Taken)
+                (Access { seat, rights }, HandIn::Taken)
             }
             HandIn::Void => {
                 self.leave_with::<Brand, (u64, Piece, bool)>(
@@ -72,40 +77,40 @@ impl<M: Monitor> Hall<M> {
                     desk,
                     &(ticket, piece, false),
                 );
-                (Pass { seat }, HandIn::Void)
+                (Access { seat, rights }, HandIn::Void)
             }
             HandIn::Stranger(done) => {
                 self.leave(&mut seat, desk);
-                (Pass { seat }, HandIn::Stranger(done))
+                (Access { seat, rights }, HandIn::Stranger(done))
             }
         }
     }
 
     /// Takes a window back that wasn't checked, as `Desk::abandon` does: a stranger's job comes back, and is no entry of the history.
     /// It takes no memory, and may wait for another thread.
-    pub fn abandon<R: Wait>(
+    pub fn abandon<R: Wait, K: Rights>(
         &self,
         rt: &R,
-        pass: Pass<M>,
+        pass: Access<M, K>,
         job: Job<M>,
-    ) -> (Pass<M>, Result<(), Job<M>>)
+    ) -> (Access<M, K>, Result<(), Job<M>>)
         requires { pass.hall ≡ self.now.hall }
         ensures ok { OnOk result.1 (Made pass (call.Abandon (ticket_of job) (window_of job)) (IsAbandoned job) result.0) }
         ensures back { IfErr result.1 (λ same. same ≡ job) }
         ensures err { OnErr result.1 (Looked pass (IsStranger job) result.0) }
     {
-        let Pass { mut seat } = pass;
+        let Access { mut seat, rights } = pass;
         let mut desk = self.enter(rt, &mut seat);
         let ticket = job.ticket();
         let piece = job.piece();
         match desk.abandon(job) {
             Ok(()) => {
                 self.leave_with::<Brand, (u64, Piece)>(&mut seat, desk, &(ticket, piece));
-                (Pass { seat }, Ok(()))
+                (Access { seat, rights }, Ok(()))
             }
             Err(job) => {
                 self.leave(&mut seat, desk);
-                (Pass { seat }, Err(job))
+                (Access { seat, rights }, Err(job))
             }
         }
     }
@@ -117,14 +122,14 @@ impl<M: Monitor> Hall<M> {
         ensures live { result.1 ≡ true → Made pass (call.Recall ticket) NoMore result.0 }
         ensures dead { result.1 ≡ false → Looked pass (IsDead ticket) result.0 }
     {
-        let Pass { mut seat } = pass;
+        let Access { mut seat, rights } = pass;
         let mut desk = self.enter(rt, &mut seat);
         if desk.recall(ticket) {
             self.leave_with::<Brand, u64>(&mut seat, desk, &ticket);
-            (Pass { seat }, true)
+            (Access { seat, rights }, true)
         } else {
             self.leave(&mut seat, desk);
-            (Pass { seat }, false)
+            (Access { seat, rights }, false)
         }
     }
 
@@ -134,10 +139,10 @@ impl<M: Monitor> Hall<M> {
         requires { pass.hall ≡ self.now.hall }
         ensures { Looked pass (IsOldest result.1) result.0 }
     {
-        let Pass { mut seat } = pass;
+        let Access { mut seat, rights } = pass;
         let desk = self.enter(rt, &mut seat);
         let found = desk.oldest_live();
         self.leave(&mut seat, desk);
-        (Pass { seat }, found)
+        (Access { seat, rights }, found)
     }
 }

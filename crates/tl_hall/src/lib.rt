@@ -11,6 +11,6 @@ mod rule;
 mod working;
 
 pub use entry::{Entry, View};
-pub use hall::{Hall, Note, Pass};
+pub use hall::{Access, All, Hall, Helper, Note, Pass, Rights, Windows};
 pub use rule::HallRule;
 pub use working::{Gate, Round, WorkCount, work_once, worker};

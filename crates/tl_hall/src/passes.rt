@@ -1,22 +1,44 @@
 //! Passes of threads, and what they tell each other.
 
-ghost use Rattle.std.specs.Prelude.{◌≡◌};
+ghost use Rattle.std.specs.Prelude.{◌≡◌, false};
 ghost use Rattle.tl_hall.specs.Passes.{Stays, IsAnother, Notes, Meets};
 
-use crate::hall::{Hall, Note, Pass};
-use crate::rule::{Learn, Meet, Twin};
+use crate::hall::{Access, Hall, Helper, Note, Pass};
+use crate::rule::{Aide, Learn, Meet, Twin};
+use std::marker::PhantomData;
 use tl_monitor::Monitor;
 
 impl<M: Monitor> Hall<M> {
-    /// A second pass with a number of its own, which has seen the same and has made no entry. It waits for nobody.
+    /// A second pass with a number of its own, which has seen the same, has made no entry, and may make the same calls. It waits
+    /// for nobody.
     pub fn split(&self, pass: Pass<M>) -> (Pass<M>, Pass<M>)
         requires { pass.hall ≡ self.now.hall }
         ensures first { Stays pass result.0 }
         ensures second { IsAnother pass result.1 }
+        ensures sole { (result.0.sole ≡ false) × (result.1.sole ≡ false) }
     {
-        let Pass { mut seat } = pass;
-        let twin = self.table.shared.split_seat::<Twin>(&mut seat);
-        (Pass { seat }, Pass { seat: twin })
+        let Access { mut seat, rights } = pass;
+        let twin = Access {
+            seat: self.table.shared.split_seat::<Twin>(&mut seat),
+            rights: PhantomData,
+        };
+        (Access { seat, rights }, twin)
+    }
+
+    /// A helper with a number of its own, which has seen the same and has made no entry. A pass beside which all others only help
+    /// stays one. It waits for nobody.
+    pub fn help(&self, pass: Pass<M>) -> (Pass<M>, Helper<M>)
+        requires { pass.hall ≡ self.now.hall }
+        ensures first { Stays pass result.0 }
+        ensures second { IsAnother pass result.1 }
+        ensures sole { result.0.sole ≡ pass.sole }
+    {
+        let Access { mut seat, rights } = pass;
+        let helper = Access {
+            seat: self.table.shared.split_seat::<Aide>(&mut seat),
+            rights: PhantomData,
+        };
+        (Access { seat, rights }, helper)
     }
 
     /// What the pass has seen, to be told to another. It waits for nobody.
@@ -24,9 +46,10 @@ impl<M: Monitor> Hall<M> {
         requires { pass.hall ≡ self.now.hall }
         ensures pass { Stays pass result.0 }
         ensures note { Notes pass result.1 }
+        ensures sole { result.0.sole ≡ pass.sole }
     {
-        let (pass, other) = self.split(pass);
-        let Pass { seat } = other;
+        let (pass, helper) = self.help(pass);
+        let Access { seat, .. } = helper;
         (pass, Note { seat })
     }
 
@@ -35,7 +58,7 @@ impl<M: Monitor> Hall<M> {
         requires { pass.hall ≡ self.now.hall }
         ensures { Notes pass result }
     {
-        let Pass { seat } = pass;
+        let Access { seat, .. } = pass;
         Note { seat }
     }
 
@@ -46,10 +69,10 @@ impl<M: Monitor> Hall<M> {
         requires note { note.hall ≡ self.now.hall }
         ensures { Meets pass note.seen result }
     {
-        let Pass { mut seat } = pass;
+        let Access { mut seat, rights } = pass;
         let Note { seat: other } = note;
         self.table.shared.join_seat::<Meet>(&mut seat, other);
         self.table.shared.load::<Learn>(&mut seat, 0);
-        Pass { seat }
+        Access { seat, rights }
     }
 }

@@ -98,6 +98,17 @@ impl Split<View> for Twin {
     ghost right = { younger };
 }
 
+/// A new helper that has seen the same.
+pub(crate) struct Aide;
+
+impl Split<View> for Aide {
+    ghost use Rattle.tl_hall.specs.Rule.{helped, helper};
+
+    ghost left = { helped };
+
+    ghost right = { helper };
+}
+
 /// Keeps both lists.
 pub(crate) struct Meet;
 

@@ -4,14 +4,14 @@ ghost use Rattle.std.specs.Prelude.{◌≡◌};
 ghost use Rattle.tl_jobs.specs.Works.{ticket_of, window_of, done_ticket, done_window};
 ghost use Rattle.tl_hall.specs.Working.{Worked, WorkedOnce, CameBack, counted, counted_with, nothing_done};
 
-use crate::hall::{Hall, Pass};
+use crate::hall::{Access, Hall, Rights};
 use std::alloc::Global;
 use std::sync::Wait;
 use tl_desk::{Done, HandIn, Job, Piece, TakeFault, work};
 use tl_monitor::Monitor;
 
-/// What a worker tells as it works, and asks. Several workers may have the same gate.
-pub trait Gate: Sync {
+/// What a worker tells as it works, and asks. Several workers may have the same gate, where it is `Sync`.
+pub trait Gate {
     /// A job was taken under this ticket, and is to be checked.
     fn taken(&self, ticket: u64);
 
@@ -96,13 +96,13 @@ impl WorkCount {
 /// Takes windows, checks them outside the turn, and hands them in, for as long as the gate says so. Where no window is to be taken,
 /// or a take is refused, it goes round again. A job that can't be checked for want of memory is abandoned, and one that the hall
 /// doesn't know is forfeited. It waits for other threads.
-pub fn worker<R: Wait, M: Monitor, G: Gate>(
+pub fn worker<R: Wait, M: Monitor, K: Rights, G: Gate>(
     rt: &R,
     alloc: Global,
     hall: &Hall<M>,
-    pass: Pass<M>,
+    pass: Access<M, K>,
     gate: &G,
-) -> (Pass<M>, WorkCount)
+) -> (Access<M, K>, WorkCount)
     requires { pass.hall ≡ hall.now.hall }
     ensures { Worked 0 pass nothing_done result.0 result.1 }
 {
@@ -125,13 +125,13 @@ pub fn worker<R: Wait, M: Monitor, G: Gate>(
 
 /// Takes the first window that is to be checked, if there is one, checks it outside the turn, and hands it in or gives it up, and
 /// answers what came of it. It waits for other threads.
-pub fn work_once<R: Wait, M: Monitor, G: Gate>(
+pub fn work_once<R: Wait, M: Monitor, K: Rights, G: Gate>(
     rt: &R,
     alloc: Global,
     hall: &Hall<M>,
-    pass: Pass<M>,
+    pass: Access<M, K>,
     gate: &G,
-) -> (Pass<M>, Round)
+) -> (Access<M, K>, Round)
     requires { pass.hall ≡ hall.now.hall }
     ensures { WorkedOnce pass result.1 result.0 }
 {
@@ -147,14 +147,14 @@ pub fn work_once<R: Wait, M: Monitor, G: Gate>(
 }
 
 /// Checks a job, and hands it in or gives it up.
-fn check<R: Wait, M: Monitor, G: Gate>(
+fn check<R: Wait, M: Monitor, K: Rights, G: Gate>(
     rt: &R,
     alloc: Global,
     hall: &Hall<M>,
-    pass: Pass<M>,
+    pass: Access<M, K>,
     gate: &G,
     job: Job<M>,
-) -> (Pass<M>, Round)
+) -> (Access<M, K>, Round)
     requires { pass.hall ≡ hall.now.hall }
     ensures { CameBack (ticket_of job) (window_of job) pass result.1 result.0 }
 {
@@ -165,13 +165,13 @@ fn check<R: Wait, M: Monitor, G: Gate>(
 }
 
 /// Hands a job in.
-fn finish<R: Wait, M: Monitor, G: Gate>(
+fn finish<R: Wait, M: Monitor, K: Rights, G: Gate>(
     rt: &R,
     hall: &Hall<M>,
-    pass: Pass<M>,
+    pass: Access<M, K>,
     gate: &G,
     done: Done<M>,
-) -> (Pass<M>, Round)
+) -> (Access<M, K>, Round)
     requires { pass.hall ≡ hall.now.hall }
     ensures { CameBack (done_ticket done) (done_window done) pass result.1 result.0 }
 {
@@ -190,12 +190,12 @@ fn finish<R: Wait, M: Monitor, G: Gate>(
 }
 
 /// Abandons a job, or forfeits it where the hall doesn't take it back.
-fn give_up<R: Wait, M: Monitor>(
+fn give_up<R: Wait, M: Monitor, K: Rights>(
     rt: &R,
     hall: &Hall<M>,
-    pass: Pass<M>,
+    pass: Access<M, K>,
     job: Job<M>,
-) -> (Pass<M>, Round)
+) -> (Access<M, K>, Round)
     requires { pass.hall ≡ hall.now.hall }
     ensures { CameBack (ticket_of job) (window_of job) pass result.1 result.0 }
 {

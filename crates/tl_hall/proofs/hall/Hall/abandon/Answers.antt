@@ -7,6 +7,9 @@ use Rattle.tl_hall.specs.Passes.{PassData, passed, Made, IsAbandoned}
 use Rattle.tl_hall.proofs.Passing.{made, rests_with, recorded_as, written}
 use Rattle.tl_hall.proofs.hall.Hall.abandon.Goals as goal
 
+pub leave_with-requires-clause-may : goal.leave_with-requires-clause-may
+leave_with-requires-clause-may g c helps = tt
+
 pub leave_with-requires-clause-desk : goal.leave_with-requires-clause-desk
 leave_with-requires-clause-desk g c =
     let e = c.enter-desk.ensures in
@@ -19,7 +22,7 @@ leave_with-requires-clause-desk g c =
     recorded_as now c.enter-desk.result c.abandon.new.self made_call told same led tt c.in-Ok.ensures.step
 
 pub invariant_of-result : goal.invariant_of-result
-invariant_of-result g c = rests_with c.enter-desk.new.seat.me c.leave_with.new.seat.me (call.Abandon c.ticket-ticket.result c.piece-piece.result) c.enter-desk.ensures.inside c.leave_with.ensures.now
+invariant_of-result g c = rests_with g.K.Rights.helps c.pass.inside.seat.me.0 c.enter-desk.new.seat.me c.leave_with.new.seat.me (call.Abandon c.ticket-ticket.result c.piece-piece.result) c.pass.invariant.1 c.enter-desk.ensures.saw c.enter-desk.ensures.inside c.leave_with.ensures.now
 
 pub returns-in-Ok-clause-ok : goal.returns-in-Ok-clause-ok
 returns-in-Ok-clause-ok g c =

@@ -14,4 +14,4 @@ fetch_add-requires g c =
 pub returns : goal.returns
 returns g c =
     let e = c.enter-desk.ensures in
-    subst (λ (p : PassData). Closes p c.enter-desk.result) c.pass.view_is record { log = c.enter-desk.new.seat.me.0.seen; saw = e.saw.saw; own_is = e.saw.own_is; leads = e.desk }
+    subst (λ (p : PassData). Closes p c.enter-desk.result) c.pass.view_is record { log = c.enter-desk.new.seat.me.0.seen; saw = e.saw.saw; own_is = e.saw.own_is; others = e.saw.others; leads = e.desk }

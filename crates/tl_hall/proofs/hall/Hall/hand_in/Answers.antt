@@ -8,6 +8,9 @@ use Rattle.tl_hall.specs.Passes.{PassData, passed, Made, ComesTo}
 use Rattle.tl_hall.proofs.Passing.{made, rests_with, recorded_as, written}
 use Rattle.tl_hall.proofs.hall.Hall.hand_in.Goals as goal
 
+pub leave_with-requires-clause-may : goal.leave_with-requires-clause-may
+leave_with-requires-clause-may g c helps = tt
+
 pub leave_with-requires-clause-desk : goal.leave_with-requires-clause-desk
 leave_with-requires-clause-desk g c =
     let e = c.enter-desk.ensures in
@@ -31,10 +34,10 @@ leave_with-requires-in-Void-clause-desk g c =
     recorded_as now c.enter-desk.result c.hand_in.new.self made_call told same led tt c.in-Void.ensures.step
 
 pub invariant_of-result : goal.invariant_of-result
-invariant_of-result g c = rests_with c.enter-desk.new.seat.me c.leave_with.new.seat.me (call.HandIn c.ticket-ticket.result c.piece-piece.result true) c.enter-desk.ensures.inside c.leave_with.ensures.now
+invariant_of-result g c = rests_with g.K.Rights.helps c.pass.inside.seat.me.0 c.enter-desk.new.seat.me c.leave_with.new.seat.me (call.HandIn c.ticket-ticket.result c.piece-piece.result true) c.pass.invariant.1 c.enter-desk.ensures.saw c.enter-desk.ensures.inside c.leave_with.ensures.now
 
 pub invariant_of-result-in-Void : goal.invariant_of-result-in-Void
-invariant_of-result-in-Void g c = rests_with c.enter-desk.new.seat.me c.leave_with-in-Void.new.seat.me (call.HandIn c.ticket-ticket.result c.piece-piece.result false) c.enter-desk.ensures.inside c.leave_with-in-Void.ensures.now
+invariant_of-result-in-Void g c = rests_with g.K.Rights.helps c.pass.inside.seat.me.0 c.enter-desk.new.seat.me c.leave_with-in-Void.new.seat.me (call.HandIn c.ticket-ticket.result c.piece-piece.result false) c.pass.invariant.1 c.enter-desk.ensures.saw c.enter-desk.ensures.inside c.leave_with-in-Void.ensures.now
 
 pub returns-in-Taken : goal.returns-in-Taken
 returns-in-Taken g c =

@@ -10,7 +10,7 @@ fetch_add-requires g c =
     let inside = c.requires.inside in (
       x.0 ∙ (c.requires.hall ∙ sym (ap (λ (r : HallData). r.hall) c.self.view_is)),
       omega (arith, c.self.invariant.0),
-      records_as _ _ _ _ _ g.C.Said.call c.args.desk (loaded _ _ _ inside x.3) inside.holds inside.lives c.requires.desk,
+      records_as _ _ _ _ _ g.C.Said.call c.args.desk (loaded _ _ _ inside x.3) c.requires.may inside.holds inside.lives c.requires.desk,
     )
 
 pub store-requires : goal.store-requires

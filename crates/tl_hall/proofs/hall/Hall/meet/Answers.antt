@@ -11,7 +11,7 @@ join_seat-requires g c =
       ap (λ (p : PassData). p.hall) c.note.view_is ∙ (c.requires.note ∙ here),
       c.note.invariant.bare,
       omega (arith, c.self.invariant.0),
-      joins _ _ _ _ _ c.pass.invariant.lives c.note.invariant.lives,
+      joins _ _ _ _ _ c.pass.invariant.0.lives c.note.invariant.lives,
     )
 
 pub load-requires : goal.load-requires
@@ -20,5 +20,5 @@ load-requires g c =
     let j = c.join_seat.ensures in (
       j.0 ∙ (ap (λ (p : PassData). p.hall) c.pass.view_is ∙ (c.requires.pass ∙ here)),
       omega (arith, c.self.invariant.0),
-      learns _ _ _ _ (ap (λ (m : Sat). m.0.spent) j.2 ∙ c.pass.invariant.lives) (ap (λ (m : Sat). m.0.turn) j.2 ∙ c.pass.invariant.waits),
+      learns _ _ _ _ (ap (λ (m : Sat). m.0.spent) j.2 ∙ c.pass.invariant.0.lives) (ap (λ (m : Sat). m.0.turn) j.2 ∙ c.pass.invariant.0.waits),
     )

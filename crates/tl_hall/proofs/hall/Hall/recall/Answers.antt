@@ -1,10 +1,13 @@
-use Rattle.std.proofs.Common.{sym, refl, ◌∙◌, subst}
+use Rattle.std.proofs.Common.{sym, refl, ◌∙◌, subst, false, true≢false}
 use Rattle.tl_desk.specs.declared.call.Call.TheVariants as call
 use Rattle.tl_hall.specs.History.{Leads}
 use Rattle.tl_hall.specs.Passes.{PassData, passed, Made, NoMore}
 use Rattle.tl_hall.proofs.Running.{leads_more}
 use Rattle.tl_hall.proofs.Passing.{made, rests_with}
 use Rattle.tl_hall.proofs.hall.Hall.recall.Goals as goal
+
+pub leave_with-requires-clause-may : goal.leave_with-requires-clause-may
+leave_with-requires-clause-may g c helps = absurd (true≢false (sym helps ∙ (c.enter-desk.ensures.saw.helps_is ∙ c.pass.invariant.1)))
 
 pub leave_with-requires-clause-desk : goal.leave_with-requires-clause-desk
 leave_with-requires-clause-desk g c =
@@ -14,7 +17,7 @@ leave_with-requires-clause-desk g c =
     leads_more now.topo now.seen now.number c.enter-desk.result (call.Recall c.args.ticket) c.recall.new.self led tt (c.if-recall.ensures.step refl)
 
 pub invariant_of-result : goal.invariant_of-result
-invariant_of-result g c = rests_with c.enter-desk.new.seat.me c.leave_with.new.seat.me (call.Recall c.args.ticket) c.enter-desk.ensures.inside c.leave_with.ensures.now
+invariant_of-result g c = rests_with false c.pass.inside.seat.me.0 c.enter-desk.new.seat.me c.leave_with.new.seat.me (call.Recall c.args.ticket) c.pass.invariant.1 c.enter-desk.ensures.saw c.enter-desk.ensures.inside c.leave_with.ensures.now
 
 pub returns-then-recall-clause-live : goal.returns-then-recall-clause-live
 returns-then-recall-clause-live g c live =

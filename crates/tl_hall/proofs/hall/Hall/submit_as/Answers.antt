@@ -1,4 +1,4 @@
-use Rattle.std.proofs.Common.{sym, ◌∙◌, subst}
+use Rattle.std.proofs.Common.{sym, ◌∙◌, subst, false, true≢false}
 use Rattle.tl_inputs.specs.declared.edit.Change.{Change}
 use Rattle.tl_desk.specs.Steps.{Step}
 use Rattle.tl_desk.specs.declared.call.Call.TheVariants as call
@@ -7,6 +7,9 @@ use Rattle.tl_hall.specs.Passes.{PassData, passed, Made, NoMore}
 use Rattle.tl_hall.proofs.Running.{leads_more}
 use Rattle.tl_hall.proofs.Passing.{made, rests_with}
 use Rattle.tl_hall.proofs.hall.Hall.submit_as.Goals as goal
+
+pub leave_with-requires-clause-may : goal.leave_with-requires-clause-may
+leave_with-requires-clause-may g c helps = absurd (true≢false (sym helps ∙ (c.enter-desk.ensures.saw.helps_is ∙ c.pass.invariant.1)))
 
 pub leave_with-requires-clause-desk : goal.leave_with-requires-clause-desk
 leave_with-requires-clause-desk g c =
@@ -17,7 +20,7 @@ leave_with-requires-clause-desk g c =
     leads_more now.topo now.seen now.number c.enter-desk.result (call.Edit g.C.Asked.change c.in-Ok.number) c.edit.new.self led tt step
 
 pub invariant_of-result : goal.invariant_of-result
-invariant_of-result g c = rests_with c.enter-desk.new.seat.me c.leave_with.new.seat.me (call.Edit g.C.Asked.change c.in-Ok.number) c.enter-desk.ensures.inside c.leave_with.ensures.now
+invariant_of-result g c = rests_with false c.pass.inside.seat.me.0 c.enter-desk.new.seat.me c.leave_with.new.seat.me (call.Edit g.C.Asked.change c.in-Ok.number) c.pass.invariant.1 c.enter-desk.ensures.saw c.enter-desk.ensures.inside c.leave_with.ensures.now
 
 pub returns-in-Ok-clause-ok : goal.returns-in-Ok-clause-ok
 returns-in-Ok-clause-ok g c =

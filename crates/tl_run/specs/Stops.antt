@@ -89,6 +89,10 @@ pub record IsRun (topo : Topology) (script : Script) (boxes : List Watch) (stop 
 abbrev pub IsOutcome : Topology → List ℕ → List Watch → Outcome → List ℕ → Type 0
 IsOutcome topo bytes boxes outcome text = (next : Progress) × IsRun topo (commands_of bytes) boxes outcome.stop text next × (outcome.last_rows ≡ length next.rows)
 
+-- All that the run of a script writes was written.
+abbrev pub IsWritten : Topology → List ℕ → List Watch → Outcome → Option (List ℕ) → Option (List ℕ) → Type 0
+IsWritten topo script boxes outcome old new = (text : List ℕ) × IsOutcome topo script boxes outcome text × Appends old new text
+
 -- What was written and what is gathered behind it are these lines.
 abbrev pub IsSaid : Option (List ℕ) → Option (List ℕ) → List ℕ → List ℕ → Type 0
 IsSaid old now gathered lines = (written : List ℕ) × Appends old now written × (lines ≡ written ++ gathered)

@@ -26,8 +26,8 @@ pub enum Asked {
     Report,
 }
 
-/// The fragment that the bytes of a command are.
-fn fragment_of(
+/// The fragment that the bytes of a command are, or why they are none. AllocError where memory is refused.
+pub fn fragment_of(
     alloc: Global,
     text: &Text<'_>,
 ) -> Result<Result<Arc<Fragment>, FragmentFault>, AllocError>

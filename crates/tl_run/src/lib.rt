@@ -3,6 +3,7 @@
 
 mod asked;
 mod audit;
+mod boxes;
 pub mod laws;
 mod lines;
 mod run;
@@ -10,9 +11,9 @@ mod runner;
 mod session;
 mod stop;
 
-pub use asked::{Asked, asked_by};
+pub use asked::{Asked, asked_by, fragment_of};
 pub use audit::{AuditFault, audit_script, log_of};
-pub use lines::{LineFault, put_lines, write_end};
+pub use boxes::Boxes;
 pub use run::{carry_out, read_script, run_nothing, run_script};
 pub use runner::Runner;
 pub use session::{CommandFault, Session, edit_line, refusal_line};

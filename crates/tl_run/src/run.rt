@@ -1,7 +1,6 @@
 //! The run of a script.
 
 ghost use Rattle.std.specs.Prelude.{◌≡◌, ◌↔◌, ◌+◌, ◌<◌, ◌≤◌, ◌^◌, ◌++◌, ℕ, List, Option, Some, IfOk, OnOk, OnErr, length, drop, string_bytes, [], IfSome};
-ghost use Rattle.std.specs.Io.KnownBytes.{Appends};
 ghost use Rattle.std.specs.Result.{IsErrOf};
 ghost use Rattle.tl_topology.specs.Topology.{Topology};
 ghost use Rattle.tl_beats.specs.declared.watch.Watch.{Watch as AnyWatch};
@@ -10,9 +9,8 @@ ghost use Rattle.tl_script.specs.Text.{IsCommand};
 ghost use Rattle.tl_run.specs.Boxes.{watches_in};
 ghost use Rattle.tl_run.specs.Commands.{asked};
 ghost use Rattle.tl_run.specs.Output.{start, Advances, LacksBox};
-ghost use Rattle.tl_run.specs.Stops.{IsSaid, IsFront, HasCome, IsOutcome, IsCut};
+ghost use Rattle.tl_run.specs.Stops.{IsSaid, IsFront, HasCome, IsWritten, IsCut};
 
-use crate::asked::asked_by;
 use crate::lines::{LineFault, put_lines, write_end};
 use crate::runner::Runner;
 use crate::session::Session;
@@ -39,11 +37,13 @@ pub fn read_script<I: ByteIn>(alloc: Global, input: &mut I) -> Result<Vec<u8>, T
     read_text(alloc, input, MOST_SCRIPT)
 }
 
-/// The lines of one command, put behind those that are gathered. Memory and WrongBox write nothing.
+/// The lines of one command, before which so many bytes of the script are left, put behind those that are gathered. Memory and
+/// WrongBox write nothing.
 fn run_command<S: Runner, O: ByteOut>(
     alloc: Global,
     runner: &mut S,
     command: &Command<'_>,
+    left: usize,
     out: &mut O,
     gathered: &mut String,
 ) -> Result<(), LineFault>
@@ -61,7 +61,7 @@ fn run_command<S: Runner, O: ByteOut>(
         (λ line. (old : Option (List ℕ)) (before : List ℕ) → IsSaid old (O.contents out.old) (string_bytes gathered.old) before
         → IsFront old (O.contents out.new) (before ++ line)) }
 {
-    let asked = asked_by(alloc, command)?;
+    let asked = runner.ask(alloc, command, left)?;
     let lines = runner.lines_of(alloc, asked)?;
     let now = matches!(command, Command::Publish);
     put_lines(out, gathered, lines.as_str(), now)
@@ -119,7 +119,7 @@ fn run_commands<S: Runner, O: ByteOut>(
                 stop: None,
             });
         };
-        match run_command(alloc, runner, &command, out, gathered) {
+        match run_command(alloc, runner, &command, rest.len(), out, gathered) {
             Ok(()) => rest = behind(rest, taken),
             Err(LineFault::Memory) => return Ok(stopped(last_rows, StopCause::Memory, done)),
             Err(LineFault::WrongBox) => return Ok(stopped(last_rows, StopCause::WrongBox, done)),
@@ -139,7 +139,7 @@ pub fn carry_out<S: Runner, O: ByteOut>(
 ) -> Result<Outcome, WriteFault>
     requires out { O.failure_count out.old < 2 ^ 63 }
     requires new { (S.so_far runner.old).now ≡ start }
-    ensures written { IfOk result (λ outcome. (text : List ℕ) × IsOutcome (S.so_far runner.old).topo script.now (S.so_far runner.old).boxes outcome text × Appends (O.contents out.old) (O.contents out.new) text) }
+    ensures written { IfOk result (λ outcome. IsWritten (S.so_far runner.old).topo script.now (S.so_far runner.old).boxes outcome (O.contents out.old) (O.contents out.new)) }
     ensures quiet { OnOk result (O.failure_count out.new ≡ O.failure_count out.old) }
     ensures failed { OnErr result ((O.failure_count out.new ≡ O.failure_count out.old + 1)
         × IsCut (S.so_far runner.old).topo (commands_of script.now) (S.so_far runner.old).boxes (O.contents out.old) (O.contents out.new)) }
@@ -155,7 +155,7 @@ pub fn carry_out<S: Runner, O: ByteOut>(
 pub fn run_nothing<O: ByteOut>(alloc: Global, out: &mut O) -> Result<Outcome, WriteFault>
     requires { O.failure_count out.old < 2 ^ 63 }
     ensures written { IfOk result (λ outcome. (topo : Topology) (script : List ℕ) (boxes : List AnyWatch)
-        → (text : List ℕ) × IsOutcome topo script boxes outcome text × Appends (O.contents out.old) (O.contents out.new) text) }
+        → IsWritten topo script boxes outcome (O.contents out.old) (O.contents out.new)) }
     ensures quiet { OnOk result (O.failure_count out.new ≡ O.failure_count out.old) }
     ensures failed { OnErr result ((O.failure_count out.new ≡ O.failure_count out.old + 1)
         × ((topo : Topology) (script : List ℕ) (boxes : List AnyWatch) → IsCut topo (commands_of script) boxes (O.contents out.old) (O.contents out.new))) }
@@ -179,7 +179,7 @@ pub fn run_script<M: Monitor, O: ByteOut>(
     out: &mut O,
 ) -> Result<Outcome, WriteFault>
     requires { O.failure_count out.old < 2 ^ 63 }
-    ensures written { IfOk result (λ outcome. (text : List ℕ) × IsOutcome topo.now script.now (watches_in M.held boxes.items) outcome text × Appends (O.contents out.old) (O.contents out.new) text) }
+    ensures written { IfOk result (λ outcome. IsWritten topo.now script.now (watches_in M.held boxes.items) outcome (O.contents out.old) (O.contents out.new)) }
     ensures quiet { OnOk result (O.failure_count out.new ≡ O.failure_count out.old) }
     ensures failed { OnErr result ((O.failure_count out.new ≡ O.failure_count out.old + 1)
         × IsCut topo.now (commands_of script.now) (watches_in M.held boxes.items) (O.contents out.old) (O.contents out.new)) }

@@ -1,9 +1,8 @@
 //! What a run has come to, and the lines of one command more.
 
-ghost use Rattle.std.specs.Prelude.{◌≡◌, ◌∷◌, [], List, IfOk, IfSome, OnOk, OnSome, IsNone, length, string_bytes};
+ghost use Rattle.std.specs.Prelude.{◌≡◌, [], IfOk, IfSome, OnOk, length, string_bytes};
 ghost use Rattle.std.specs.Result.{IsErrOf};
 ghost use Rattle.std.specs.Option.{option_map_or};
-ghost use Rattle.tl_beats.specs.declared.watch.Watch.{Watch as AnyWatch};
 ghost use Rattle.tl_inputs.specs.Edits.{plain_change, attach};
 ghost use Rattle.tl_inputs.specs.Log.{inputs_after};
 ghost use Rattle.tl_desk.specs.Core.{AreLinked};
@@ -14,12 +13,12 @@ ghost use Rattle.tl_run.specs.Output.{start, edit_text, refused_text, IsStep, Ta
 ghost use Rattle.tl_run.specs.declared.session.CommandFault.TheVariants.{Memory};
 
 use crate::asked::Asked;
+use crate::boxes::Boxes;
 use std::alloc::{AllocError, Global};
-use std::collections::VecDeque;
 use std::marker::Model;
 use thiserror::Error;
 use tl_beats::Watch;
-use tl_desk::{Desk, PublishFault, RecheckFault, is_watch};
+use tl_desk::{Desk, PublishFault, RecheckFault};
 use tl_inputs::{Change, EditFault, Inputs};
 use tl_monitor::{Monitor, Settlement};
 use tl_report::{Report, report_text};
@@ -68,17 +67,16 @@ pub fn refusal_line(alloc: Global, code: u8, number: Option<u32>) -> Result<Stri
 #[derive(Drop)]
 pub struct Session<M: Monitor> {
     desk: Desk<M>,
-    boxes: VecDeque<M>,
+    boxes: Boxes<M>,
 }
 
 impl<M: Monitor> Model for Session<M> {
     ghost use Rattle.tl_desk.specs.Core.{log_of, AllHere};
-    ghost use Rattle.tl_run.specs.Boxes.{watches_in};
     ghost use Rattle.tl_run.specs.Output.{RunData, progress_of};
 
     ghost Value = { RunData };
 
-    ghost view = { λ s. record { topo = (log_of s.desk).topo; now = progress_of s.desk; boxes = watches_in M.held s.boxes.items } };
+    ghost view = { λ s. record { topo = (log_of s.desk).topo; now = progress_of s.desk; boxes = s.boxes } };
 
     ghost invariant = { λ s. AllHere s.desk.boxes };
 }
@@ -91,7 +89,7 @@ impl<M: Monitor> Session<M> {
     {
         Ok(Session {
             desk: Desk::new(alloc, topo.copy(alloc)?)?,
-            boxes: VecDeque::from(boxes),
+            boxes: Boxes::new(boxes),
         })
     }
 
@@ -139,22 +137,6 @@ impl<M: Monitor> Session<M> {
         }
     }
 
-    /// The next monitor, if it has this watch.
-    fn next_box(&mut self, watch: &Watch) -> Option<M>
-        ensures desk { (self.new.topo ≡ self.old.topo) × (self.new.now ≡ self.old.now) }
-        ensures found { OnSome result (self.old.boxes ≡ watch.now ∷ self.new.boxes) }
-        ensures same { IfSome result (λ monitor. (M.held monitor).watch ≡ watch.now) }
-        ensures none { IsNone result → (self.new ≡ self.old) × ((left : List AnyWatch) → self.old.boxes ≡ watch.now ∷ left → ⊥) }
-    {
-        let _ = &self.desk;
-        let next = self.boxes.front()?.watch();
-        if is_watch(&next, watch) {
-            self.boxes.pop_front()
-        } else {
-            None
-        }
-    }
-
     /// The line of the attachment of the next monitor.
     #[tactic(auto, unfolding(crate::specs::Output::IsStep))]
     fn attach(&mut self, alloc: Global, number: u32, watch: Watch) -> Result<String, CommandFault>
@@ -163,7 +145,7 @@ impl<M: Monitor> Session<M> {
         ensures lacks { IsErrOf result CommandFault.WrongBox → LacksBox self.old.boxes (an_edit (attach number watch)) × (self.new ≡ self.old) }
         ensures step { IfOk result (λ line. IsStep self.old.topo self.old.now (an_edit (attach number watch)) (string_bytes line) self.new.now) }
     {
-        let Some(monitor) = self.next_box(&watch) else {
+        let Some(monitor) = self.boxes.next(&watch) else {
             return Err(CommandFault::WrongBox);
         };
         match self.desk.attach(alloc, number, monitor) {

@@ -1,38 +1,53 @@
-//! What each command of a script does on a hall.
+//! The run of a script on a hall that workers call too.
 
-ghost use Rattle.std.specs.Prelude.{◌≡◌, ◌<◌, All, true};
+ghost use Rattle.std.specs.Prelude.{◌≡◌, IfOk, IfErr, OnOk, length, string_bytes};
+ghost use Rattle.std.specs.Result.{IsErrOf};
+ghost use Rattle.tl_inputs.specs.Edits.{plain_change, attach};
+ghost use Rattle.tl_desk.specs.declared.call.Call.TheVariants as call;
+ghost use Rattle.tl_hall.specs.Passes.{Made, NoMore, Looked, IsRefused};
+ghost use Rattle.tl_script.specs.Text.{IsCommand};
+ghost use Rattle.tl_run.specs.Commands.{asked, asking, an_edit, a_report};
+ghost use Rattle.tl_run.specs.Output.{IsStep, TakesBox, LacksBox};
+ghost use Rattle.tl_workers.specs.Crew.{HasPublished, IsUnpublished, IsLineOf};
 
 use crate::shift::Shift;
 use crate::windows::check_wanted;
-use std::alloc::Global;
-use std::collections::VecDeque;
+use std::alloc::{AllocError, Global};
+use std::marker::Model;
 use std::sync::Wait;
 use std::thread::yield_now;
-use tl_beats::{Row, Watch};
-use tl_desk::{PublishFault, is_watch};
+use tl_beats::Watch;
+use tl_desk::PublishFault;
 use tl_hall::{Gate, Hall, Pass};
 use tl_inputs::{Change, EditFault};
 use tl_monitor::Monitor;
 use tl_report::{Report, report_text};
-use tl_run::{Asked, CommandFault, edit_line, refusal_line};
+use tl_run::{Asked, Boxes, CommandFault, Runner, asked_by, edit_line, refusal_line};
+use tl_script::Command;
 use tl_topology::Topo;
 
-/// A run on a hall that workers call too: its right to call it, the monitors that no command has attached yet, the next one first,
-/// and how many rows the last report has.
+/// A run on a hall of its own, in which all others only help: its pass, which is here between two calls, the monitors that no
+/// command has attached yet, the next one first, and the last report.
 #[derive(Drop)]
-pub(crate) struct Crew<M: Monitor> {
-    pub(crate) pass: Pass<M>,
-    pub(crate) boxes: VecDeque<M>,
-    pub(crate) last_rows: u64,
+pub(crate) struct Crew<'x, 'h, 't, 's, R: Wait, M: Monitor, G: Gate> {
+    pub(crate) rt: &'x R,
+    pub(crate) topo: &'x Topo,
+    pub(crate) hall: &'h Hall<M>,
+    pub(crate) shift: &'t Shift<'s, 'x, G>,
+    pub(crate) pass: Option<Pass<M>>,
+    pub(crate) boxes: Boxes<M>,
+    pub(crate) last: Option<Report>,
 }
 
-/// The line of what came of an edit.
-fn line_of(alloc: Global, answer: Result<u64, EditFault>) -> Result<String, CommandFault> {
-    match answer {
-        Ok(number) => Ok(edit_line(alloc, number)?),
-        Err(EditFault::Memory) => Err(CommandFault::Memory),
-        Err(fault) => Ok(refusal_line(alloc, fault.code(), fault.number())?),
-    }
+impl<'x, 'h, 't, 's, R: Wait, M: Monitor, G: Gate> Model for Crew<'x, 'h, 't, 's, R, M, G> {
+    ghost use Rattle.tl_run.specs.Output.{RunData};
+    ghost use Rattle.tl_workers.specs.Crew.{Leads, progress_in, seen_in, rows_in};
+
+    ghost Value = { RunData };
+
+    ghost view = { λ c. record { topo = c.topo.now; now = progress_in (seen_in c.pass) (rows_in c.last); boxes = c.boxes } };
+
+    ghost invariant = { λ c. Leads c.hall.now c.topo.now c.pass };
 }
 
 /// The manager whose beats an edit brings.
@@ -46,48 +61,18 @@ fn manager_of(topo: &Topo, change: &Change) -> Option<u16> {
     }
 }
 
-/// The line of an edit that brings no monitor.
-fn change<R: Wait, M: Monitor, G: Gate>(
-    rt: &R,
-    alloc: Global,
-    hall: &Hall<M>,
-    topo: &Topo,
-    crew: Crew<M>,
-    shift: &Shift<'_, '_, G>,
-    change: Change,
-) -> (Crew<M>, Result<String, CommandFault>)
-    requires { crew.pass.hall ≡ hall.now.hall }
-    ensures { result.0.pass.hall ≡ crew.pass.hall }
+/// The line of what came of an edit. AllocError where memory is refused, or was.
+fn line_of(alloc: Global, answer: Result<u64, EditFault>) -> Result<String, AllocError>
+    ensures { IfOk result (λ line. IsLineOf answer (string_bytes line)) }
 {
-    let Crew {
-        pass,
-        boxes,
-        last_rows,
-    } = crew;
-    let manager = manager_of(topo, &change);
-    let (pass, answer) = hall.submit(rt, alloc, pass, change);
-    if answer.is_ok() {
-        shift.edited(manager);
-    }
-    let crew = Crew {
-        pass,
-        boxes,
-        last_rows,
-    };
-    (crew, line_of(alloc, answer))
-}
-
-/// The next monitor, if it has this watch.
-fn next_box<M: Monitor>(boxes: &mut VecDeque<M>, watch: &Watch) -> Option<M> {
-    let next = boxes.front()?.watch();
-    if is_watch(&next, watch) {
-        boxes.pop_front()
-    } else {
-        None
+    match answer {
+        Ok(number) => edit_line(alloc, number),
+        Err(EditFault::Memory) => Err(AllocError),
+        Err(fault) => refusal_line(alloc, fault.code(), fault.number()),
     }
 }
 
-/// The line of the attachment of a monitor.
+/// Attaches a monitor, which is dropped where that is refused.
 fn attach_one<R: Wait, M: Monitor>(
     rt: &R,
     alloc: Global,
@@ -95,56 +80,19 @@ fn attach_one<R: Wait, M: Monitor>(
     pass: Pass<M>,
     number: u32,
     monitor: M,
-) -> (Pass<M>, Result<String, CommandFault>)
+) -> (Pass<M>, Result<u64, EditFault>)
     requires { pass.hall ≡ hall.now.hall }
-    ensures { result.0.hall ≡ pass.hall }
+    ensures ok { IfOk result.1 (λ edit. Made pass (call.Attach number (M.held monitor).watch edit) NoMore result.0) }
+    ensures err { IfErr result.1 (λ fault. Looked pass (IsRefused (attach number (M.held monitor).watch) fault) result.0) }
 {
     let (pass, answer) = hall.attach(rt, alloc, pass, number, monitor);
     match answer {
-        Ok(edit) => (pass, line_of(alloc, Ok(edit))),
-        Err((fault, _)) => (pass, line_of(alloc, Err(fault))),
+        Ok(edit) => (pass, Ok(edit)),
+        Err((fault, _)) => (pass, Err(fault)),
     }
 }
 
-/// The line of the attachment of the next monitor.
-fn attach<R: Wait, M: Monitor>(
-    rt: &R,
-    alloc: Global,
-    hall: &Hall<M>,
-    crew: Crew<M>,
-    number: u32,
-    watch: Watch,
-) -> (Crew<M>, Result<String, CommandFault>)
-    requires { crew.pass.hall ≡ hall.now.hall }
-    ensures { result.0.pass.hall ≡ crew.pass.hall }
-{
-    let Crew {
-        pass,
-        mut boxes,
-        last_rows,
-    } = crew;
-    match next_box(&mut boxes, &watch) {
-        Some(monitor) => {
-            let (pass, line) = attach_one(rt, alloc, hall, pass, number, monitor);
-            let crew = Crew {
-                pass,
-                boxes,
-                last_rows,
-            };
-            (crew, line)
-        }
-        None => {
-            let crew = Crew {
-                pass,
-                boxes,
-                last_rows,
-            };
-            (crew, Err(CommandFault::WrongBox))
-        }
-    }
-}
-
-/// Publishes once all windows are settled, with the workers' help.
+/// Publishes once all windows are settled, with the workers' help. NotReady never comes.
 fn published<R: Wait, M: Monitor, G: Gate>(
     rt: &R,
     alloc: Global,
@@ -153,7 +101,8 @@ fn published<R: Wait, M: Monitor, G: Gate>(
     shift: &Shift<'_, '_, G>,
 ) -> (Pass<M>, Result<u64, PublishFault>)
     requires { pass.hall ≡ hall.now.hall }
-    ensures { result.0.hall ≡ pass.hall }
+    ensures ok { IfOk result.1 (λ version. HasPublished pass version result.0) }
+    ensures err { IfErr result.1 (λ fault. IsUnpublished pass fault result.0) }
 {
     let mut pass = pass;
     for _ in rt.forever() {
@@ -162,7 +111,8 @@ fn published<R: Wait, M: Monitor, G: Gate>(
         match answer {
             Ok(version) => return (pass, Ok(version)),
             Err(PublishFault::NotReady) => shift.open(),
-            Err(fault) => return (pass, Err(fault)),
+            Err(PublishFault::VersionFull) => return (pass, Err(PublishFault::VersionFull)),
+            Err(PublishFault::Memory) => return (pass, Err(PublishFault::Memory)),
         }
         let (next, is_enough) = check_wanted(rt, alloc, hall, pass, shift);
         pass = next;
@@ -174,114 +124,105 @@ fn published<R: Wait, M: Monitor, G: Gate>(
     unreachable!()
 }
 
-/// Whether rows are of these first links.
-fn are_linked(rows: &[Row], links: usize) -> bool
-    ensures { result ≡ true → All (λ row. row.link < links) rows.now }
-{
-    rows.iter().all(|row| usize::from(row.link) < links)
-}
-
-/// The text of a report. Each of its rows is of a link of the topology; where one weren't, it would be told as want of memory.
-fn text_of(alloc: Global, topo: &Topo, report: &Report) -> Result<String, CommandFault> {
-    if are_linked(report.rows(), topo.link_count()) {
-        Ok(report_text(alloc, topo, report)?)
-    } else {
-        Err(CommandFault::Memory)
-    }
-}
-
-/// The lines of the latest report.
-fn latest<R: Wait, M: Monitor>(
-    rt: &R,
-    alloc: Global,
-    hall: &Hall<M>,
-    topo: &Topo,
-    crew: Crew<M>,
-) -> (Crew<M>, Result<String, CommandFault>)
-    requires { crew.pass.hall ≡ hall.now.hall }
-    ensures { result.0.pass.hall ≡ crew.pass.hall }
-{
-    let Crew {
-        pass,
-        boxes,
-        last_rows,
-    } = crew;
-    let (pass, found) = hall.read(rt, pass);
-    match found {
-        Ok(Some(report)) => {
-            let crew = Crew {
-                pass,
-                boxes,
-                last_rows: report.rows().len() as u64,
-            };
-            (crew, text_of(alloc, topo, &report))
+impl<'x, 'h, 't, 's, R: Wait, M: Monitor, G: Gate> Crew<'x, 'h, 't, 's, R, M, G> {
+    /// The line of an edit that brings no monitor.
+    fn change(&mut self, alloc: Global, change: Change) -> Result<String, AllocError>
+        ensures topo { self.new.topo ≡ self.old.topo }
+        ensures boxes { self.new.boxes ≡ self.old.boxes }
+        ensures step { IfOk result (λ line. IsStep self.old.topo self.old.now (an_edit (plain_change change)) (string_bytes line) self.new.now) }
+    {
+        let manager = manager_of(self.topo, &change);
+        let pass = self.pass.take().unwrap();
+        let (pass, answer) = self.hall.submit(self.rt, alloc, pass, change);
+        self.pass = Some(pass);
+        if answer.is_ok() {
+            self.shift.edited(manager);
         }
-        _ => {
-            let crew = Crew {
-                pass,
-                boxes,
-                last_rows,
-            };
-            (crew, Err(CommandFault::Memory))
-        }
+        line_of(alloc, answer)
     }
-}
 
-/// The lines of a report of all edits, or of the refusal of one more.
-fn publish<R: Wait, M: Monitor, G: Gate>(
-    rt: &R,
-    alloc: Global,
-    hall: &Hall<M>,
-    topo: &Topo,
-    crew: Crew<M>,
-    shift: &Shift<'_, '_, G>,
-) -> (Crew<M>, Result<String, CommandFault>)
-    requires { crew.pass.hall ≡ hall.now.hall }
-    ensures { result.0.pass.hall ≡ crew.pass.hall }
-{
-    let Crew {
-        pass,
-        boxes,
-        last_rows,
-    } = crew;
-    let (pass, answer) = published(rt, alloc, hall, pass, shift);
-    shift.rest();
-    let crew = Crew {
-        pass,
-        boxes,
-        last_rows,
-    };
-    match answer {
-        Ok(_) => latest(rt, alloc, hall, topo, crew),
-        Err(PublishFault::Memory) => (crew, Err(CommandFault::Memory)),
-        Err(fault) => {
-            let line = refusal_line(alloc, fault.code(), None);
-            (crew, line.map_err(CommandFault::from))
+    /// The line of the attachment of the next monitor.
+    fn attach(&mut self, alloc: Global, number: u32, watch: Watch) -> Result<String, CommandFault>
+        ensures topo { self.new.topo ≡ self.old.topo }
+        ensures boxes { OnOk result (TakesBox self.old.boxes (an_edit (attach number watch)) self.new.boxes) }
+        ensures lacks { IsErrOf result CommandFault.WrongBox → LacksBox self.old.boxes (an_edit (attach number watch)) × (self.new ≡ self.old) }
+        ensures step { IfOk result (λ line. IsStep self.old.topo self.old.now (an_edit (attach number watch)) (string_bytes line) self.new.now) }
+    {
+        let Some(monitor) = self.boxes.next(&watch) else {
+            return Err(CommandFault::WrongBox);
+        };
+        let pass = self.pass.take().unwrap();
+        let (pass, answer) = attach_one(self.rt, alloc, self.hall, pass, number, monitor);
+        self.pass = Some(pass);
+        Ok(line_of(alloc, answer)?)
+    }
+
+    /// The lines of a report of all edits, or of the refusal of one more.
+    fn publish(&mut self, alloc: Global) -> Result<String, AllocError>
+        ensures topo { self.new.topo ≡ self.old.topo }
+        ensures boxes { self.new.boxes ≡ self.old.boxes }
+        ensures step { IfOk result (λ lines. IsStep self.old.topo self.old.now a_report (string_bytes lines) self.new.now) }
+    {
+        let pass = self.pass.take().unwrap();
+        let (pass, answer) = published(self.rt, alloc, self.hall, pass, self.shift);
+        self.shift.rest();
+        match answer {
+            Ok(_) => {
+                let (pass, found) = self.hall.read(self.rt, pass);
+                self.pass = Some(pass);
+                match found {
+                    Ok(Some(report)) => {
+                        let lines = report_text(alloc, self.topo, &report)?;
+                        self.last = Some(report);
+                        Ok(lines)
+                    }
+                    Ok(None) => unreachable!(),
+                    Err(_) => Err(AllocError),
+                }
+            }
+            Err(PublishFault::Memory) => {
+                self.pass = Some(pass);
+                Err(AllocError)
+            }
+            Err(PublishFault::VersionFull) => {
+                self.pass = Some(pass);
+                refusal_line(alloc, PublishFault::VersionFull.code(), None)
+            }
+            Err(PublishFault::NotReady) => unreachable!(),
         }
     }
 }
 
-/// The lines of one command more. WrongBox where it attaches a monitor and the next one is missing or watches something else; Memory
-/// where memory is refused.
-pub(crate) fn lines_of<R: Wait, M: Monitor, G: Gate>(
-    rt: &R,
-    alloc: Global,
-    hall: &Hall<M>,
-    topo: &Topo,
-    crew: Crew<M>,
-    shift: &Shift<'_, '_, G>,
-    asked: Asked,
-) -> (Crew<M>, Result<String, CommandFault>)
-    requires { crew.pass.hall ≡ hall.now.hall }
-    ensures { result.0.pass.hall ≡ crew.pass.hall }
-{
-    match asked {
-        Asked::Change(edit) => change(rt, alloc, hall, topo, crew, shift, edit),
-        Asked::Attach(number, watch) => attach(rt, alloc, hall, crew, number, watch),
-        Asked::NoFragment(fault) => {
-            let line = refusal_line(alloc, fault.code(), fault.number());
-            (crew, line.map_err(CommandFault::from))
+impl<'x, 'h, 't, 's, R: Wait, M: Monitor, G: Gate> Runner for Crew<'x, 'h, 't, 's, R, M, G> {
+    ghost so_far = { λ c. c };
+
+    fn ask(&self, alloc: Global, command: &Command<'_>, left: usize) -> Result<Asked, AllocError>
+        requires { IsCommand command.now }
+        ensures { IfOk result (λ found. asking found ≡ asked command.now) }
+    {
+        self.shift.came_to_command();
+        match self.shift.texts.asked(self.rt, alloc, left, command) {
+            Some(asked) => Ok(asked),
+            None => asked_by(alloc, command),
         }
-        Asked::Report => publish(rt, alloc, hall, topo, crew, shift),
+    }
+
+    #[tactic(auto, unfolding(tl_run::specs::Output::IsStep))]
+    fn lines_of(&mut self, alloc: Global, asked: Asked) -> Result<String, CommandFault> {
+        match asked {
+            Asked::Change(change) => Ok(self.change(alloc, change)?),
+            Asked::Attach(number, watch) => self.attach(alloc, number, watch),
+            Asked::NoFragment(fault) => Ok(refusal_line(alloc, fault.code(), fault.number())?),
+            Asked::Report => Ok(self.publish(alloc)?),
+        }
+    }
+
+    fn last_rows(&self) -> u64
+        ensures { result ≡ length self.now.now.rows }
+    {
+        match &self.last {
+            Some(report) => report.rows().len() as u64,
+            None => 0,
+        }
     }
 }

@@ -1,280 +1,168 @@
 //! The run of a script beside workers.
 
-ghost use Rattle.std.specs.Prelude.{◌≡◌, ◌<◌, ◌≤◌, ◌^◌, List, ℕ, IfOk, OnOk};
-ghost use Rattle.std.specs.Io.KnownBytes.{Appends};
-ghost use Rattle.std.specs.Result.{IsErrOf};
-ghost use Rattle.tl_script.specs.Text.{IsCommand};
+ghost use Rattle.std.specs.Prelude.{◌≡◌, ◌+◌, ◌<◌, ◌≤◌, ◌^◌, List, ℕ, IfOk, OnOk, OnErr, [], true};
+ghost use Rattle.tl_script.specs.Scripts.{commands_of};
+ghost use Rattle.tl_run.specs.Boxes.{watches_in};
+ghost use Rattle.tl_run.specs.Stops.{IsWritten, IsCut};
 
-use crate::crew::{Crew, lines_of};
-use crate::seat::{seats_beside, serve_all};
+use crate::crew::Crew;
+use crate::seat::{Seats, seats_beside, serve_all};
 use crate::shift::Shift;
 use crate::texts::FragmentTexts;
 use std::alloc::{AllocError, Global};
-use std::collections::VecDeque;
 use std::sync::Wait;
 use std::thread::{Threads, join};
-use tl_hall::{Gate, Hall, Pass};
+use tl_hall::{Gate, Hall, Helper, Pass};
 use tl_monitor::Monitor;
-use tl_run::{
-    Asked, LineFault, Outcome, Stop, StopCause, asked_by, put_lines, run_script, write_end,
-};
-use tl_script::{Command, read_command};
+use tl_run::{Boxes, Outcome, Runner, carry_out, run_nothing, run_script};
 use tl_text::{ByteOut, WriteFault};
 use tl_topology::Topo;
 
-/// What a run comes to that stops at a command.
-fn stopped(last_rows: u64, cause: StopCause, command: u64) -> Outcome {
-    Outcome {
-        last_rows,
-        stop: Some(Stop { cause, command }),
-    }
-}
-
-/// What a command asks for, before which so many bytes of the script are left. AllocError where memory is refused.
-fn asked_ahead<R: Wait, G: Gate>(
-    rt: &R,
-    alloc: Global,
-    shift: &Shift<'_, '_, G>,
-    left: usize,
-    command: &Command<'_>,
-) -> Result<Asked, AllocError>
-    requires { IsCommand command.now }
-{
-    shift.came_to_command();
-    match shift.texts.asked(rt, alloc, left, command) {
-        Some(asked) => Ok(asked),
-        None => asked_by(alloc, command),
-    }
-}
-
-/// The lines of one command, put behind those that are gathered. Memory and WrongBox write nothing.
-fn run_command<R: Wait, M: Monitor, G: Gate, O: ByteOut>(
-    rt: &R,
-    alloc: Global,
-    hall: &Hall<M>,
-    topo: &Topo,
-    crew: Crew<M>,
-    shift: &Shift<'_, '_, G>,
-    left: usize,
-    command: &Command<'_>,
-    out: &mut O,
-    gathered: &mut String,
-) -> (Crew<M>, Result<(), LineFault>)
-    requires hall { crew.pass.hall ≡ hall.now.hall }
-    requires out { O.failure_count out.old < 2 ^ 63 }
-    requires lawful { IsCommand command.now }
-    ensures hall { result.0.pass.hall ≡ crew.pass.hall }
-    ensures quiet { OnOk result.1 (O.failure_count out.new ≡ O.failure_count out.old) }
-    ensures memory { IsErrOf result.1 LineFault.Memory → out.new ≡ out.old }
-    ensures lacks { IsErrOf result.1 LineFault.WrongBox → out.new ≡ out.old }
-{
-    let Ok(asked) = asked_ahead(rt, alloc, shift, left, command) else {
-        return (crew, Err(LineFault::Memory));
-    };
-    let (crew, lines) = lines_of(rt, alloc, hall, topo, crew, shift, asked);
-    match lines {
-        Ok(lines) => {
-            let now = matches!(command, Command::Publish);
-            (crew, put_lines(out, gathered, lines.as_str(), now))
-        }
-        Err(fault) => (crew, Err(LineFault::from(fault))),
-    }
-}
-
-/// Runs the commands of a script up to its end or its stop.
-fn run_commands<R: Wait, M: Monitor, G: Gate, O: ByteOut>(
-    rt: &R,
-    alloc: Global,
-    hall: &Hall<M>,
-    topo: &Topo,
-    crew: Crew<M>,
-    shift: &Shift<'_, '_, G>,
-    script: &[u8],
-    out: &mut O,
-    gathered: &mut String,
-) -> (Crew<M>, Result<Outcome, WriteFault>)
-    requires hall { crew.pass.hall ≡ hall.now.hall }
-    requires out { O.failure_count out.old < 2 ^ 63 }
-    ensures hall { result.0.pass.hall ≡ crew.pass.hall }
-    ensures quiet { OnOk result.1 (O.failure_count out.new ≡ O.failure_count out.old) }
-{
-    let mut crew = crew;
-    let mut rest = script;
-    for done in 0..u64::MAX {
-        let last_rows = crew.last_rows;
-        let read = match read_command(rest) {
-            Ok(read) => read,
-            Err(fault) => return (crew, Ok(stopped(last_rows, fault.into(), done + 1))),
-        };
-        let Some((command, taken)) = read else {
-            let stop = None;
-            return (crew, Ok(Outcome { last_rows, stop }));
-        };
-        let (next, told) = run_command(
-            rt,
-            alloc,
-            hall,
-            topo,
-            crew,
-            shift,
-            rest.len(),
-            &command,
-            out,
-            gathered,
-        );
-        crew = next;
-        match told {
-            Ok(()) => rest = &rest[taken..],
-            Err(LineFault::Memory) => {
-                return (crew, Ok(stopped(last_rows, StopCause::Memory, done + 1)));
-            }
-            Err(LineFault::WrongBox) => {
-                return (crew, Ok(stopped(last_rows, StopCause::WrongBox, done + 1)));
-            }
-            Err(LineFault::WriteFault) => return (crew, Err(WriteFault)),
-        }
-    }
-    let last_rows = crew.last_rows;
-    let stop = None;
-    (crew, Ok(Outcome { last_rows, stop }))
-}
-
-/// Runs a script from its first command on, and sends the workers away.
-fn run_whole<R: Wait, M: Monitor, G: Gate, O: ByteOut>(
-    rt: &R,
-    alloc: Global,
-    hall: &Hall<M>,
-    topo: &Topo,
-    crew: Crew<M>,
-    shift: &Shift<'_, '_, G>,
-    script: &[u8],
-    out: &mut O,
-) -> (Pass<M>, Result<Outcome, WriteFault>)
-    requires hall { crew.pass.hall ≡ hall.now.hall }
-    requires out { O.failure_count out.old < 2 ^ 63 }
-    ensures hall { result.0.hall ≡ crew.pass.hall }
-    ensures quiet { OnOk result.1 (O.failure_count out.new ≡ O.failure_count out.old) }
-{
-    let mut gathered = String::new(alloc);
-    let (crew, come) = run_commands(
-        rt,
-        alloc,
-        hall,
-        topo,
-        crew,
-        shift,
-        script,
-        out,
-        &mut gathered,
-    );
-    shift.end();
-    let Crew { pass, .. } = crew;
-    match come {
-        Ok(outcome) => match write_end(out, &mut gathered, outcome.stop) {
-            Ok(()) => (pass, Ok(outcome)),
-            Err(fault) => (pass, Err(fault)),
-        },
-        Err(fault) => (pass, Err(fault)),
-    }
-}
-
 /// A hall of its own for a run, and its first pass.
 fn hall_of<M: Monitor>(alloc: Global, topo: &Topo) -> Result<(Hall<M>, Pass<M>), AllocError>
-    ensures { IfOk result (λ r. r.1.hall ≡ r.0.hall) }
+    ensures { IfOk result (λ r. (r.1.hall ≡ r.0.hall) × (r.1.topo ≡ topo.now) × (r.1.seen ≡ []) × (r.1.sole ≡ true)) }
 {
     let topo = topo.copy(alloc)?;
     Hall::new(alloc, topo)
 }
 
 /// Ends a hall: each monitor that is still attached is closed with the number of the last edit, and all are dropped.
-fn close<R: Wait, M: Monitor>(rt: &R, hall: Hall<M>, pass: Pass<M>)
-    requires { pass.hall ≡ hall.hall }
+fn close<R: Wait, M: Monitor>(rt: &R, hall: Hall<M>, helper: Helper<M>)
+    requires { helper.hall ≡ hall.hall }
 {
-    let desk = hall.close(rt, pass);
+    let desk = hall.close(rt, helper);
     match desk.finish() {
         Ok(ended) => drop(ended),
         Err(left) => drop(left),
     }
 }
 
-/// Runs a script while workers check windows, and waits for all of them.
-fn run_beside<R: Threads + Wait + Sync, M: Monitor + Send, G: Gate, O: ByteOut>(
-    rt: &R,
-    alloc: Global,
-    hall: &Hall<M>,
-    topo: &Topo,
-    crew: Crew<M>,
-    script: &[u8],
-    out: &mut O,
-    workers: u8,
-    gate: &G,
-) -> (Pass<M>, Result<Outcome, WriteFault>)
-    requires hall { crew.pass.hall ≡ hall.now.hall }
-    requires out { O.failure_count out.old < 2 ^ 63 }
-    ensures { result.0.hall ≡ crew.pass.hall }
+/// A script that is to be carried out, and where its lines go.
+#[derive(Drop)]
+struct Errand<'s, 'o, S: Runner + Drop, O: ByteOut> {
+    runner: S,
+    script: &'s [u8],
+    out: &'o mut O,
+}
+
+/// What the script's thread does beside its workers. `join` says nothing of a `&mut` that a closure holds, so its closure holds a
+/// value of a type parameter, which gives the `&mut` back.
+trait Task {
+    type Output;
+
+    ghost can_run: { Self → Type 0 };
+
+    ghost run_gives: { Self → Self.Output → Type 0 };
+
+    /// Does it.
+    fn run(self, alloc: Global) -> Self::Output
+        requires { can_run self }
+        ensures { run_gives self result };
+}
+
+impl<'s, 'o, S: Runner + Drop, O: ByteOut> Task for Errand<'s, 'o, S, O> {
+    ghost use Rattle.std.specs.Prelude.{◌≡◌, ◌<◌, ◌^◌};
+    ghost use Rattle.tl_run.specs.Output.{start};
+    ghost use Rattle.tl_workers.specs.Crew.{IsCarriedOut};
+
+    type Output = (&'o mut O, Result<Outcome, WriteFault>);
+
+    ghost can_run = { λ t. (O.failure_count t.out.now < 2 ^ 63) × ((S.so_far t.runner).now ≡ start) };
+
+    ghost run_gives = { λ t r. (r.0.ghost_name ≡ t.out.ghost_name)
+        × IsCarriedOut (S.so_far t.runner) t.script.now (O.contents t.out.now) (O.contents r.0.now) (O.failure_count t.out.now) (O.failure_count r.0.now) r.1 };
+
+    fn run(self, alloc: Global) -> (&'o mut O, Result<Outcome, WriteFault>) {
+        let Errand {
+            mut runner,
+            script,
+            out,
+        } = self;
+        let told = carry_out(alloc, &mut runner, script, out);
+        (out, told)
+    }
+}
+
+/// Does a task while workers check windows, then sends them away, and waits for all of them.
+fn run_beside<
+    R: Threads + Wait + Sync,
+    M: Monitor + Send,
+    G: Gate + Sync,
+    T: Task<Output = A> + Drop,
+    A,
+>(rt: &R, alloc: Global, seats: Seats<'_, '_, '_, '_, M, G>, task: T) -> A
+    requires { T.can_run task }
+    ensures { T.run_gives task result }
 {
-    let shift = Shift::new(FragmentTexts::new(alloc, script), gate);
-    let Crew {
-        pass,
-        boxes,
-        last_rows,
-    } = crew;
-    let (pass, seats) = seats_beside(alloc, hall, pass, workers);
-    let crew = Crew {
-        pass,
-        boxes,
-        last_rows,
-    };
+    let shift = seats.shift;
     let ((), told) = join(
         rt,
-        || serve_all(rt, alloc, seats, &shift),
-        || -> (Pass<M>, Result<Outcome, WriteFault>)
-            requires hall { crew.pass.hall ≡ hall.now.hall }
-            requires out { O.failure_count out.now < 2 ^ 63 }
-            ensures { result.0.hall ≡ crew.pass.hall }
-        { run_whole(rt, alloc, hall, topo, crew, &shift, script, out) },
+        move || serve_all(rt, alloc, seats),
+        move || -> A
+            requires { T.can_run task }
+            ensures { T.run_gives task result }
+        {
+            let told = task.run(alloc);
+            shift.end();
+            told
+        },
     );
     told
 }
 
+/// Does nothing, but this use of a returned reference is what ties it, for the borrow checker, to the parameter that lent it.
+fn take_back<T>(x: &mut T)
+    ensures { x.new ≡ x.old }
+{}
+
 /// Does as `run_with`, and calls a gate: the script's thread and each worker tell it which tickets they took and handed in, and
 /// workers go on while it says so.
-pub fn run_gated<R: Threads + Wait + Sync, M: Monitor + Send, G: Gate, O: ByteOut>(
-    rt: &R,
+pub fn run_gated<'x, R: Threads + Wait + Sync, M: Monitor + Send, G: Gate + Sync, O: ByteOut>(
+    rt: &'x R,
     alloc: Global,
-    topo: &Topo,
+    topo: &'x Topo,
     script: &[u8],
     boxes: Vec<M>,
     out: &mut O,
     workers: u8,
-    gate: &G,
+    gate: &'x G,
 ) -> Result<Outcome, WriteFault>
     requires workers { workers ≤ 16 }
     requires out { O.failure_count out.old < 2 ^ 63 }
+    ensures written { IfOk result (λ outcome. IsWritten topo.now script.now (watches_in M.held boxes.items) outcome (O.contents out.old) (O.contents out.new)) }
     ensures quiet { OnOk result (O.failure_count out.new ≡ O.failure_count out.old) }
+    ensures failed { OnErr result ((O.failure_count out.new ≡ O.failure_count out.old + 1)
+        × IsCut topo.now (commands_of script.now) (watches_in M.held boxes.items) (O.contents out.old) (O.contents out.new)) }
 {
     if workers == 0 {
         return run_script(alloc, topo, script, boxes, out);
     }
-    let before = out.failures();
     let Ok((hall, pass)) = hall_of(alloc, topo) else {
-        let outcome = stopped(0, StopCause::Memory, 1);
-        write_end(out, &mut String::new(alloc), outcome.stop)?;
-        return Ok(outcome);
+        return run_nothing(alloc, out);
     };
-    let crew = Crew {
-        pass,
-        boxes: VecDeque::from(boxes),
-        last_rows: 0,
+    let own = Shift::new(FragmentTexts::new(alloc, script), gate);
+    let lent = &hall;
+    let shift = &own;
+    let (pass, seats) = seats_beside(alloc, lent, pass, workers);
+    let (pass, spare) = hall.help(pass);
+    let runner = Crew {
+        rt,
+        topo,
+        hall: lent,
+        shift,
+        pass: Some(pass),
+        boxes: Boxes::new(boxes),
+        last: None,
     };
-    let (pass, told) = run_beside(rt, alloc, &hall, topo, crew, script, out, workers, gate);
-    close(rt, hall, pass);
-    let outcome = told?;
-    if out.failures() == before {
-        Ok(outcome)
-    } else {
-        Err(WriteFault)
-    }
+    let errand = Errand {
+        runner,
+        script,
+        out,
+    };
+    let (back, told) = run_beside(rt, alloc, Seats { seats, shift }, errand);
+    take_back(back);
+    close(rt, hall, spare);
+    told
 }
 
 /// A gate that lets everything through.
@@ -304,7 +192,10 @@ pub fn run_with<R: Threads + Wait + Sync, M: Monitor + Send, O: ByteOut>(
 ) -> Result<Outcome, WriteFault>
     requires workers { workers ≤ 16 }
     requires out { O.failure_count out.old < 2 ^ 63 }
+    ensures written { IfOk result (λ outcome. IsWritten topo.now script.now (watches_in M.held boxes.items) outcome (O.contents out.old) (O.contents out.new)) }
     ensures quiet { OnOk result (O.failure_count out.new ≡ O.failure_count out.old) }
+    ensures failed { OnErr result ((O.failure_count out.new ≡ O.failure_count out.old + 1)
+        × IsCut topo.now (commands_of script.now) (watches_in M.held boxes.items) (O.contents out.old) (O.contents out.new)) }
 {
     run_gated(rt, alloc, topo, script, boxes, out, workers, &NoGate)
 }

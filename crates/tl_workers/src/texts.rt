@@ -1,13 +1,22 @@
 //! Fragments of a script that are read before their commands come.
 
-use std::alloc::Global;
+ghost use Rattle.std.specs.Prelude.{◌≡◌, ◌≤◌, IfSome, length, true};
+ghost use Rattle.std.specs.Arc.{arc_value};
+ghost use Rattle.tl_text.specs.Words.{lines_of};
+ghost use Rattle.tl_beats.specs.Reading.{whole_fragment_in};
+ghost use Rattle.tl_run.specs.Commands.{asked, asking, read_as};
+
+use std::alloc::{AllocError, Global};
 use std::sync::atomic::{AtomicBool, AtomicU64, Ordering};
 use std::sync::{Arc, OnceLock, Wait};
 use std::thread::yield_now;
-use tl_beats::{Fragment, FragmentFault, parse_whole_fragment};
+use tl_beats::{Fragment, FragmentFault};
 use tl_inputs::Change;
-use tl_run::Asked;
-use tl_script::{Command, read_command};
+use tl_run::{Asked, fragment_of};
+use tl_script::{Command, Text, read_command};
+
+/// The most bytes of a fragment's text in a script.
+const MOST_TEXT: usize = 8_388_608;
 
 /// How many fragments are read ahead of their commands.
 const MOST_AHEAD: u64 = 64;
@@ -15,17 +24,68 @@ const MOST_AHEAD: u64 = 64;
 /// How few of these are left when workers that sleep are called to read on.
 const FEW_AHEAD: u64 = 32;
 
-/// What a text is: a fragment, or why it is none.
-type Read = Result<Arc<Fragment>, FragmentFault>;
+/// A text that was read: the fragment that it is, or why it is none.
+#[derive(Drop)]
+struct ReadText<'s> {
+    text: Text<'s>,
+    found: Result<Arc<Fragment>, FragmentFault>,
+    ghost exact: { read_as arc_value found ≡ whole_fragment_in (lines_of text) },
+}
 
-/// The text of one fragment, and what it is once one thread has read it.
+impl<'s> ReadText<'s> {
+    /// Reads a text. AllocError where memory is refused.
+    fn read(alloc: Global, bytes: &'s [u8]) -> Result<ReadText<'s>, AllocError>
+        requires { length bytes.now ≤ 8388608 }
+    {
+        let text = Text::new(bytes);
+        let found = fragment_of(alloc, &text)?;
+        Ok(ReadText { text, found })
+    }
+
+    /// What the text is. None where memory is refused.
+    fn found(&self) -> Option<Result<Arc<Fragment>, FragmentFault>>
+        ensures { IfSome result (λ found. read_as arc_value found ≡ whole_fragment_in (lines_of self.now.text)) }
+    {
+        match &self.found {
+            Ok(fragment) => Some(Ok(Arc::try_clone(fragment).ok()?)),
+            Err(fault) => Some(Err(*fault)),
+        }
+    }
+
+    /// Whether this is the text of a command.
+    fn is_of(&self, text: &Text<'_>) -> bool
+        ensures { result ≡ true → self.now.text ≡ text.now }
+    {
+        self.text.as_bytes() == text.as_bytes()
+    }
+
+    /// What a command asks for, if it brings this text. None too where memory is refused.
+    #[tactic(auto, unfolding(tl_run::specs::Commands::asked))]
+    fn asked(&self, command: &Command<'_>) -> Option<Asked>
+        ensures { IfSome result (λ found. asking found ≡ asked command.now) }
+    {
+        match command {
+            Command::Add(text) if self.is_of(text) => Some(match self.found()? {
+                Ok(fragment) => Asked::Change(Change::Add(fragment)),
+                Err(fault) => Asked::NoFragment(fault),
+            }),
+            Command::Replace(text) if self.is_of(text) => Some(match self.found()? {
+                Ok(fragment) => Asked::Change(Change::Replace(fragment)),
+                Err(fault) => Asked::NoFragment(fault),
+            }),
+            _ => None,
+        }
+    }
+}
+
+/// The text of one fragment, and what it is once one thread has read it; None where memory was refused.
 #[derive(Drop)]
 struct FragmentText<'s> {
     // How many bytes of the script are left at its command.
     left: usize,
     bytes: &'s [u8],
     is_claimed: AtomicBool,
-    read: OnceLock<Read>,
+    read: OnceLock<Option<ReadText<'s>>>,
 }
 
 impl<'s> FragmentText<'s> {
@@ -47,18 +107,17 @@ impl<'s> FragmentText<'s> {
     /// Reads it, unless another thread has claimed it.
     fn read<R: Wait>(&self, rt: &R, alloc: Global) {
         if self.claim() {
-            let _ = self.read.set(rt, read_of(alloc, self.bytes));
+            let _ = self.read.set(rt, read_text(alloc, self.bytes));
         }
     }
 }
 
-/// What a text is. Memory where memory is refused.
-fn read_of(alloc: Global, bytes: &[u8]) -> Read {
-    let fragment = parse_whole_fragment(alloc, bytes)?;
-    match Arc::new(alloc, fragment) {
-        Ok(fragment) => Ok(fragment),
-        Err(_) => Err(FragmentFault::Memory),
+/// A text that is read, if it is not too long. None too where memory is refused.
+fn read_text(alloc: Global, bytes: &[u8]) -> Option<ReadText<'_>> {
+    if bytes.len() > MOST_TEXT {
+        return None;
     }
+    ReadText::read(alloc, bytes).ok()
 }
 
 /// The text of the fragment that a command brings.
@@ -66,22 +125,6 @@ fn text_of<'s>(command: &Command<'s>) -> Option<&'s [u8]> {
     match command {
         Command::Add(text) | Command::Replace(text) => Some(text.as_bytes()),
         _ => None,
-    }
-}
-
-/// What a command asks for whose text is this. None where memory was refused.
-fn asked_of(command: &Command<'_>, read: &Read) -> Option<Asked> {
-    match read {
-        Ok(fragment) => {
-            let fragment = Arc::try_clone(fragment).ok()?;
-            match command {
-                Command::Add(_) => Some(Asked::Change(Change::Add(fragment))),
-                Command::Replace(_) => Some(Asked::Change(Change::Replace(fragment))),
-                _ => None,
-            }
-        }
-        Err(FragmentFault::Memory) => None,
-        Err(fault) => Some(Asked::NoFragment(*fault)),
     }
 }
 
@@ -144,7 +187,9 @@ impl<'s> FragmentTexts<'s> {
         alloc: Global,
         left: usize,
         command: &Command<'_>,
-    ) -> Option<Asked> {
+    ) -> Option<Asked>
+        ensures { IfSome result (λ found. asking found ≡ asked command.now) }
+    {
         let _ = text_of(command)?;
         let text = self.get(self.come.fetch_add(1, Ordering::SeqCst))?;
         if text.left != left || text.claim() {
@@ -152,7 +197,7 @@ impl<'s> FragmentTexts<'s> {
         }
         for _ in rt.forever() {
             if let Some(read) = text.read.get() {
-                return asked_of(command, read);
+                return read.as_ref()?.asked(command);
             }
             if !self.read_next(rt, alloc) {
                 yield_now();

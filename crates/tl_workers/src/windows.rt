@@ -1,12 +1,13 @@
 //! Windows that one thread checks, one behind the other.
 
 ghost use Rattle.std.specs.Prelude.{◌≡◌};
+ghost use Rattle.tl_workers.specs.Crew.{GoesOn};
 
 use crate::shift::Shift;
 use std::alloc::Global;
 use std::sync::Wait;
 use tl_desk::Piece;
-use tl_hall::{Gate, Hall, Pass, Round, work_once};
+use tl_hall::{Gate, Hall, Helper, Pass, Round, work_once};
 use tl_monitor::Monitor;
 
 /// How many windows may be checked again, beside one for each that is checked the first time, before the workers rest. Where what a
@@ -66,7 +67,7 @@ pub(crate) fn check_wanted<R: Wait, M: Monitor, G: Gate>(
     shift: &Shift<'_, '_, G>,
 ) -> (Pass<M>, bool)
     requires { pass.hall ≡ hall.now.hall }
-    ensures { result.0.hall ≡ pass.hall }
+    ensures { GoesOn pass result.0 }
 {
     let mut pass = pass;
     let mut stretch = Stretch::new();
@@ -92,28 +93,28 @@ pub(crate) fn work_ahead<R: Wait, M: Monitor, G: Gate>(
     rt: &R,
     alloc: Global,
     hall: &Hall<M>,
-    pass: Pass<M>,
+    helper: Helper<M>,
     shift: &Shift<'_, '_, G>,
     is_first: bool,
-) -> Pass<M>
-    requires { pass.hall ≡ hall.now.hall }
-    ensures { result.hall ≡ pass.hall }
+) -> Helper<M>
+    requires { helper.hall ≡ hall.now.hall }
+    ensures { result.hall ≡ helper.hall }
 {
-    let mut pass = pass;
+    let mut helper = helper;
     let mut stretch = Stretch::new();
     let mut is_in_doubt = false;
     for _ in rt.forever() {
         if !shift.is_ahead() {
-            return pass;
+            return helper;
         }
         if shift.texts.read_next(rt, alloc) {
             continue;
         }
         if is_in_doubt || !shift.has_whole() {
-            return pass;
+            return helper;
         }
-        let (next, round) = work_once(rt, alloc, hall, pass, shift);
-        pass = next;
+        let (next, round) = work_once(rt, alloc, hall, helper, shift);
+        helper = next;
         match round {
             Round::Taken(piece) | Round::Void(piece) | Round::Strange(piece)
                 if shift.seems_whole(piece) => {

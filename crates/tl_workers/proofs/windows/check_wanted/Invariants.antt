@@ -1,6 +1,6 @@
-use Rattle.std.proofs.Common.{◌≡◌}
+use Rattle.tl_workers.specs.Crew.{GoesOn}
 use Rattle.tl_workers.proofs.windows.check_wanted.Given as goal
 
--- the pass stays one of the hall
+-- the pass goes on
 abbrev pub invariant-loop : goal.invariant-loop
-invariant-loop g l = (goal.iterator-loop g).can_next l.iterator' × (goal.iterator-loop g).is_finite l.iterator' × (l.pass.hall ≡ l.initial.pass.hall)
+invariant-loop g l = (goal.iterator-loop g).can_next l.iterator' × (goal.iterator-loop g).is_finite l.iterator' × GoesOn l.initial.pass l.pass

@@ -3,39 +3,41 @@
 ghost use Rattle.std.specs.Prelude.{◌≤◌, ◌^◌};
 
 use crate::fault::Fault;
-use crate::sentences::{fragment_sentence, topology_sentence};
-use std::fs;
+use crate::kinds::Role;
+use std::alloc::Global;
 use std::rt::Files;
 use std::sync::Arc;
-use tl_beats::{Fragment, parse_whole_fragment, read_fragment};
+use std::{fs, io};
+use tl_beats::{Fragment, read_fragment};
 use tl_run::read_script;
-use tl_text::{CountedReader, read_text};
+use tl_text::{CountedReader, TextFault, read_text};
 use tl_topology::{Topo, TopoFault, read_topo};
-
-/// The most bytes of a topology's file.
-const MOST_TOPOLOGY: u64 = 1_048_576;
-
-/// The most bytes of a fragment's file.
-const MOST_FRAGMENT: u64 = 8_388_608;
 
 /// The topology that a file's whole text is; bytes behind its last line are BadLine of the next.
 pub(crate) fn topology_of<R: Files + AllocGlobal>(rt: &R, path: &str) -> Result<Topo, Fault> {
     let Ok(file) = fs::open(rt, path) else {
         return Err(Fault::FILE);
     };
-    let text = read_text(rt.alloc(), &mut CountedReader::new(file), MOST_TOPOLOGY)?;
-    let (topo, used) = read_topo(rt.alloc(), &text)?;
-    if used == text.len() {
-        Ok(topo)
-    } else {
-        Err(TopoFault::BadLine(line_after(&text[..used])).into())
-    }
+    let most = Role::Topology.most();
+    let text = read_text(rt.alloc(), &mut CountedReader::new(file), most)?;
+    let topo = whole_topology(rt.alloc(), &text)?;
+    Ok(topo)
 }
 
 /// The number of the line that begins behind these lines.
-fn line_after(lines: &[u8]) -> u64 {
+pub(crate) fn line_after(lines: &[u8]) -> u64 {
     let ends = lines.iter().filter(|byte| **byte == b'\n').count();
     ends as u64 + 1
+}
+
+/// The topology that a whole text is; bytes behind its last line are BadLine of the next.
+pub(crate) fn whole_topology(alloc: Global, text: &[u8]) -> Result<Topo, TopoFault> {
+    let (topo, used) = read_topo(alloc, text)?;
+    if used == text.len() {
+        Ok(topo)
+    } else {
+        Err(TopoFault::BadLine(line_after(&text[..used])))
+    }
 }
 
 /// The fragment that a file's whole text is.
@@ -69,77 +71,54 @@ pub(crate) fn script_of<R: Files + AllocGlobal>(rt: &R, path: &str) -> Result<Ve
     Ok(script)
 }
 
-/// The whole text of a regular file of at most so many bytes; of no other file, since a pipe can't be read again.
-fn text_of<R: Files + AllocGlobal>(rt: &R, path: &str, most: u64) -> Result<Vec<u8>, Fault>
-    requires { most ≤ 2 ^ 32 }
-{
-    let Ok(found) = fs::metadata(rt, path) else {
-        return Err(Fault::FILE);
+/// What stands at a path.
+#[derive(Drop)]
+pub(crate) enum Seen {
+    /// There is nothing.
+    Nothing,
+    /// A folder.
+    Folder,
+    /// A pipe or a device, which can't be read again.
+    Stream,
+    /// A file that can't be opened or read.
+    Closed,
+    /// A file with more bytes than one of its role has.
+    TooLong,
+    /// A file with this text.
+    Text(Vec<u8>),
+}
+
+/// What stands at a path that can't be asked for.
+fn unseen(error: &io::Error) -> Seen {
+    match error.kind() {
+        io::ErrorKind::NotFound => Seen::Nothing,
+        _ => Seen::Closed,
+    }
+}
+
+/// What stands at the path of a file of this role, which is read again.
+pub(crate) fn seen_at<R: Files + AllocGlobal>(
+    rt: &R,
+    path: &str,
+    role: Role,
+) -> Result<Seen, Fault> {
+    let found = match fs::metadata(rt, path) {
+        Ok(found) => found,
+        Err(error) => return Ok(unseen(&error)),
     };
+    if found.is_dir() {
+        return Ok(Seen::Folder);
+    }
     if !found.is_file() {
-        return Err(Fault::FILE);
+        return Ok(Seen::Stream);
     }
     let Ok(file) = fs::open(rt, path) else {
-        return Err(Fault::FILE);
+        return Ok(Seen::Closed);
     };
-    let text = read_text(rt.alloc(), &mut CountedReader::new(file), most)?;
-    Ok(text)
-}
-
-/// This fault in a sentence, if it is that of a topology's file.
-fn topology_fault<R: Files + AllocGlobal>(
-    rt: &R,
-    fault: Fault,
-    path: &str,
-) -> Result<Option<String>, Fault> {
-    let text = text_of(rt, path, MOST_TOPOLOGY)?;
-    let own = match read_topo(rt.alloc(), &text) {
-        Ok((_, used)) if used < text.len() => TopoFault::BadLine(line_after(&text[..used])),
-        Ok(_) => return Ok(None),
-        Err(own) => own,
-    };
-    if fault != own.into() {
-        return Ok(None);
+    match read_text(rt.alloc(), &mut CountedReader::new(file), role.most()) {
+        Ok(text) => Ok(Seen::Text(text)),
+        Err(TextFault::ReadFault) => Ok(Seen::Closed),
+        Err(TextFault::TooLong) => Ok(Seen::TooLong),
+        Err(TextFault::Memory) => Err(Fault::MEMORY),
     }
-    match topology_sentence(rt.alloc(), path, &text, own) {
-        Ok(sentence) => Ok(Some(sentence)),
-        Err(_) => Err(Fault::MEMORY),
-    }
-}
-
-/// This fault in a sentence, if it is that of a fragment's file.
-fn fragment_fault<R: Files + AllocGlobal>(
-    rt: &R,
-    fault: Fault,
-    path: &str,
-) -> Result<Option<String>, Fault> {
-    let text = text_of(rt, path, MOST_FRAGMENT)?;
-    let Err(own) = parse_whole_fragment(rt.alloc(), &text) else {
-        return Ok(None);
-    };
-    if fault != own.into() {
-        return Ok(None);
-    }
-    match fragment_sentence(rt.alloc(), path, &text, own) {
-        Ok(sentence) => Ok(Some(sentence)),
-        Err(_) => Err(Fault::MEMORY),
-    }
-}
-
-/// This fault in a sentence, if it is that of one of these files, which are read again; of the first that it is of.
-pub(crate) fn fault_of<R: Files + AllocGlobal>(
-    rt: &R,
-    fault: Fault,
-    topology: &str,
-    fragments: &[&str],
-) -> Result<Option<String>, Fault> {
-    if let Some(sentence) = topology_fault(rt, fault, topology)? {
-        return Ok(Some(sentence));
-    }
-    for path in fragments {
-        if let Some(sentence) = fragment_fault(rt, fault, path)? {
-            return Ok(Some(sentence));
-        }
-    }
-    Ok(None)
 }

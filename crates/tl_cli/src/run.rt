@@ -6,9 +6,14 @@ ghost use Rattle.tl_cli.specs.Status.{status_of};
 use crate::denial::Denial;
 use crate::explain::titles;
 use crate::fault::Fault;
-use crate::files::{fault_of, fragments_of, script_of, topology_of};
+use crate::files::{fragments_of, script_of, topology_of};
 use crate::monitors::{attached_in, settlement_lines};
+use crate::places::More;
+use crate::screen::Screen;
 use crate::showing::{show_audit, show_once, show_script};
+use crate::telling::{
+    Suspect, input_sentence, input_sentences, once_sentence, run_sentences, script_sentence,
+};
 use crate::words::{Command, How, not_utf8, read_words};
 use clap::error::ErrorKind;
 use std::alloc::Global;
@@ -180,20 +185,45 @@ fn audit_of_files<R: Files + AllocGlobal, O: ByteOut>(
 }
 
 /// The run of a script behind its topology's text.
-fn run_of_input<R: Threads + Wait + Sync + AllocGlobal, I: ByteIn, O: ByteOut>(
+fn run_of_input<R: Threads + Wait + Sync + AllocGlobal, O: ByteOut>(
     rt: &R,
-    input: &mut I,
+    text: &[u8],
     out: &mut O,
-) -> Result<Ending, Fault>
-    requires reads { I.read_count input.old < 2 ^ 63 }
-    requires failures { I.failure_count input.old < 2 ^ 63 }
+) -> Result<Outcome, Fault>
+    requires { O.failure_count out.old < 2 ^ 63 }
+{
+    let (topo, used) = read_topo(rt.alloc(), text)?;
+    run_of_script(rt, &topo, &text[used..], 0, false, out)
+}
+
+/// Runs a script behind its topology, and at a terminal tells what was refused.
+fn do_input<R: Threads + Wait + Sync + AllocGlobal, O: ByteOut, E: ByteOut>(
+    rt: &R,
+    text: &[u8],
+    out: &mut O,
+    err: &mut E,
+    screen: Screen,
+) -> u8
     requires out { O.failure_count out.old < 2 ^ 63 }
+    requires err { E.failure_count err.old < 2 ^ 63 }
+    ensures { result ≤ 2 }
 {
     let alloc = rt.alloc();
-    let text = read_text(alloc, input, MOST_INPUT)?;
-    let (topo, used) = read_topo(alloc, &text)?;
-    let outcome = run_of_script(rt, &topo, &text[used..], 0, false, out)?;
-    Ok(Ending::Came(outcome))
+    match run_of_input(rt, text, out) {
+        Ok(outcome) => {
+            if screen.is_terminal()
+                && let Ok(sentences) = input_sentences(alloc, text, screen.look())
+            {
+                let _ = write_all(err, sentences.as_bytes());
+            }
+            status_of(outcome)
+        }
+        Err(fault) if screen.is_terminal() => {
+            let sentence = input_sentence(alloc, text, fault, screen.look());
+            tell_both(alloc, err, fault, sentence)
+        }
+        Err(fault) => tell(alloc, err, fault),
+    }
 }
 
 /// Tells of a fault in one line; that this can't be written changes nothing.
@@ -207,57 +237,141 @@ fn tell<E: ByteOut>(alloc: Global, err: &mut E, fault: Fault) -> u8
     FAULT
 }
 
-/// Tells in one line why a run is denied; that this can't be written changes nothing.
-fn tell_denial<E: ByteOut>(alloc: Global, err: &mut E, denial: Denial) -> u8
-    requires { E.failure_count err.old < 2 ^ 63 }
-    ensures { result ≡ 2 }
-{
-    if let Ok(line) = format!(in alloc; "{denial}\n") {
-        let _ = write_all(err, line.as_bytes());
-    }
-    FAULT
-}
-
-/// A fault in a sentence, if it is that of a file of a command whose rows are shown.
-fn sentence_of<R: Files + AllocGlobal>(
-    rt: &R,
+/// What is told behind the line of a fault.
+fn told_behind(
+    alloc: Global,
     fault: Fault,
-    command: &Command<'_>,
-) -> Result<Option<String>, Fault> {
-    match command {
-        Command::Once {
-            topology,
-            fragments,
-            how,
-        } if how.show => fault_of(rt, fault, *topology, fragments),
-        Command::Run { topology, how, .. } if how.show => fault_of(rt, fault, *topology, &[]),
-        Command::Audit { topology, how, .. } if how.show => fault_of(rt, fault, *topology, &[]),
-        _ => Ok(None),
+    sentence: Result<Option<String>, Fault>,
+) -> Result<String, Fault> {
+    match sentence? {
+        Some(sentence) => Ok(sentence),
+        None => Ok(More(fault.code).text(alloc)?),
     }
 }
 
-/// Tells of a fault in one line, and where rows are shown of what is at fault in the files; that this can't be written changes
-/// nothing.
-fn tell_fault<R: Files + AllocGlobal, E: ByteOut>(
-    rt: &R,
+/// Tells of a fault in one line, and behind it in a sentence, or where it has none by the last line of each; in one line alone where
+/// the sentence finds no memory. That this can't be written changes nothing.
+fn tell_both<E: ByteOut>(
+    alloc: Global,
     err: &mut E,
     fault: Fault,
-    command: &Command<'_>,
+    sentence: Result<Option<String>, Fault>,
 ) -> u8
     requires { E.failure_count err.old < 2 ^ 63 }
     ensures { result ≡ 2 }
 {
-    let alloc = rt.alloc();
     let Ok(line) = format!(in alloc; "{fault}\n") else {
         return FAULT;
     };
     let Ok(()) = write_all(err, line.as_bytes()) else {
         return FAULT;
     };
-    if let Ok(Some(sentence)) = sentence_of(rt, fault, command) {
-        let _ = write_all(err, sentence.as_bytes());
+    if let Ok(behind) = told_behind(alloc, fault, sentence) {
+        let _ = write_all(err, behind.as_bytes());
     }
     FAULT
+}
+
+/// What a script's run refused and where it stopped, in sentences, where these are told.
+fn refusals_of<R: Files + AllocGlobal>(
+    rt: &R,
+    command: &Command<'_>,
+    screen: Screen,
+) -> Result<Option<String>, Fault> {
+    match command {
+        Command::Run {
+            topology,
+            script,
+            ..
+        } if screen.has_sentences(command) => {
+            run_sentences(rt, *topology, *script, screen.look())
+        }
+        _ => Ok(None),
+    }
+}
+
+/// Tells what a script's run refused and where it stopped; that this can't be written changes nothing.
+fn tell_refusals<R: Files + AllocGlobal, E: ByteOut>(
+    rt: &R,
+    err: &mut E,
+    command: &Command<'_>,
+    screen: Screen,
+)
+    requires { E.failure_count err.old < 2 ^ 63 }
+{
+    if let Ok(Some(sentences)) = refusals_of(rt, command, screen) {
+        let _ = write_all(err, sentences.as_bytes());
+    }
+}
+
+/// Tells in one line why a run is denied, and what it refused behind that; that this can't be written changes nothing.
+fn tell_denial<R: Files + AllocGlobal, E: ByteOut>(
+    rt: &R,
+    err: &mut E,
+    denial: Denial,
+    command: &Command<'_>,
+    screen: Screen,
+) -> u8
+    requires { E.failure_count err.old < 2 ^ 63 }
+    ensures { result ≡ 2 }
+{
+    let Ok(line) = format!(in rt.alloc(); "{denial}\n") else {
+        return FAULT;
+    };
+    if let Ok(()) = write_all(err, line.as_bytes()) {
+        tell_refusals(rt, err, command, screen);
+    }
+    FAULT
+}
+
+/// A fault of a command's files in a sentence; None where it is of none of them. Want of memory is no file's fault, nor is a write
+/// that fails.
+fn sentence_of<R: Files + AllocGlobal>(
+    rt: &R,
+    fault: Fault,
+    command: &Command<'_>,
+    screen: Screen,
+) -> Result<Option<String>, Fault> {
+    if fault == Fault::MEMORY || fault == Fault::WRITE {
+        return Ok(None);
+    }
+    let look = screen.look();
+    match command {
+        Command::Once {
+            topology,
+            fragments,
+            ..
+        } => once_sentence(rt, Suspect::new(*topology, fault, look), fragments),
+        Command::Run {
+            topology,
+            script,
+            ..
+        }
+        | Command::Audit {
+            topology,
+            script,
+            ..
+        } => script_sentence(rt, Suspect::new(*topology, fault, look), *script),
+        Command::Input | Command::Explain { .. } => Ok(None),
+    }
+}
+
+/// Tells of a fault in one line, and where faults are explained in a sentence behind that.
+fn tell_fault<R: Files + AllocGlobal, E: ByteOut>(
+    rt: &R,
+    err: &mut E,
+    fault: Fault,
+    command: &Command<'_>,
+    screen: Screen,
+) -> u8
+    requires { E.failure_count err.old < 2 ^ 63 }
+    ensures { result ≡ 2 }
+{
+    if !screen.has_faults(command) {
+        return tell(rt.alloc(), err, fault);
+    }
+    let sentence = sentence_of(rt, fault, command, screen);
+    tell_both(rt.alloc(), err, fault, sentence)
 }
 
 /// Writes a text that was asked for.
@@ -341,10 +455,7 @@ pub fn refuse_words<E: ByteOut>(alloc: Global, err: &mut E, error: &io::Error) -
     }
 }
 
-/// Does what the words ask for, the first of which is the program's own, and answers the exit status: 0 where the last report
-/// has no rows, there is none, or a text was asked for; 1 where it has some rows; 2 for a script that stops, for a fault, which is
-/// told in one line on `err`, and for words that are refused, of which `clap` tells on `err` in lines of its own. `input`
-/// stands for standard input. With workers it waits for their threads.
+/// Does what the words ask for where standard error is no terminal: `run_words_at` with `Screen::None`.
 pub fn run_words<R: Files + Threads + Wait + Sync + AllocGlobal, I: ByteIn, O: ByteOut, E: ByteOut>(
     rt: &R,
     words: &[String],
@@ -358,12 +469,54 @@ pub fn run_words<R: Files + Threads + Wait + Sync + AllocGlobal, I: ByteIn, O: B
     requires err { E.failure_count err.old < 2 ^ 63 }
     ensures { result ≤ 2 }
 {
+    run_words_at(rt, words, input, out, err, Screen::None)
+}
+
+/// Runs what stands on standard input.
+fn run_input<R: Threads + Wait + Sync + AllocGlobal, I: ByteIn, O: ByteOut, E: ByteOut>(
+    rt: &R,
+    input: &mut I,
+    out: &mut O,
+    err: &mut E,
+    screen: Screen,
+) -> u8
+    requires reads { I.read_count input.old < 2 ^ 63 }
+    requires failures { I.failure_count input.old < 2 ^ 63 }
+    requires out { O.failure_count out.old < 2 ^ 63 }
+    requires err { E.failure_count err.old < 2 ^ 63 }
+    ensures { result ≤ 2 }
+{
+    let alloc = rt.alloc();
+    match read_text(alloc, input, MOST_INPUT) {
+        Ok(text) => do_input(rt, &text, out, err, screen),
+        Err(found) if screen.is_terminal() => tell_both(alloc, err, found.into(), Ok(None)),
+        Err(found) => tell(alloc, err, found.into()),
+    }
+}
+
+/// Does what the words ask for, the first of which is the program's own, and answers the exit status: 0 where the last report
+/// has no rows, there is none, or a text was asked for; 1 where it has some rows; 2 for a script that stops, for a fault, which is
+/// told in one line on `err`, and for words that are refused, of which `clap` tells on `err` in lines of its own. `input`
+/// stands for standard input. At a terminal, and where the words ask for it, the line of a fault is followed by a sentence, and what
+/// a script's run refuses is told there too. With workers it waits for their threads.
+pub fn run_words_at<
+    R: Files + Threads + Wait + Sync + AllocGlobal,
+    I: ByteIn,
+    O: ByteOut,
+    E: ByteOut,
+>(rt: &R, words: &[String], input: &mut I, out: &mut O, err: &mut E, screen: Screen) -> u8
+    requires reads { I.read_count input.old < 2 ^ 63 }
+    requires failures { I.failure_count input.old < 2 ^ 63 }
+    requires out { O.failure_count out.old < 2 ^ 63 }
+    requires err { E.failure_count err.old < 2 ^ 63 }
+    ensures { result ≤ 2 }
+{
     let command = match read_words(rt.alloc(), words) {
         Ok(command) => command,
         Err(error) => return tell_words(rt.alloc(), out, err, &error),
     };
     let ending = match &command {
-        Command::Input => run_of_input(rt, input, out),
+        Command::Input => return run_input(rt, input, out, err, screen),
         Command::Once {
             topology,
             fragments,
@@ -391,8 +544,11 @@ pub fn run_words<R: Files + Threads + Wait + Sync + AllocGlobal, I: ByteIn, O: B
         Command::Explain { entry } => return tell_entry(rt.alloc(), out, err, *entry),
     };
     match ending {
-        Ok(Ending::Came(outcome)) => status_of(outcome),
-        Ok(Ending::Denied(denial)) => tell_denial(rt.alloc(), err, denial),
-        Err(fault) => tell_fault(rt, err, fault, &command),
+        Ok(Ending::Came(outcome)) => {
+            tell_refusals(rt, err, &command, screen);
+            status_of(outcome)
+        }
+        Ok(Ending::Denied(denial)) => tell_denial(rt, err, denial, &command, screen),
+        Err(fault) => tell_fault(rt, err, fault, &command, screen),
     }
 }

@@ -1,15 +1,18 @@
-//! Faults of texts, each in a sentence: the line that is at fault, the field, and what was expected.
+//! Faults of texts: which line is at fault, and why.
 
-use std::alloc::{AllocError, Global};
+use crate::advice::{kind_advice, line_advice};
+use crate::causes::{Advice, Cause};
+use crate::fields::{Form, field_at, slip_in};
+use crate::forms::{HEADER, LINK_LINE, MANAGER_LINE, STRICT_LINE, form_of_beat, form_of_command};
+use crate::kinds::{Role, kind_of};
 use std::str;
 use tl_beats::FragmentFault;
-use tl_text::{bit, decimal, hexadecimal, line, word};
+use tl_script::ScriptFault;
+use tl_text::line;
 use tl_topology::TopoFault;
 
 /// The most bytes of a line that are shown.
 const MOST_SHOWN: usize = 100;
-
-const MARK: [u8; 3] = [0xef, 0xbb, 0xbf];
 
 const RETURN: u8 = b'\r';
 
@@ -17,142 +20,6 @@ const DELETE: u8 = 0x7f;
 
 /// What stands for bytes that can't be shown.
 const NO_TEXT: &str = "bytes that are no text";
-
-/// What a field of a beat's line is spelled as.
-#[derive(Clone, Copy)]
-enum Spelling {
-    Cycle,
-    Channel,
-    Code,
-    Size,
-    Number,
-    Hexadecimal,
-    Bit,
-}
-
-/// A field of a beat's line.
-#[derive(Clone, Copy)]
-struct Field {
-    name: &'static str,
-    spelling: Spelling,
-}
-
-const CYCLE: Field = Field {
-    name: "cycle",
-    spelling: Spelling::Cycle,
-};
-
-const CHANNEL: Field = Field {
-    name: "channel",
-    spelling: Spelling::Channel,
-};
-
-const OPCODE: Field = Field {
-    name: "opcode",
-    spelling: Spelling::Code,
-};
-
-const PARAM: Field = Field {
-    name: "param",
-    spelling: Spelling::Code,
-};
-
-const SIZE: Field = Field {
-    name: "size",
-    spelling: Spelling::Size,
-};
-
-const SOURCE: Field = Field {
-    name: "source",
-    spelling: Spelling::Number,
-};
-
-const SINK: Field = Field {
-    name: "sink",
-    spelling: Spelling::Number,
-};
-
-const ADDRESS: Field = Field {
-    name: "address",
-    spelling: Spelling::Hexadecimal,
-};
-
-const MASK: Field = Field {
-    name: "mask",
-    spelling: Spelling::Hexadecimal,
-};
-
-const DENIED: Field = Field {
-    name: "denied",
-    spelling: Spelling::Bit,
-};
-
-const CORRUPT: Field = Field {
-    name: "corrupt",
-    spelling: Spelling::Bit,
-};
-
-const ACCESS: [Field; 9] = [
-    CYCLE, CHANNEL, OPCODE, PARAM, SIZE, SOURCE, ADDRESS, MASK, CORRUPT,
-];
-
-const RELEASE: [Field; 8] = [
-    CYCLE, CHANNEL, OPCODE, PARAM, SIZE, SOURCE, ADDRESS, CORRUPT,
-];
-
-const REPLY: [Field; 9] = [
-    CYCLE, CHANNEL, OPCODE, PARAM, SIZE, SOURCE, SINK, DENIED, CORRUPT,
-];
-
-const ACK: [Field; 3] = [CYCLE, CHANNEL, SINK];
-
-/// Whether a word is spelled so.
-fn is_spelled(spelling: Spelling, text: &[u8]) -> bool {
-    match spelling {
-        Spelling::Cycle => decimal(text, u64::MAX).is_some(),
-        Spelling::Channel => text.len() == 1 && b'A' <= text[0] && text[0] <= b'E',
-        Spelling::Code => decimal(text, 7).is_some(),
-        Spelling::Size => decimal(text, 15).is_some(),
-        Spelling::Number => decimal(text, 65_535).is_some(),
-        Spelling::Hexadecimal => hexadecimal(text).is_some(),
-        Spelling::Bit => bit(text).is_some(),
-    }
-}
-
-/// What is lawful there.
-fn lawful(spelling: Spelling) -> &'static str {
-    match spelling {
-        Spelling::Cycle => "a decimal number below 2^64 without leading zeros",
-        Spelling::Channel => "a channel is A, B, C, D or E",
-        Spelling::Code => "a number from 0 to 7",
-        Spelling::Size => "an exponent from 0 to 15",
-        Spelling::Number => "a decimal number from 0 to 65535 without leading zeros",
-        Spelling::Hexadecimal => {
-            "hexadecimal has lower case, no 0x, no leading zeros, at most 16 digits"
-        }
-        Spelling::Bit => "0 or 1",
-    }
-}
-
-/// The form of a beat's line on a channel.
-fn form(chan: &[u8]) -> &'static str {
-    match chan {
-        b"C" => "a beat of C is CYCLE C OPCODE PARAM SIZE SOURCE ADDRESS CORRUPT",
-        b"D" => "a beat of D is CYCLE D OPCODE PARAM SIZE SOURCE SINK DENIED CORRUPT",
-        b"E" => "a beat of E is CYCLE E SINK",
-        _ => "a beat of A or B is CYCLE A OPCODE PARAM SIZE SOURCE ADDRESS MASK CORRUPT",
-    }
-}
-
-/// The fields of a beat's line on a channel.
-fn fields(chan: &[u8]) -> &'static [Field] {
-    match chan {
-        b"C" => &RELEASE,
-        b"D" => &REPLY,
-        b"E" => &ACK,
-        _ => &ACCESS,
-    }
-}
 
 /// Bytes as they can be shown, without a carriage return at the end; none with control characters.
 pub(crate) fn shown(bytes: &[u8]) -> &str {
@@ -175,150 +42,368 @@ pub(crate) fn first_line(text: &[u8]) -> &[u8] {
     }
 }
 
-/// The line of a text with this number, from 1.
-fn line_at(text: &[u8], number: u64) -> &[u8] {
+/// A text from the line with this number on, from 1.
+fn lines_from(text: &[u8], number: u64) -> &[u8] {
     let mut rest = text;
     for _ in 1..number {
         if let Some((_, after)) = line(rest) {
             rest = after;
         }
     }
-    first_line(rest)
+    rest
 }
 
-/// The channel of a beat's line.
-fn channel_of(text: &[u8]) -> &[u8] {
-    let Some((_, rest)) = word(text) else {
-        return text;
-    };
-    match word(rest) {
-        Some((chan, _)) => chan,
-        None => rest,
+/// The line of a text with this number, from 1.
+pub(crate) fn line_at(text: &[u8], number: u64) -> &[u8] {
+    first_line(lines_from(text, number))
+}
+
+/// Whether the line before the one with this number is the last that a text may have.
+fn is_behind_end(text: &[u8], number: u64) -> bool {
+    number > 1 && line_at(text, number - 1) == b"end".as_slice()
+}
+
+/// Where a fragment's text stands.
+#[derive(Clone, Copy, Debug, PartialEq, Eq)]
+pub(crate) enum Home {
+    /// In a file of its own.
+    File,
+    /// Behind the line of a command.
+    Script,
+}
+
+fn plain<'a>(found: &'static str, wanted: &'static str) -> Cause<'a> {
+    Cause::Plain(Advice::new(found, wanted))
+}
+
+/// Why the last line of a file is cut off.
+fn cut_cause<'a>(own: &[u8]) -> Cause<'a> {
+    if own.is_empty() {
+        plain(
+            "the end of the file without a line 'end'",
+            "'end' and a newline as the last line",
+        )
+    } else if own == b"end".as_slice() {
+        plain("no newline behind the last line", "a newline there")
+    } else {
+        plain(
+            "the end of the file within this line",
+            "whole lines, with 'end' as the last one",
+        )
     }
 }
 
-/// What is wrong with a line that is no beat's.
-fn beat_sentence(alloc: Global, text: &[u8]) -> Result<String, AllocError> {
-    let chan = channel_of(text);
-    let mut rest = Some(text);
-    for field in fields(chan) {
-        let Some(words) = rest else {
-            return String::from_str(alloc, form(chan));
-        };
-        let (own, after) = match word(words) {
-            Some((own, after)) => (own, Some(after)),
-            None => (words, None),
-        };
-        if !is_spelled(field.spelling, own) {
-            let name = field.name;
-            let own = shown(own);
-            let lawful = lawful(field.spelling);
-            return format!(in alloc; "{name} '{own}': {lawful}");
-        }
-        rest = after;
-    }
-    match rest {
-        Some(_) => String::from_str(alloc, form(chan)),
-        None => String::from_str(alloc, "nothing may stand behind the line end"),
+/// Why a fragment is cut off.
+fn cut_fragment_cause<'a>(own: &[u8], home: Home) -> Cause<'a> {
+    match home {
+        Home::File => cut_cause(own),
+        Home::Script => plain(
+            "BYTES that stop short of the fragment's line 'end'",
+            "as BYTES the size of the fragment (wc -c tells it)",
+        ),
     }
 }
 
-/// What is wrong with the text, or with its line, whatever the text is.
-fn common_sentence(text: &[u8], own: &[u8]) -> Option<&'static str> {
-    if text.starts_with(MARK.as_slice()) {
-        return Some("the text begins with a byte order mark, in place of its first word");
-    }
-    match own.last() {
-        Some(last) if *last == RETURN => {
-            Some("the line ends with a carriage return: lines end with a newline alone")
-        }
-        _ => None,
+/// Why a text goes on behind its line end.
+fn surplus_cause<'a>(home: Home) -> Cause<'a> {
+    match home {
+        Home::File => plain("more text behind the line 'end'", "nothing behind it"),
+        Home::Script => plain(
+            "BYTES that go past the fragment's line 'end'",
+            "as BYTES the size of the fragment (wc -c tells it)",
+        ),
     }
 }
 
-/// What is wrong with a line of a fragment.
-fn fragment_cause(alloc: Global, fault: FragmentFault, own: &[u8]) -> Result<String, AllocError> {
-    let text = match fault {
-        FragmentFault::BadHeader if own.starts_with(b"topo ".as_slice()) => {
-            "this is a topology, which stands before the fragments"
-        }
-        FragmentFault::BadHeader => {
-            "expected: fragment LINK NUMBER FIRST LAST, the first cycle not above the last"
-        }
-        FragmentFault::BadField(_) => return beat_sentence(alloc, own),
-        FragmentFault::NotRising(_) => {
-            "its cycle and channel do not come behind those of the line before"
-        }
-        FragmentFault::OutOfRange(_) => "its cycle is outside the range of the first line",
-        FragmentFault::Truncated(_) => "the text ends here, before the newline of its line end",
-        FragmentFault::TooManyBeats => "a fragment has at most 65536 beats",
-        _ => "",
-    };
-    String::from_str(alloc, text)
+/// Why a line is not one of its form, or this where it is.
+fn form_cause<'a>(form: Form, own: &'a [u8], otherwise: Cause<'a>) -> Cause<'a> {
+    match slip_in(form, own) {
+        Some(slip) => Cause::Slip(slip),
+        None => otherwise,
+    }
 }
 
-/// A fault of a fragment's text in a sentence, behind the path and the line that is at fault.
-pub(crate) fn fragment_sentence(
-    alloc: Global,
-    path: &str,
-    text: &[u8],
-    fault: FragmentFault,
-) -> Result<String, AllocError> {
-    let number = u64::from(fault.number().unwrap_or(1));
+/// Why a line is no header.
+fn header_cause(own: &[u8]) -> Cause<'_> {
+    if field_at(own, 0) == b"fragment".as_slice() {
+        form_cause(
+            HEADER,
+            own,
+            plain("a FIRST that is above LAST", "a FIRST of at most LAST"),
+        )
+    } else {
+        plain(
+            "a first line that is no header",
+            "fragment LINK NUMBER FIRST LAST",
+        )
+    }
+}
+
+/// Why a line is no beat.
+fn beat_cause(own: &[u8]) -> Cause<'_> {
+    let no_beat = plain(
+        "a line that is no beat, and not 'end'",
+        "CYCLE, a channel from A to E, and the fields of that channel",
+    );
+    match form_of_beat(own) {
+        Some(form) => form_cause(form, own, no_beat),
+        None => no_beat,
+    }
+}
+
+/// The number of the line of a fragment that is at fault, from 1.
+pub(crate) fn line_of(fault: FragmentFault) -> u64 {
+    u64::from(fault.number().unwrap_or(1))
+}
+
+/// Why a line of a fragment is refused that is spelled wrong.
+fn spelling_cause(text: &[u8], number: u64, home: Home) -> Cause<'_> {
     let own = line_at(text, number);
-    let cause = match common_sentence(text, own) {
-        Some(cause) => String::from_str(alloc, cause)?,
-        None => fragment_cause(alloc, fault, own)?,
-    };
-    let own = shown(own);
-    format!(in alloc; "  {path} line {number}: {own}\n  {cause}\n")
-}
-
-/// What is wrong with a line that is none of a topology.
-fn line_sentence(number: u64, own: &[u8]) -> &'static str {
-    if number == 1 && own.starts_with(b"fragment ".as_slice()) {
-        return "this is a fragment, which stands behind the topology";
+    if is_behind_end(text, number) {
+        return surplus_cause(home);
+    }
+    if let Some(advice) = line_advice(own) {
+        return Cause::Plain(advice);
     }
     if number == 1 {
-        return "expected: topo 1 or topo 2";
+        header_cause(own)
+    } else {
+        beat_cause(own)
     }
-    if own.starts_with(b"manager ".as_slice()) {
-        return "expected: manager NAME BLOCK";
-    }
-    if own.starts_with(b"link ".as_slice()) {
-        return "expected: link NAME MANAGER LEVEL WIDTH MAXSIZE SOURCES, LEVEL one of ul, uh and c";
-    }
-    "expected: a line manager, link or end, and nothing behind end"
 }
 
-/// What is wrong with a line of a topology.
-fn topology_cause(fault: TopoFault, own: &[u8]) -> &'static str {
+/// Why a fragment's text is refused.
+pub(crate) fn fragment_cause(text: &[u8], fault: FragmentFault, home: Home) -> Cause<'_> {
+    let number = line_of(fault);
+    if number == 1
+        && let Some(advice) = kind_advice(kind_of(text), Role::Fragment)
+    {
+        return Cause::Plain(advice);
+    }
     match fault {
-        TopoFault::BadLine(number) => line_sentence(number, own),
-        TopoFault::NameTwice(_) => "its name is that of another link or manager",
-        TopoFault::BadWidth(_) => "WIDTH is a power of two from 1 to 64",
-        TopoFault::BadBlock(_) => "BLOCK is a power of two from 8 to 4096",
-        TopoFault::NoManager(_) => "no earlier line declares its manager",
-        TopoFault::TooManyLinks(_) => "a topology has at most 256 links",
-        TopoFault::TooManyManagers(_) => "a topology has at most 64 managers",
-        TopoFault::BadSize(_) => {
-            "MAXSIZE is an exponent from 0 to 15: one beat at most on ul, a block at least on c"
+        FragmentFault::BadHeader | FragmentFault::BadField(_) => {
+            spelling_cause(text, number, home)
         }
-        TopoFault::StrictLevel(_) => "strict is a word of links of level c alone",
-        TopoFault::Memory => "",
+        FragmentFault::Truncated(_) => cut_fragment_cause(line_at(text, number), home),
+        FragmentFault::NotRising(_) => plain(
+            "a cycle and channel that do not come after those of the line before",
+            "cycles that rise, and within a cycle channels that rise from A to E",
+        ),
+        FragmentFault::OutOfRange(_) => Cause::Range(first_line(text)),
+        FragmentFault::TooManyBeats => plain(
+            "more than 65536 beats",
+            "several fragments, whose ranges follow one another",
+        ),
+        FragmentFault::TooLong => length_cause(Role::Fragment),
+        _ => plain("a text that can't be read", "a text that can be read"),
     }
 }
 
-/// A fault of a topology's text in a sentence, behind the path and the line that is at fault.
-pub(crate) fn topology_sentence(
-    alloc: Global,
-    path: &str,
-    text: &[u8],
-    fault: TopoFault,
-) -> Result<String, AllocError> {
-    let number = fault.number().unwrap_or(1);
-    let own = line_at(text, number);
-    let cause = common_sentence(text, own).unwrap_or(topology_cause(fault, own));
-    let own = shown(own);
-    format!(in alloc; "  {path} line {number}: {own}\n  {cause}\n")
+/// Why a file is too long.
+pub(crate) fn length_cause<'a>(role: Role) -> Cause<'a> {
+    match role {
+        Role::Topology => plain(
+            "more than 1048576 bytes",
+            "a topology of at most 1048576 bytes, as the first path",
+        ),
+        Role::Fragment => plain(
+            "more than 8388608 bytes",
+            "several fragments, whose ranges follow one another",
+        ),
+        Role::Script => plain(
+            "more than 67108864 bytes",
+            "a shorter script, or fragments in files of their own for tlcheck once",
+        ),
+    }
+}
+
+/// Whether the line of a link has the word strict in its place.
+fn is_strict(own: &[u8]) -> bool {
+    field_at(own, 7) == b"strict".as_slice()
+}
+
+/// The form of a link's line.
+fn link_form(own: &[u8]) -> Form {
+    if is_strict(own) {
+        STRICT_LINE
+    } else {
+        LINK_LINE
+    }
+}
+
+/// Why a line is none of a link's.
+fn link_cause<'a>(text: &[u8], own: &'a [u8]) -> Cause<'a> {
+    if is_strict(own) && first_line(text) == b"topo 1".as_slice() {
+        return plain(
+            "strict, in a topology of version 1",
+            "topo 2 as the first line",
+        );
+    }
+    form_cause(
+        link_form(own),
+        own,
+        plain("a line that is no link's", LINK_LINE.text),
+    )
+}
+
+/// Whether a line begins as that of a manager.
+fn is_manager(own: &[u8]) -> bool {
+    field_at(own, 0) == b"manager".as_slice()
+}
+
+/// Whether a line begins as that of a link.
+fn is_link(own: &[u8]) -> bool {
+    field_at(own, 0) == b"link".as_slice()
+}
+
+/// Why a line of a topology that is no link's is no manager's.
+fn manager_cause(own: &[u8]) -> Cause<'_> {
+    let no_line = plain(
+        "a line that is no manager's, no link's, and not 'end'",
+        "manager NAME BLOCK, link NAME MANAGER LEVEL WIDTH MAXSIZE SOURCES, or end",
+    );
+    if is_manager(own) {
+        form_cause(MANAGER_LINE, own, no_line)
+    } else {
+        no_line
+    }
+}
+
+/// Why a line is none of a topology.
+fn declaration_cause<'a>(text: &[u8], number: u64, own: &'a [u8]) -> Cause<'a> {
+    if is_behind_end(text, number) {
+        return surplus_cause(Home::File);
+    }
+    if let Some(advice) = line_advice(own) {
+        return Cause::Plain(advice);
+    }
+    if number == 1 {
+        return plain("a first line that is no topology's", "topo 1 or topo 2");
+    }
+    if is_link(own) {
+        return link_cause(text, own);
+    }
+    manager_cause(own)
+}
+
+/// Why a line of a topology is refused that is spelled wrong, or that the text ends in.
+fn bad_line_cause(text: &[u8], number: u64) -> Cause<'_> {
+    if number == 1
+        && let Some(advice) = kind_advice(kind_of(text), Role::Topology)
+    {
+        return Cause::Plain(advice);
+    }
+    let rest = lines_from(text, number);
+    match line(rest) {
+        Some((own, _)) => declaration_cause(text, number, own),
+        None if is_behind_end(text, number) => surplus_cause(Home::File),
+        None => cut_cause(rest),
+    }
+}
+
+/// Why a topology's text is refused.
+pub(crate) fn topology_cause(text: &[u8], fault: TopoFault) -> Cause<'_> {
+    let own = line_at(text, fault.number().unwrap_or(1));
+    match fault {
+        TopoFault::BadLine(number) => bad_line_cause(text, number),
+        TopoFault::NameTwice(_) => plain(
+            "a NAME that an earlier link or manager has",
+            "a NAME of its own for each link and manager",
+        ),
+        TopoFault::BadWidth(_) => form_cause(
+            link_form(own),
+            own,
+            plain("a WIDTH that does not fit", "a power of two from 1 to 64"),
+        ),
+        TopoFault::BadBlock(_) => form_cause(
+            MANAGER_LINE,
+            own,
+            plain("a BLOCK that does not fit", "a power of two from 8 to 4096"),
+        ),
+        TopoFault::BadSize(_) => form_cause(
+            link_form(own),
+            own,
+            plain(
+                "a MAXSIZE that does not fit this link",
+                "on ul 2^MAXSIZE of at most WIDTH, on c of at least BLOCK",
+            ),
+        ),
+        TopoFault::StrictLevel(_) => plain(
+            "strict on a link of level ul or uh",
+            "strict on links of level c alone",
+        ),
+        TopoFault::NoManager(_) => Cause::Manager(field_at(own, 2)),
+        TopoFault::TooManyLinks(_) => plain("the 257th link", "at most 256 links"),
+        TopoFault::TooManyManagers(_) => plain("the 65th manager", "at most 64 managers"),
+        TopoFault::Memory => plain("a text that finds no memory", "more memory"),
+    }
+}
+
+/// Why a line is no command.
+fn command_cause(own: &[u8], is_behind_fragment: bool) -> Cause<'_> {
+    let form = form_of_command(own);
+    if is_behind_fragment && form.is_none() {
+        return plain(
+            "no command, right behind a fragment",
+            "a command; check BYTES of the one before (wc -c tells it)",
+        );
+    }
+    if let Some(advice) = line_advice(own) {
+        return Cause::Plain(advice);
+    }
+    match form {
+        Some(form) => form_cause(form, own, order_cause(own)),
+        None => plain(
+            "a first word that is no command",
+            "add, replace, withdraw, clear, region, unregion, attach, retune, detach or publish",
+        ),
+    }
+}
+
+/// Why a line is no command whose fields are spelled as they should be.
+fn order_cause<'a>(own: &[u8]) -> Cause<'a> {
+    match field_at(own, 0) {
+        b"attach" => plain(
+            "a monitor that is neither budget nor after",
+            "budget or after, behind NUMBER",
+        ),
+        _ => plain("a FIRST that is above LAST", "a FIRST of at most LAST"),
+    }
+}
+
+/// Why a script ends inside a command.
+fn cut_command_cause(rest: &[u8]) -> Cause<'_> {
+    match line(rest) {
+        Some((own, behind)) => Cause::Short {
+            announced: field_at(own, 1),
+            behind: behind.len(),
+        },
+        None => plain(
+            "no newline behind the last line",
+            "a newline behind each command",
+        ),
+    }
+}
+
+/// What stands before the place where a script stops.
+#[derive(Clone, Copy, Debug, PartialEq, Eq)]
+pub(crate) enum Before {
+    Nothing,
+    /// A command without a fragment.
+    Command,
+    /// A command with the bytes of its fragment.
+    Fragment,
+}
+
+/// Why a script stops before the rest of it.
+pub(crate) fn stop_cause(rest: &[u8], before: Before, fault: ScriptFault) -> Cause<'_> {
+    if before == Before::Nothing
+        && let Some(advice) = kind_advice(kind_of(rest), Role::Script)
+    {
+        return Cause::Plain(advice);
+    }
+    match fault {
+        ScriptFault::BadCommand => command_cause(first_line(rest), before == Before::Fragment),
+        ScriptFault::Truncated => cut_command_cause(rest),
+    }
 }

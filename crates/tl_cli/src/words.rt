@@ -12,6 +12,8 @@ use std::alloc::Global;
 pub(crate) struct How {
     /// Whether rows are shown.
     pub(crate) show: bool,
+    /// Whether faults are told in sentences.
+    pub(crate) explain_faults: bool,
     /// What is a fault besides.
     pub(crate) deny: Deny,
 }
@@ -45,6 +47,18 @@ pub(crate) enum Command<'a> {
     Explain {
         entry: Option<&'static str>,
     },
+}
+
+impl Command<'_> {
+    /// How it is to be done; None where its words say nothing of that.
+    pub(crate) fn how(&self) -> Option<How> {
+        match self {
+            Command::Once { how, .. } | Command::Run { how, .. } | Command::Audit { how, .. } => {
+                Some(*how)
+            }
+            Command::Input | Command::Explain { .. } => None,
+        }
+    }
 }
 
 /// The greatest number of an edit that words may name.
@@ -83,6 +97,15 @@ fn show<'a>(alloc: Global) -> Arg<'a> {
         .help("Puts behind each row its beat in words and the earlier beat that makes it so")
 }
 
+fn explain_faults<'a>(alloc: Global) -> Arg<'a> {
+    Arg::new(alloc, "explain-faults")
+        .long("explain-faults")
+        .action(ArgAction::SetTrue)
+        .help(
+            "Says on standard error what is wrong in a file and what would be right, as at a terminal",
+        )
+}
+
 /// What can be denied.
 const DENIED: &[&str] = &["refused", "empty"];
 
@@ -112,6 +135,7 @@ fn once<'a>(alloc: Global) -> Result<clap::Command<'a>, Error> {
         .arg(topology(alloc))?
         .arg(fragments)?
         .arg(show(alloc))?
+        .arg(explain_faults(alloc))?
         .arg(deny(alloc))?;
     Ok(once)
 }
@@ -130,6 +154,7 @@ fn run<'a>(alloc: Global) -> Result<clap::Command<'a>, Error> {
         .arg(script(alloc))?
         .arg(workers)?
         .arg(show(alloc))?
+        .arg(explain_faults(alloc))?
         .arg(deny(alloc))?;
     Ok(run)
 }
@@ -148,6 +173,7 @@ fn audit<'a>(alloc: Global) -> Result<clap::Command<'a>, Error> {
         .arg(script(alloc))?
         .arg(edit)?
         .arg(show(alloc))?
+        .arg(explain_faults(alloc))?
         .arg(deny(alloc))?;
     Ok(audit)
 }
@@ -212,6 +238,7 @@ fn is_denied(found: &ArgMatches<'_>, what: &str) -> bool {
 fn how_asked(found: &ArgMatches<'_>) -> How {
     How {
         show: found.get_flag("show"),
+        explain_faults: found.get_flag("explain-faults"),
         deny: Deny {
             refused: is_denied(found, "refused"),
             empty: is_denied(found, "empty"),

@@ -1,0 +1,239 @@
+//! What a script's run refused, and where it stopped, in sentences: the script is gone through once more.
+
+ghost use Rattle.tl_script.specs.Text.{IsCommand};
+
+use crate::advice::edit_cause;
+use crate::places::{Line, Look, Place, Sentence};
+use crate::sentences::{Before, Home, first_line, fragment_cause, line_at, line_of, stop_cause};
+use std::alloc::{AllocError, Global};
+use tl_beats::FragmentFault;
+use tl_inputs::{Edit, EditFault, Log};
+use tl_run::{Asked, asked_by};
+use tl_script::{Command, ScriptFault, read_command};
+use tl_topology::Topo;
+
+/// Why a command of a script changed nothing.
+#[derive(Clone, Copy)]
+enum Refusal {
+    /// Its fragment's text is none.
+    Text(FragmentFault),
+    /// Its edit is refused.
+    Edit(EditFault),
+}
+
+/// A script's file, and how it is told of.
+#[derive(Clone, Copy)]
+pub(crate) struct Script<'a> {
+    /// The file, as the words name it.
+    pub(crate) path: &'a str,
+    /// The number of the line that the script begins with.
+    pub(crate) first: u64,
+    /// How many of its refused commands are told.
+    pub(crate) most: u64,
+    /// How the first line of a sentence looks.
+    pub(crate) look: Look,
+}
+
+/// A command in its script.
+#[derive(Clone, Copy)]
+struct Mark<'a> {
+    script: Script<'a>,
+    /// The number of the command, from 1.
+    command: u64,
+    /// Its line.
+    line: Line<'a>,
+}
+
+/// How many lines end in these bytes.
+fn line_count(bytes: &[u8]) -> u64 {
+    bytes.iter().filter(|byte| **byte == b'\n').count() as u64
+}
+
+/// Does the edit of a command, if it has one, and answers why it is refused.
+fn refusal_of(
+    alloc: Global,
+    log: &mut Log,
+    command: &Command<'_>,
+) -> Result<Option<Refusal>, AllocError>
+    requires { IsCommand command.now }
+{
+    let edit = match asked_by(alloc, command)? {
+        Asked::Change(change) => Edit::Change(change),
+        Asked::Attach(number, watch) => Edit::Attach(number, watch),
+        Asked::NoFragment(fault) => return Ok(Some(Refusal::Text(fault))),
+        Asked::Report => return Ok(None),
+    };
+    match log.push(edit) {
+        Ok(_) => Ok(None),
+        Err(EditFault::Memory) => Err(AllocError),
+        Err(fault) => Ok(Some(Refusal::Edit(fault))),
+    }
+}
+
+/// The sentence of a fragment's text behind a command.
+fn text_sentence(
+    alloc: Global,
+    mark: Mark<'_>,
+    text: &[u8],
+    fault: FragmentFault,
+) -> Result<String, AllocError> {
+    let number = line_of(fault);
+    let own = Line {
+        number,
+        text: line_at(text, number),
+    };
+    let sentence = Sentence {
+        path: mark.script.path,
+        place: Place::Fragment {
+            command: mark.command,
+            line: mark.line,
+            own,
+        },
+        cause: fragment_cause(text, fault, Home::Script),
+        code: fault.code(),
+        look: mark.script.look,
+    };
+    sentence.text(alloc)
+}
+
+/// The sentence of an edit that is refused.
+fn edit_sentence(
+    alloc: Global,
+    mark: Mark<'_>,
+    text: &[u8],
+    fault: EditFault,
+    topo: &Topo,
+) -> Result<String, AllocError> {
+    let command = mark.command;
+    let line = mark.line;
+    let place = if text.is_empty() {
+        Place::Command { command, line }
+    } else {
+        let own = Line {
+            number: 1,
+            text: first_line(text),
+        };
+        Place::Fragment { command, line, own }
+    };
+    let sentence = Sentence {
+        path: mark.script.path,
+        place,
+        cause: edit_cause(fault, topo),
+        code: fault.code(),
+        look: mark.script.look,
+    };
+    sentence.text(alloc)
+}
+
+/// Puts the sentence of a refused command behind a text; these bytes follow its line.
+fn push_refusal(
+    alloc: Global,
+    mark: Mark<'_>,
+    bytes: &[u8],
+    refusal: Refusal,
+    topo: &Topo,
+    text: &mut String,
+) -> Result<(), AllocError> {
+    let sentence = match refusal {
+        Refusal::Text(fault) => text_sentence(alloc, mark, bytes, fault)?,
+        Refusal::Edit(fault) => edit_sentence(alloc, mark, bytes, fault, topo)?,
+    };
+    text.push_str(sentence.as_str())
+}
+
+/// The sentence of a stop before the rest of a script.
+fn stop_sentence(
+    alloc: Global,
+    mark: Mark<'_>,
+    rest: &[u8],
+    before: Before,
+    fault: ScriptFault,
+) -> Result<String, AllocError> {
+    let sentence = Sentence {
+        path: mark.script.path,
+        place: Place::Command {
+            command: mark.command,
+            line: mark.line,
+        },
+        cause: stop_cause(rest, before, fault),
+        code: fault.code(),
+        look: mark.script.look,
+    };
+    sentence.text(alloc)
+}
+
+/// What a command leaves before the next one.
+fn before_next(command: &Command<'_>) -> Before {
+    if command.bytes().is_empty() {
+        Before::Command
+    } else {
+        Before::Fragment
+    }
+}
+
+/// Puts the sentences of a script behind a text, and answers how many of its commands are refused.
+fn push_sentences(
+    alloc: Global,
+    log: &mut Log,
+    bytes: &[u8],
+    script: Script<'_>,
+    text: &mut String,
+) -> Result<u64, AllocError> {
+    let mut rest = bytes;
+    let mut number = script.first;
+    let mut before = Before::Nothing;
+    let mut refused = 0_u64;
+    for done in 0..u64::MAX {
+        let mark = Mark {
+            script,
+            command: done + 1,
+            line: Line {
+                number,
+                text: first_line(rest),
+            },
+        };
+        let read = match read_command(rest) {
+            Ok(read) => read,
+            Err(fault) => {
+                let sentence = stop_sentence(alloc, mark, rest, before, fault)?;
+                text.push_str(sentence.as_str())?;
+                return Ok(refused);
+            }
+        };
+        let Some((command, taken)) = read else {
+            return Ok(refused);
+        };
+        if let Some(refusal) = refusal_of(alloc, log, &command)? {
+            refused = refused.saturating_add(1);
+            if refused <= script.most {
+                let topo = log.inputs().topo();
+                push_refusal(alloc, mark, command.bytes(), refusal, topo, text)?;
+            }
+        }
+        before = before_next(&command);
+        number = number.saturating_add(line_count(&rest[..taken]));
+        rest = &rest[taken..];
+    }
+    Ok(refused)
+}
+
+/// What the run of a script refused, the first of it, and where it stopped, in sentences; empty where it did neither. AllocError
+/// where memory is refused.
+pub(crate) fn script_sentences(
+    alloc: Global,
+    topo: &Topo,
+    bytes: &[u8],
+    script: Script<'_>,
+) -> Result<String, AllocError> {
+    let mut text = String::new(alloc);
+    let mut log = Log::new(alloc, topo.copy(alloc)?)?;
+    let refused = push_sentences(alloc, &mut log, bytes, script, &mut text)?;
+    let most = script.most;
+    if 0 < most && most < refused {
+        let last = format!(in alloc;
+            "  {refused} commands were refused; these are the first {most}\n"
+        )?;
+        text.push_str(last.as_str())?;
+    }
+    Ok(text)
+}

@@ -1,0 +1,43 @@
+//! What standard error is.
+
+use crate::places::Look;
+use crate::words::Command;
+
+/// What standard error is.
+#[derive(Clone, Copy, Debug, PartialEq, Eq)]
+pub enum Screen {
+    /// No terminal: a file or a pipe.
+    None,
+    /// A terminal that is to have no colours.
+    Plain,
+    /// A terminal that takes colours.
+    Colored,
+}
+
+impl Screen {
+    /// How the first line of a sentence looks there.
+    pub(crate) fn look(self) -> Look {
+        match self {
+            Screen::None | Screen::Plain => Look::Plain,
+            Screen::Colored => Look::Bold,
+        }
+    }
+
+    /// Whether a person reads it.
+    pub(crate) fn is_terminal(self) -> bool {
+        match self {
+            Screen::None => false,
+            Screen::Plain | Screen::Colored => true,
+        }
+    }
+
+    /// Whether what a script's run refused is told in sentences.
+    pub(crate) fn has_sentences(self, command: &Command<'_>) -> bool {
+        self.is_terminal() || command.how().is_some_and(|how| how.explain_faults)
+    }
+
+    /// Whether the sentence of a fault is told behind its line.
+    pub(crate) fn has_faults(self, command: &Command<'_>) -> bool {
+        self.has_sentences(command) || command.how().is_some_and(|how| how.show)
+    }
+}

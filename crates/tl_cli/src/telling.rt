@@ -1,0 +1,355 @@
+//! Which file a fault is of, and its sentence.
+
+use crate::advice::edit_cause;
+use crate::causes::{Advice, Cause};
+use crate::fault::Fault;
+use crate::files::{Seen, line_after, seen_at, whole_topology};
+use crate::kinds::{Role, kind_of};
+use crate::places::{Line, Look, Place, Sentence};
+use crate::refusals::{Script, script_sentences};
+use crate::sentences::{Home, fragment_cause, length_cause, line_at, line_of, topology_cause};
+use std::alloc::Global;
+use std::rt::Files;
+use std::sync::Arc;
+use tl_beats::{Fragment, FragmentFault, parse_whole_fragment};
+use tl_inputs::{Change, Edit, EditFault, Log};
+use tl_run::log_of;
+use tl_topology::{Topo, TopoFault, read_topo};
+
+/// The most refused commands of a script that are told.
+pub(crate) const MOST_TOLD: u64 = 20;
+
+/// A file that the words name, with the fault that is told.
+#[derive(Clone, Copy)]
+pub(crate) struct Suspect<'a> {
+    /// The file, as the words name it.
+    pub(crate) path: &'a str,
+    /// The fault.
+    pub(crate) fault: Fault,
+    /// How the first line of its sentence looks.
+    pub(crate) look: Look,
+}
+
+impl<'a> Suspect<'a> {
+    /// The file at this path.
+    pub(crate) fn new(path: &'a str, fault: Fault, look: Look) -> Suspect<'a> {
+        Suspect { path, fault, look }
+    }
+
+    /// The sentence of this place and cause.
+    fn sentence(self, alloc: Global, place: Place<'_>, cause: Cause<'_>) -> Result<String, Fault> {
+        let sentence = Sentence {
+            path: self.path,
+            place,
+            cause,
+            code: self.fault.code,
+            look: self.look,
+        };
+        Ok(sentence.text(alloc)?)
+    }
+
+    /// The sentence of a line of the file.
+    fn line_sentence(
+        self,
+        alloc: Global,
+        text: &[u8],
+        number: u64,
+        cause: Cause<'_>,
+    ) -> Result<String, Fault> {
+        let own = Line {
+            number,
+            text: line_at(text, number),
+        };
+        let place = if number == 1 && !kind_of(text).has_lines() {
+            Place::File
+        } else {
+            Place::Line(own)
+        };
+        self.sentence(alloc, place, cause)
+    }
+}
+
+/// What is said of a path where the file of this role is not.
+fn path_advice(found: &'static str, role: Role) -> Advice {
+    let wanted = match role {
+        Role::Topology => "the path of a topology",
+        Role::Fragment => "the path of a fragment",
+        Role::Script => "the path of a script",
+    };
+    Advice::new(found, wanted)
+}
+
+/// Why what was seen at a path is this fault, if it is.
+fn seen_cause<'a>(seen: &Seen, role: Role, fault: Fault) -> Option<Cause<'a>> {
+    let is_file = fault == Fault::FILE;
+    match seen {
+        Seen::TooLong if !is_file => Some(length_cause(role)),
+        Seen::Nothing if is_file => Some(Cause::Plain(path_advice("no file at this path", role))),
+        Seen::Folder if is_file => Some(Cause::Plain(path_advice("a folder", role))),
+        Seen::Closed if is_file => Some(Cause::Plain(Advice::new(
+            "a file that can't be read",
+            "permission to read it: ls -l shows who has it",
+        ))),
+        _ => None,
+    }
+}
+
+/// The sentence of a file that has no text of its role, if the fault is its.
+fn seen_sentence(
+    alloc: Global,
+    suspect: Suspect<'_>,
+    seen: &Seen,
+    role: Role,
+) -> Result<Option<String>, Fault> {
+    match seen_cause(seen, role, suspect.fault) {
+        Some(cause) => Ok(Some(suspect.sentence(alloc, Place::File, cause)?)),
+        None => Ok(None),
+    }
+}
+
+/// What came of reading a topology again.
+#[derive(Drop)]
+enum Again {
+    /// The fault is its, in this sentence.
+    Told(String),
+    /// It is sound.
+    Sound(Topo),
+    /// It has another fault now, or can't be read again.
+    Unknown,
+}
+
+/// The sentence of a topology's fault.
+fn topology_fault(
+    alloc: Global,
+    suspect: Suspect<'_>,
+    text: &[u8],
+    own: TopoFault,
+) -> Result<String, Fault> {
+    let number = own.number().unwrap_or(1);
+    suspect.line_sentence(alloc, text, number, topology_cause(text, own))
+}
+
+/// What came of reading the text of a topology again.
+fn topology_text(alloc: Global, suspect: Suspect<'_>, text: &[u8]) -> Result<Again, Fault> {
+    let own = match whole_topology(alloc, text) {
+        Ok(topo) => return Ok(Again::Sound(topo)),
+        Err(own) => own,
+    };
+    if own == TopoFault::Memory {
+        return Err(Fault::MEMORY);
+    }
+    if suspect.fault != own.into() {
+        return Ok(Again::Unknown);
+    }
+    let sentence = topology_fault(alloc, suspect, text, own)?;
+    Ok(Again::Told(sentence))
+}
+
+/// What came of reading a topology's file again.
+fn topology_again<R: Files + AllocGlobal>(rt: &R, suspect: Suspect<'_>) -> Result<Again, Fault> {
+    match seen_at(rt, suspect.path, Role::Topology)? {
+        Seen::Text(text) => topology_text(rt.alloc(), suspect, &text),
+        seen => match seen_sentence(rt.alloc(), suspect, &seen, Role::Topology)? {
+            Some(sentence) => Ok(Again::Told(sentence)),
+            None => Ok(Again::Unknown),
+        },
+    }
+}
+
+/// Why a fragment can't be added behind those of these files.
+fn added_cause<'a>(path: &str, before: &[&str], fault: EditFault, topo: &'a Topo) -> Cause<'a> {
+    if fault == EditFault::FragmentExists && before.iter().any(|other| *other == path) {
+        Cause::Plain(Advice::new("the same file a second time", "each file once"))
+    } else {
+        edit_cause(fault, topo)
+    }
+}
+
+/// Adds a fragment behind those of the files before it; the sentence of its refusal, if that is the fault.
+fn added_sentence(
+    alloc: Global,
+    suspect: Suspect<'_>,
+    before: &[&str],
+    text: &[u8],
+    fragment: Fragment,
+    log: &mut Log,
+) -> Result<Option<String>, Fault> {
+    let shared = Arc::new(alloc, fragment)?;
+    let own = match log.push(Edit::Change(Change::Add(shared))) {
+        Ok(_) => return Ok(None),
+        Err(own) => own,
+    };
+    if own == EditFault::Memory {
+        return Err(Fault::MEMORY);
+    }
+    if suspect.fault.code != own.code() {
+        return Ok(None);
+    }
+    let cause = added_cause(suspect.path, before, own, log.inputs().topo());
+    let sentence = suspect.line_sentence(alloc, text, 1, cause)?;
+    Ok(Some(sentence))
+}
+
+/// The sentence of a fragment's text that is read again and added, if the fault is its.
+fn fragment_text(
+    alloc: Global,
+    suspect: Suspect<'_>,
+    before: &[&str],
+    text: &[u8],
+    log: &mut Log,
+) -> Result<Option<String>, Fault> {
+    let own = match parse_whole_fragment(alloc, text) {
+        Ok(fragment) => return added_sentence(alloc, suspect, before, text, fragment, log),
+        Err(own) => own,
+    };
+    if own == FragmentFault::Memory {
+        return Err(Fault::MEMORY);
+    }
+    if suspect.fault != own.into() {
+        return Ok(None);
+    }
+    let cause = fragment_cause(text, own, Home::File);
+    let sentence = suspect.line_sentence(alloc, text, line_of(own), cause)?;
+    Ok(Some(sentence))
+}
+
+/// The sentence of a fragment's file that is read again and added, if the fault is its.
+fn fragment_again<R: Files + AllocGlobal>(
+    rt: &R,
+    suspect: Suspect<'_>,
+    before: &[&str],
+    log: &mut Log,
+) -> Result<Option<String>, Fault> {
+    match seen_at(rt, suspect.path, Role::Fragment)? {
+        Seen::Text(text) => fragment_text(rt.alloc(), suspect, before, &text, log),
+        seen => seen_sentence(rt.alloc(), suspect, &seen, Role::Fragment),
+    }
+}
+
+/// The sentence of a fault of `once`, whose files are read again: that of the first that it is of. None where it is of none.
+pub(crate) fn once_sentence<R: Files + AllocGlobal>(
+    rt: &R,
+    topology: Suspect<'_>,
+    fragments: &[&str],
+) -> Result<Option<String>, Fault> {
+    let topo = match topology_again(rt, topology)? {
+        Again::Told(sentence) => return Ok(Some(sentence)),
+        Again::Sound(topo) => topo,
+        Again::Unknown => return Ok(None),
+    };
+    let mut log = Log::new(rt.alloc(), topo)?;
+    for (place, path) in fragments.iter().enumerate() {
+        let suspect = Suspect::new(*path, topology.fault, topology.look);
+        let before = fragments.get(..place).unwrap_or(fragments);
+        if let Some(sentence) = fragment_again(rt, suspect, before, &mut log)? {
+            return Ok(Some(sentence));
+        }
+    }
+    Ok(None)
+}
+
+/// The code of a script that stops at a bad line.
+const BAD_COMMAND: u8 = 41;
+
+/// The code of a script that ends inside a command.
+const TRUNCATED: u8 = 42;
+
+/// The code of an edit that a script has not.
+const NO_SUCH_EDIT: u8 = 43;
+
+/// The sentence of an audit's fault that its script has.
+fn audited_sentence(
+    alloc: Global,
+    suspect: Suspect<'_>,
+    topo: &Topo,
+    bytes: &[u8],
+) -> Result<Option<String>, Fault> {
+    match (suspect.fault.code, suspect.fault.number) {
+        (BAD_COMMAND | TRUNCATED, _) => {
+            let script = Script {
+                path: suspect.path,
+                first: 1,
+                most: 0,
+                look: suspect.look,
+            };
+            Ok(Some(script_sentences(alloc, topo, bytes, script)?))
+        }
+        (NO_SUCH_EDIT, Some(asked)) => {
+            let accepted = log_of(alloc, topo, bytes)?.len();
+            let cause = Cause::Edits { asked, accepted };
+            Ok(Some(suspect.sentence(alloc, Place::File, cause)?))
+        }
+        _ => Ok(None),
+    }
+}
+
+/// The sentence of a fault of `run` or of `audit`, whose files are read again. None where it is of none of them.
+pub(crate) fn script_sentence<R: Files + AllocGlobal>(
+    rt: &R,
+    topology: Suspect<'_>,
+    script: &str,
+) -> Result<Option<String>, Fault> {
+    let topo = match topology_again(rt, topology)? {
+        Again::Told(sentence) => return Ok(Some(sentence)),
+        Again::Sound(topo) => topo,
+        Again::Unknown => return Ok(None),
+    };
+    let suspect = Suspect::new(script, topology.fault, topology.look);
+    match seen_at(rt, script, Role::Script)? {
+        Seen::Text(bytes) => audited_sentence(rt.alloc(), suspect, &topo, &bytes),
+        seen => seen_sentence(rt.alloc(), suspect, &seen, Role::Script),
+    }
+}
+
+/// What the run of a file's script refused and where it stopped, in sentences; the files are read again. None where they can't be.
+pub(crate) fn run_sentences<R: Files + AllocGlobal>(
+    rt: &R,
+    topology: &str,
+    script: &str,
+    look: Look,
+) -> Result<Option<String>, Fault> {
+    let Seen::Text(text) = seen_at(rt, topology, Role::Topology)? else {
+        return Ok(None);
+    };
+    let topo = whole_topology(rt.alloc(), &text)?;
+    let Seen::Text(bytes) = seen_at(rt, script, Role::Script)? else {
+        return Ok(None);
+    };
+    let script = Script {
+        path: script,
+        first: 1,
+        most: MOST_TOLD,
+        look,
+    };
+    Ok(Some(script_sentences(rt.alloc(), &topo, &bytes, script)?))
+}
+
+/// What standard input is called.
+const INPUT: &str = "standard input";
+
+/// The sentence of a fault of standard input, which has a topology in front. None where it is none of the topology's.
+pub(crate) fn input_sentence(
+    alloc: Global,
+    text: &[u8],
+    fault: Fault,
+    look: Look,
+) -> Result<Option<String>, Fault> {
+    let suspect = Suspect::new(INPUT, fault, look);
+    match read_topo(alloc, text) {
+        Ok(_) => Ok(None),
+        Err(TopoFault::Memory) => Err(Fault::MEMORY),
+        Err(own) => Ok(Some(topology_fault(alloc, suspect, text, own)?)),
+    }
+}
+
+/// What the run of the script on standard input refused and where it stopped, in sentences.
+pub(crate) fn input_sentences(alloc: Global, text: &[u8], look: Look) -> Result<String, Fault> {
+    let (topo, used) = read_topo(alloc, text)?;
+    let script = Script {
+        path: INPUT,
+        first: line_after(&text[..used]),
+        most: MOST_TOLD,
+        look,
+    };
+    Ok(script_sentences(alloc, &topo, &text[used..], script)?)
+}

@@ -4,7 +4,7 @@ ghost use Rattle.std.specs.Prelude.{◌≤◌, ◌^◌};
 
 use crate::fields::field_at;
 use crate::forms::form_of_command;
-use crate::sentences::first_line;
+use tl_show::first_line;
 
 /// What the words of the command line name.
 #[derive(Clone, Copy, Debug, PartialEq, Eq)]

@@ -20,7 +20,6 @@ mod refusals;
 mod run;
 mod screen;
 mod sentences;
-mod showing;
 mod telling;
 mod words;
 

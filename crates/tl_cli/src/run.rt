@@ -10,7 +10,6 @@ use crate::files::{fragments_of, script_of, topology_of};
 use crate::monitors::{attached_in, settlement_lines};
 use crate::places::More;
 use crate::screen::Screen;
-use crate::showing::{show_audit, show_once, show_script};
 use crate::telling::{
     Suspect, input_sentence, input_sentences, once_sentence, run_sentences, script_sentence,
 };
@@ -23,11 +22,12 @@ use std::sync::{Arc, Wait};
 use std::thread::Threads;
 use tl_beats::Watch;
 use tl_monitor::{After, Budget, Monitor};
-use tl_report::run_once;
-use tl_run::{Outcome, audit_script};
+use tl_report::{run_once, run_once_as};
+use tl_run::{Outcome, audit_script, audit_script_as};
+use tl_show::Shown;
 use tl_text::{ByteIn, ByteOut, read_text, write_all};
 use tl_topology::{Topo, read_topo};
-use tl_workers::run_with;
+use tl_workers::{Script, run_with, show_with};
 
 /// The most bytes of standard input.
 const MOST_INPUT: u64 = 67_108_864;
@@ -90,7 +90,7 @@ fn once_of_files<R: Files + AllocGlobal, O: ByteOut>(
     let topo = topology_of(rt, topology)?;
     let fragments = fragments_of(rt, fragments)?;
     let rows = if how.show {
-        show_once(rt.alloc(), &topo, &fragments, out)?
+        run_once_as(rt.alloc(), &topo, &fragments, &Shown, out)?
     } else {
         run_once(rt.alloc(), &topo, &fragments, out)?
     };
@@ -98,8 +98,8 @@ fn once_of_files<R: Files + AllocGlobal, O: ByteOut>(
     Ok(ending_of(report_of(rows), denial))
 }
 
-/// The run of a script with the monitors that it attaches, and behind a run that did not stop what each of them told. So many
-/// workers check windows beside it, but none where its rows are shown.
+/// The run of a script with the monitors that it attaches, and after a run that did not stop what each of them told. So many
+/// workers check windows beside it.
 fn run_of_script<R: Threads + Wait + Sync + AllocGlobal, O: ByteOut>(
     rt: &R,
     topo: &Topo,
@@ -129,7 +129,12 @@ fn run_of_script<R: Threads + Wait + Sync + AllocGlobal, O: ByteOut>(
         boxes.push(boxed)?;
     }
     let outcome = if show {
-        show_script(alloc, topo, script, boxes, out)?
+        let script = Script {
+            topo,
+            text: script,
+            boxes,
+        };
+        show_with(rt, alloc, script, out, workers)?
     } else {
         run_with(rt, alloc, topo, script, boxes, out, workers)?
     };
@@ -176,7 +181,7 @@ fn audit_of_files<R: Files + AllocGlobal, O: ByteOut>(
     let topo = topology_of(rt, topology)?;
     let script = script_of(rt, script)?;
     let rows = if how.show {
-        show_audit(rt.alloc(), &topo, &script, edit, out)?
+        audit_script_as(rt.alloc(), &topo, &script, edit, &Shown, out)?
     } else {
         audit_script(rt.alloc(), &topo, &script, edit, out)?
     };

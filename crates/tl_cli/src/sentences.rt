@@ -5,42 +5,11 @@ use crate::causes::{Advice, Cause};
 use crate::fields::{Form, field_at, slip_in};
 use crate::forms::{HEADER, LINK_LINE, MANAGER_LINE, STRICT_LINE, form_of_beat, form_of_command};
 use crate::kinds::{Role, kind_of};
-use std::str;
 use tl_beats::FragmentFault;
 use tl_script::ScriptFault;
+use tl_show::first_line;
 use tl_text::line;
 use tl_topology::TopoFault;
-
-/// The most bytes of a line that are shown.
-const MOST_SHOWN: usize = 100;
-
-const RETURN: u8 = b'\r';
-
-const DELETE: u8 = 0x7f;
-
-/// What stands for bytes that can't be shown.
-const NO_TEXT: &str = "bytes that are no text";
-
-/// Bytes as they can be shown, without a carriage return at the end; none with control characters.
-pub(crate) fn shown(bytes: &[u8]) -> &str {
-    let length = match bytes.last() {
-        Some(last) if *last == RETURN => bytes.len() - 1,
-        _ => bytes.len(),
-    };
-    let start = &bytes[..length.min(MOST_SHOWN)];
-    if start.iter().any(|byte| *byte < b' ' || *byte == DELETE) {
-        return NO_TEXT;
-    }
-    str::from_utf8(start).unwrap_or(NO_TEXT)
-}
-
-/// The first line of a text, or all of it where it has no newline.
-pub(crate) fn first_line(text: &[u8]) -> &[u8] {
-    match line(text) {
-        Some((found, _)) => found,
-        None => text,
-    }
-}
 
 /// A text from the line with this number on, from 1.
 fn lines_from(text: &[u8], number: u64) -> &[u8] {

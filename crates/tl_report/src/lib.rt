@@ -1,8 +1,10 @@
 //! The report of fragments and its text.
 #![tactic(auto)]
 
+mod form;
 mod once;
 mod report;
 
-pub use once::{OnceFault, all_added, run_once};
+pub use form::{Form, Plain};
+pub use once::{OnceFault, all_added, run_once, run_once_as};
 pub use report::{Report, audit_head, audit_text, head_text, report_text, row_text};

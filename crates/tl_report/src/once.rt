@@ -5,10 +5,12 @@ ghost use Rattle.std.specs.Arc.{arc_value};
 ghost use Rattle.std.specs.Result.{IsErrOf};
 ghost use Rattle.std.specs.Io.KnownBytes.{Appends};
 ghost use Rattle.tl_beats.specs.declared.Row.{Row as AnyRow};
+ghost use Rattle.tl_report.specs.Notes.{IsPut, IsPutFront};
 ghost use Rattle.tl_report.specs.Once.{adds, first_refusal, of_edit, text_once, AreRowsOf, IsRefusal};
 ghost use Rattle.tl_report.specs.declared.once.OnceFault.TheVariants.{Memory, WriteFault as Unwritten};
 
-use crate::report::{Report, report_text};
+use crate::form::{Form, Plain};
+use crate::report::Report;
 use std::alloc::{AllocError, Global};
 use std::sync::Arc;
 use thiserror::Error;
@@ -109,10 +111,33 @@ pub fn run_once<O: ByteOut>(
         × ((rows : List AnyRow) × AreRowsOf topo.now (map arc_value fragments.now) rows
         × ((n : ℕ) × Appends (O.contents out.old) (O.contents out.new) (take n (text_once topo.now (length fragments.now) rows)))) }
 {
+    run_once_as(alloc, topo, fragments, &Plain, out)
+}
+
+/// The same in a form: with notes, if the form has any.
+pub fn run_once_as<F: Form, O: ByteOut>(
+    alloc: Global,
+    topo: &Topo,
+    fragments: &[Arc<Fragment>],
+    form: &F,
+    out: &mut O,
+) -> Result<u64, OnceFault>
+    requires { O.failure_count out.old < 2 ^ 63 }
+    ensures written { IfOk result (λ count. (rows : List AnyRow) × AreRowsOf topo.now (map arc_value fragments.now) rows × (count ≡ length rows)
+        × IsPut F.noted (O.contents out.old) (O.contents out.new) (text_once topo.now (length fragments.now) rows)) }
+    ensures quiet { OnOk result (O.failure_count out.new ≡ O.failure_count out.old) }
+    ensures refused { (code : ℕ) (number : Option ℕ) → IsErrOf result (OnceFault.Refused code number)
+        → IsRefusal topo.now (map arc_value fragments.now) code number × (out.new ≡ out.old) }
+    ensures memory { IsErrOf result OnceFault.Memory → out.new ≡ out.old }
+    ensures failed { IsErrOf result OnceFault.WriteFault → (O.failure_count out.new ≡ O.failure_count out.old + 1)
+        × ((rows : List AnyRow) × AreRowsOf topo.now (map arc_value fragments.now) rows
+        × IsPutFront F.noted (O.contents out.old) (O.contents out.new) (text_once topo.now (length fragments.now) rows)) }
+{
     let log = all_added(alloc, topo, fragments)?;
-    let rows = scratch(alloc, log.inputs())?;
+    let inputs = log.inputs();
+    let rows = scratch(alloc, inputs)?;
     let report = Report::new(alloc, 1, fragments.len() as u64, rows)?;
-    let text = report_text(alloc, topo, &report)?;
+    let text = form.report(alloc, inputs, &report)?;
     write_all(out, text.as_bytes())?;
     Ok(report.rows().len() as u64)
 }

@@ -1,11 +1,18 @@
 -- Lines that are gathered and written.
-use Rattle.std.proofs.Common.{◌≡◌, ℕ, ◌+◌, List, [], ◌++◌, append_assoc, append-nil, length, length-append, take, Option, Result, Ok, Err, refl, sym, ap, ◌∙◌, subst, arith, OnErr, OnOk}
+use Rattle.std.proofs.Common.{Bool, true, false, ◌∷◌, Some, None, ◌≡◌, ℕ, ◌+◌, List, [], ◌++◌, append_assoc, append-nil, length, length-append, take, Option, Result, Ok, Err, refl, sym, ap, ◌∙◌, subst, arith, IfOk, OnErr, OnOk}
 use Rattle.std.specs.Io.KnownBytes.{Appends}
 use Rattle.std.proofs.KnownBytes.{Appends-nil, Appends-trans}
 use Rattle.std.proofs.lemmas.List.{take-append-le}
 use Rattle.std.proofs.Math.Seq.{take-append-add}
 use Rattle.tl_text.specs.Written.{Writes}
-use Rattle.tl_run.specs.Stops.{IsSaid, IsFront}
+use Rattle.std.specs.Option.{option_map_or}
+use Rattle.tl_text.specs.Numbers.{numeral}
+use Rattle.tl_report.specs.Notes.{Tells, IsNoted, is_note, is_unbroken}
+use Rattle.tl_report.proofs.NoteLaws.{Ends, ends_here, ends_more, digits_unbroken, plain_line, noted_nil, tells_more, tells_plain}
+use Rattle.tl_run.specs.Stops.{IsSaid, IsFront, AreSaid, IsFrontOf, stop_front, stop_text, last_text}
+use Rattle.tl_run.specs.declared.stop.Stop.{Stop}
+use Rattle.tl_run.specs.declared.stop.StopCause.{StopCause}
+use Rattle.tl_run.specs.declared.stop.StopCause.TheVariants as cause
 
 abbrev Known : Type 0
 Known = Option (List ℕ)
@@ -57,6 +64,10 @@ pub when_done : {E X Y : Type 0} (r : Result (Unit {0}) E) → (X → Y) → OnO
 when_done (Ok done) f x = f x
 when_done (Err e) f x = tt
 
+pub ok_map : {A E : Type 0} (P Q : A → Type 0) (r : Result A E) → ((x : A) → P x → Q x) → IfOk r P → IfOk r Q
+ok_map P Q (Ok x) f h = f x h
+ok_map P Q (Err e) f h = tt
+
 pub when_failed : {A E X Y : Type 0} (r : Result A E) → (X → Y) → OnErr r X → OnErr r Y
 when_failed (Ok done) f x = tt
 when_failed (Err e) f x = f x
@@ -79,3 +90,42 @@ module _ {E : Type 0} (a b c : Known) (gathered left text : List ℕ) (f g : ℕ
         let long = length-append lines text in
         (length lines + n, omega (arith, long, le), subst (λ l. Appends old c l) (sym (take-append-add lines text n)) (Appends-trans old b c lines (take n text) (said_now a b gathered left empty written old lines said) some)),
   )
+
+-- ---- with notes
+
+front_unbroken : (c : StopCause) → is_unbroken (stop_front c) ≡ true
+front_unbroken cause.Memory = refl
+front_unbroken cause.BadCommand = refl
+front_unbroken cause.Truncated = refl
+front_unbroken cause.WrongBox = refl
+
+no_note : (c : StopCause) (rest : List ℕ) → is_note (stop_front c ++ rest) ≡ false
+no_note cause.Memory rest = refl
+no_note cause.BadCommand rest = refl
+no_note cause.Truncated rest = refl
+no_note cause.WrongBox rest = refl
+
+-- The line of a stop is no note.
+stop_plain : (stop : Stop) → IsNoted (stop_text stop) (stop_text stop)
+unfolding ends_more ends_here
+stop_plain stop =
+    plain_line (stop_text stop)
+    (ends_more (stop_front stop.cause) (numeral 10 stop.command ++ 10 ∷ []) (front_unbroken stop.cause) (ends_more (numeral 10 stop.command) (10 ∷ []) (digits_unbroken 10 stop.command (omega arith) (omega arith)) ends_here))
+    (no_note stop.cause (numeral 10 stop.command ++ []))
+
+last_plain : (stop : Option Stop) → IsNoted (last_text stop) (last_text stop)
+last_plain None = noted_nil
+last_plain (Some stop) = stop_plain stop
+
+pub last_tells : (noted : Bool) (stop : Option Stop) (notes : List ℕ) → Tells noted [] notes → Tells noted (last_text stop) (last_text stop ++ notes)
+last_tells noted stop notes none =
+    subst (λ l. Tells noted l (last_text stop ++ notes)) (append-nil (last_text stop)) (tells_more noted (last_text stop) [] (last_text stop) notes (tells_plain noted (last_text stop) (last_plain stop)) none)
+
+-- one command more
+pub said_more : (noted : Bool) (old now new : Known) (gathered kept before line text : List ℕ) → Tells noted line text
+    → ((told : List ℕ) → IsSaid old now gathered told → IsSaid old new kept (told ++ text)) → AreSaid noted old now gathered before → AreSaid noted old new kept (before ++ line)
+said_more noted old now new gathered kept before line text tells more (told, are, said) = (told ++ text, tells_more noted before line told text are tells, more told said)
+
+pub said_front : (noted : Bool) (old now new : Known) (gathered before line text : List ℕ) → Tells noted line text
+    → ((told : List ℕ) → IsSaid old now gathered told → IsFront old new (told ++ text)) → AreSaid noted old now gathered before → IsFrontOf noted old new (before ++ line)
+said_front noted old now new gathered before line text tells front (told, are, said) = (told ++ text, tells_more noted before line told text are tells, front told said)

@@ -1,5 +1,5 @@
 -- A run from one command to the next, and to its end.
-use Rattle.std.proofs.Common.{◌≡◌, ℕ, ◌+◌, ◌-◌, ◌<◌, ◌≤◌, List, [], ◌∷◌, ◌++◌, append_assoc, append-nil, length, length-append, length-drop, take, drop, Option, Some, None, Result, Ok, Err, refl, sym, ap, ◌∙◌, subst, arith}
+use Rattle.std.proofs.Common.{Bool, false, ◌≡◌, ℕ, ◌+◌, ◌-◌, ◌<◌, ◌≤◌, List, [], ◌∷◌, ◌++◌, append_assoc, append-nil, length, length-append, length-drop, take, drop, Option, Some, None, Result, Ok, Err, refl, sym, ap, ◌∙◌, subst, arith}
 use Rattle.std.proofs.Math.Seq.{take-append_seam, take-length}
 use Rattle.std.specs.Option.{option_map}
 use Rattle.std.specs.Prelude.{slice_get}
@@ -25,8 +25,10 @@ use Rattle.tl_run.specs.declared.stop.Outcome.{Outcome}
 use Rattle.tl_run.specs.declared.stop.Stop.{Stop}
 use Rattle.tl_run.specs.declared.stop.StopCause.{StopCause}
 use Rattle.tl_run.specs.declared.stop.StopCause.TheVariants as cause
-use Rattle.tl_run.specs.Stops.{HaveBoxes, IsUnboxed, IsSaid, IsFront, IsCut, IsOutcome, HasCome, Stops, StopsFor, commands_before, of_script, last_text}
-use Rattle.tl_run.proofs.LineLaws.{nothing_said}
+use Rattle.tl_run.specs.Stops.{HaveBoxes, IsUnboxed, IsSaid, IsFront, AreSaid, IsFrontOf, IsCut, IsCutAs, IsCutBy, IsOutcome, IsWritten, IsWrittenAs, HasCome, Stops, StopsFor, commands_before, of_script, last_text, stop_text}
+use Rattle.tl_report.specs.Notes.{Tells, IsNoted, is_note}
+use Rattle.tl_report.proofs.NoteLaws.{tells_nil, tells_more, tells_plain, put_plain}
+use Rattle.tl_run.proofs.LineLaws.{nothing_said, last_tells}
 use Rattle.tl_run.proofs.OutputLaws.{output_more}
 
 -- these commands, and then those of what is left
@@ -95,28 +97,28 @@ have_more boxes left after before c have takes =
     ∙ ap (λ ws. ws ++ after) (ap (λ ws. watches_of before ++ ws) (sym (append-nil (attached_by (asked c)))) ∙ sym (flat_map-append (λ c. attached_by (asked c)) before (c ∷ [])))
 
 -- A run up to some command: what was read, the lines of it, where they are, and the monitors that are left.
-pub record Ran (topo : Topology) (script rest : List ℕ) (done : ℕ) (boxes left : List Watch) (now : Progress) (old new : Option (List ℕ)) (gathered : List ℕ) : Type 0 where
+pub record Ran (noted : Bool) (topo : Topology) (script rest : List ℕ) (done : ℕ) (boxes left : List Watch) (now : Progress) (old new : Option (List ℕ)) (gathered : List ℕ) : Type 0 where
   pub before : List Command
   pub lines : List ℕ
   pub read : IsRead script rest before done
   pub have : boxes ≡ watches_of before ++ left
   pub output : IsOutput topo start before lines now
-  pub said : IsSaid old new gathered lines
+  pub said : AreSaid noted old new gathered lines
 
-pub ran_none : (topo : Topology) (script gathered : List ℕ) (boxes : List Watch) (now : Progress) (old : Option (List ℕ)) → now ≡ start → gathered ≡ [] → Ran topo script script 0 boxes boxes now old old gathered
-ran_none topo script gathered boxes now old fresh empty = record {
+pub ran_none : (noted : Bool) (topo : Topology) (script gathered : List ℕ) (boxes : List Watch) (now : Progress) (old : Option (List ℕ)) → now ≡ start → gathered ≡ [] → Ran noted topo script script 0 boxes boxes now old old gathered
+ran_none noted topo script gathered boxes now old fresh empty = record {
   before = [];
   lines = [];
   read = none_read script;
   have = refl;
   output = (refl, fresh);
-  said = subst (λ l. IsSaid old old l []) (sym empty) (nothing_said old);
+  said = ([], tells_nil noted, subst (λ l. IsSaid old old l []) (sym empty) (nothing_said old));
 }
 
-pub ran_more : (topo : Topology) (script rest : List ℕ) (done : ℕ) (boxes left after : List Watch) (now next : Progress) (old new then : Option (List ℕ)) (gathered kept : List ℕ) (c : Command) (taken : ℕ) (line : List ℕ)
-    → (ran : Ran topo script rest done boxes left now old new gathered) → command_in rest ≡ Ok (Some (c, taken)) → IsStep topo now (asked c) line next → TakesBox left (asked c) after
-    → ((before : List ℕ) → IsSaid old new gathered before → IsSaid old then kept (before ++ line)) → Ran topo script (drop taken rest) (done + 1) boxes after next old then kept
-ran_more topo script rest done boxes left after now next old new then gathered kept c taken line ran e step takes told = record {
+pub ran_more : (noted : Bool) (topo : Topology) (script rest : List ℕ) (done : ℕ) (boxes left after : List Watch) (now next : Progress) (old new then : Option (List ℕ)) (gathered kept : List ℕ) (c : Command) (taken : ℕ) (line : List ℕ)
+    → (ran : Ran noted topo script rest done boxes left now old new gathered) → command_in rest ≡ Ok (Some (c, taken)) → IsStep topo now (asked c) line next → TakesBox left (asked c) after
+    → ((before : List ℕ) → AreSaid noted old new gathered before → AreSaid noted old then kept (before ++ line)) → Ran noted topo script (drop taken rest) (done + 1) boxes after next old then kept
+ran_more noted topo script rest done boxes left after now next old new then gathered kept c taken line ran e step takes told = record {
   before = ran.before ++ c ∷ [];
   lines = ran.lines ++ line;
   read = one_read script rest ran.before done c taken ran.read e;
@@ -138,7 +140,7 @@ got_there {X} before x rest count counted = ap (slice_get ((before ++ x ∷ []) 
 
 -- ---- the ends of a run
 
-module _ (topo : Topology) (script rest : List ℕ) (done : ℕ) (boxes left : List Watch) (now : Progress) (old new : Option (List ℕ)) (gathered : List ℕ) (ran : Ran topo script rest done boxes left now old new gathered) where
+module _ (noted : Bool) (topo : Topology) (script rest : List ℕ) (done : ℕ) (boxes left : List Watch) (now : Progress) (old new : Option (List ℕ)) (gathered : List ℕ) (ran : Ran noted topo script rest done boxes left now old new gathered) where
   -- the lines of the commands before this one
   so_far : IsOutput topo start (take ((done + 1) - 1) (commands_of script).commands) ran.lines now
   so_far = subst (λ cs. IsOutput topo start cs ran.lines now) (sym (ap (λ n. take n (commands_of script).commands) (one_back done) ∙ first_are script rest ran.before done ran.read)) ran.output
@@ -150,7 +152,7 @@ module _ (topo : Topology) (script rest : List ℕ) (done : ℕ) (boxes left : L
   faulty fault.BadCommand e = e
   faulty fault.Truncated e = e
 
-  pub came_to_fault : (found : ScriptFault) → command_in rest ≡ Err found → HasCome topo (commands_of script) boxes old new gathered (record { last_rows = length now.rows; stop = Some (record { cause = of_script found; command = done + 1 }) })
+  pub came_to_fault : (found : ScriptFault) → command_in rest ≡ Err found → HasCome noted topo (commands_of script) boxes old new gathered (record { last_rows = length now.rows; stop = Some (record { cause = of_script found; command = done + 1 }) })
   came_to_fault found e = record {
     stops = faulty found (fault_read script rest ran.before done found ran.read e).1;
     have = have_so_far;
@@ -161,7 +163,7 @@ module _ (topo : Topology) (script rest : List ℕ) (done : ℕ) (boxes left : L
     said = ran.said;
   }
 
-  pub came_to_end : command_in rest ≡ Ok None → HasCome topo (commands_of script) boxes old new gathered (record { last_rows = length now.rows; stop = None })
+  pub came_to_end : command_in rest ≡ Ok None → HasCome noted topo (commands_of script) boxes old new gathered (record { last_rows = length now.rows; stop = None })
   came_to_end e =
       let all = all_read script rest ran.before done ran.read e in
       record {
@@ -174,7 +176,7 @@ module _ (topo : Topology) (script rest : List ℕ) (done : ℕ) (boxes left : L
         said = ran.said;
       }
 
-  pub came_to_want : (then : Option (List ℕ)) (kept : List ℕ) → then ≡ new → kept ≡ gathered → HasCome topo (commands_of script) boxes old then kept (record { last_rows = length now.rows; stop = Some (record { cause = cause.Memory; command = done + 1 }) })
+  pub came_to_want : (then : Option (List ℕ)) (kept : List ℕ) → then ≡ new → kept ≡ gathered → HasCome noted topo (commands_of script) boxes old then kept (record { last_rows = length now.rows; stop = Some (record { cause = cause.Memory; command = done + 1 }) })
   came_to_want then kept same stays =
       let few = few_are script rest ran.before done ran.read in
       record {
@@ -184,7 +186,7 @@ module _ (topo : Topology) (script rest : List ℕ) (done : ℕ) (boxes left : L
         next = now;
         output = so_far;
         rows = refl;
-        said = subst (λ l. IsSaid old then l ran.lines) (sym stays) (subst (λ o. IsSaid old o gathered ran.lines) (sym same) ran.said);
+        said = subst (λ l. AreSaid noted old then l ran.lines) (sym stays) (subst (λ o. AreSaid noted old o gathered ran.lines) (sym same) ran.said);
       }
 
   -- the command that lacks its monitor
@@ -202,7 +204,7 @@ module _ (topo : Topology) (script rest : List ℕ) (done : ℕ) (boxes left : L
       }
 
   pub came_to_lack : (c : Command) (taken : ℕ) (then : Option (List ℕ)) (kept : List ℕ) → command_in rest ≡ Ok (Some (c, taken)) → LacksBox left (asked c) → then ≡ new → kept ≡ gathered
-      → HasCome topo (commands_of script) boxes old then kept (record { last_rows = length now.rows; stop = Some (record { cause = cause.WrongBox; command = done + 1 }) })
+      → HasCome noted topo (commands_of script) boxes old then kept (record { last_rows = length now.rows; stop = Some (record { cause = cause.WrongBox; command = done + 1 }) })
   came_to_lack c taken then kept e lacks same stays = record {
     stops = unboxed c taken e lacks;
     have = have_so_far;
@@ -210,14 +212,14 @@ module _ (topo : Topology) (script rest : List ℕ) (done : ℕ) (boxes left : L
     next = now;
     output = so_far;
     rows = refl;
-    said = subst (λ l. IsSaid old then l ran.lines) (sym stays) (subst (λ o. IsSaid old o gathered ran.lines) (sym same) ran.said);
+    said = subst (λ l. AreSaid noted old then l ran.lines) (sym stays) (subst (λ o. AreSaid noted old o gathered ran.lines) (sym same) ran.said);
   }
 
   pub lawful : (c : Command) (taken : ℕ) → command_in rest ≡ Ok (Some (c, taken)) → IsCommand c
   lawful c taken e = (reads_are_spelled rest c taken e).0
 
   pub cut_there : (c : Command) (taken : ℕ) (line : List ℕ) (next : Progress) (after : List Watch) (then : Option (List ℕ)) → command_in rest ≡ Ok (Some (c, taken)) → IsStep topo now (asked c) line next → TakesBox left (asked c) after
-      → ((before : List ℕ) → IsSaid old new gathered before → IsFront old then (before ++ line)) → IsCut topo (commands_of script) boxes old then
+      → ((before : List ℕ) → AreSaid noted old new gathered before → IsFrontOf noted old then (before ++ line)) → IsCutAs noted topo (commands_of script) boxes old then
   cut_there c taken line next after then e step takes told =
       let read = one_read script rest ran.before done c taken ran.read e in
       let whole : take (done + 1) (commands_of script).commands ≡ ran.before ++ c ∷ [] = first_are script (drop taken rest) (ran.before ++ c ∷ []) (done + 1) read in
@@ -229,20 +231,20 @@ module _ (topo : Topology) (script rest : List ℕ) (done : ℕ) (boxes left : L
         output = subst (λ cs. IsOutput topo start cs (ran.lines ++ line) next) (sym whole) (output_more topo start ran.before ran.lines now c line next ran.output step);
         stop = None;
         stops = tt;
-        front = subst (λ l. IsFront old then l) (sym (append-nil (ran.lines ++ line))) (told ran.lines ran.said);
+        front = subst (λ l. IsFrontOf noted old then l) (sym (append-nil (ran.lines ++ line))) (told ran.lines ran.said);
       }
 
 -- Without memory for a run, nothing is said.
-pub came_to_nothing : (topo : Topology) (script gathered : List ℕ) (boxes : List Watch) (old : Option (List ℕ)) → gathered ≡ []
-    → HasCome topo (commands_of script) boxes old old gathered (record { last_rows = 0; stop = Some (record { cause = cause.Memory; command = 0 + 1 }) })
-came_to_nothing topo script gathered boxes old empty = record {
+pub came_to_nothing : (noted : Bool) (topo : Topology) (script gathered : List ℕ) (boxes : List Watch) (old : Option (List ℕ)) → gathered ≡ []
+    → HasCome noted topo (commands_of script) boxes old old gathered (record { last_rows = 0; stop = Some (record { cause = cause.Memory; command = 0 + 1 }) })
+came_to_nothing noted topo script gathered boxes old empty = record {
   stops = (omega arith, omega arith);
   have = (boxes, refl);
   lines = [];
   next = start;
   output = (refl, refl);
   rows = refl;
-  said = subst (λ l. IsSaid old old l []) (sym empty) (nothing_said old);
+  said = ([], tells_nil noted, subst (λ l. IsSaid old old l []) (sym empty) (nothing_said old));
 }
 
 -- ---- the end is written
@@ -257,9 +259,9 @@ numbered_from_1 boxes script cause.BadCommand command h = by_fault (length scrip
 numbered_from_1 boxes script cause.Truncated command h = by_fault (length script.commands) script.fault command fault.Truncated h
 numbered_from_1 boxes script cause.WrongBox command h = h.some
 
-module _ (topo : Topology) (script : Script) (boxes : List Watch) (old : Option (List ℕ)) (lines : List ℕ) (next : Progress) where
-  cut_by : (then : Option (List ℕ)) (stop : Option Stop) → Stops boxes script stop → HaveBoxes boxes (commands_before script stop) → IsOutput topo start (commands_before script stop) lines next → IsFront old then (lines ++ last_text stop) → IsCut topo script boxes old then
-  cut_by then None stops have output front = record {
+module _ (Front : List ℕ → Type 0) (topo : Topology) (script : Script) (boxes : List Watch) (lines : List ℕ) (next : Progress) where
+  cut_by : (stop : Option Stop) → Stops boxes script stop → HaveBoxes boxes (commands_before script stop) → IsOutput topo start (commands_before script stop) lines next → Front (lines ++ last_text stop) → IsCutBy Front topo script boxes
+  cut_by None stops have output front = record {
     count = length script.commands;
     have = subst (HaveBoxes boxes) (sym (take-length script.commands)) have;
     lines = lines;
@@ -269,7 +271,7 @@ module _ (topo : Topology) (script : Script) (boxes : List Watch) (old : Option 
     stops = tt;
     front = front;
   }
-  cut_by then (Some stop) stops have output front = record {
+  cut_by (Some stop) stops have output front = record {
     count = stop.command - 1;
     have = have;
     lines = lines;
@@ -280,15 +282,42 @@ module _ (topo : Topology) (script : Script) (boxes : List Watch) (old : Option 
     front = front;
   }
 
-pub end_cut : (topo : Topology) (script : Script) (boxes : List Watch) (old now then : Option (List ℕ)) (gathered : List ℕ) (outcome : Outcome) → HasCome topo script boxes old now gathered outcome
-    → ((lines : List ℕ) → IsSaid old now gathered lines → IsFront old then (lines ++ last_text outcome.stop)) → IsCut topo script boxes old then
-end_cut topo script boxes old now then gathered outcome come told = cut_by topo script boxes old come.lines come.next then outcome.stop come.stops come.have come.output (told come.lines come.said)
+module _ (noted : Bool) (topo : Topology) (script : List ℕ) (boxes : List Watch) (old now then : Option (List ℕ)) (gathered notes : List ℕ) (outcome : Outcome) (come : HasCome noted topo (commands_of script) boxes old now gathered outcome)
+    (none : Tells noted [] notes) where
+  -- what tells the lines, and after them the line of the stop with its notes
+  told : Tells noted (come.lines ++ last_text outcome.stop) (come.said.0 ++ (last_text outcome.stop ++ notes))
+  told = tells_more noted come.lines (last_text outcome.stop) come.said.0 (last_text outcome.stop ++ notes) come.said.1 (last_tells noted outcome.stop notes none)
 
-pub end_written : (topo : Topology) (script : List ℕ) (boxes : List Watch) (old now then : Option (List ℕ)) (gathered : List ℕ) (outcome : Outcome) → HasCome topo (commands_of script) boxes old now gathered outcome
-    → ((lines : List ℕ) → IsSaid old now gathered lines → Appends old then (lines ++ last_text outcome.stop))
-    → (text : List ℕ) × IsOutcome topo script boxes outcome text × Appends old then text
-end_written topo script boxes old now then gathered outcome come told =
-    (come.lines ++ last_text outcome.stop, (come.next, record { stops = come.stops; have = come.have; lines = come.lines; output = come.output; text_is = refl }, come.rows), told come.lines come.said)
+  pub end_cut : ((lines : List ℕ) → IsSaid old now gathered lines → IsFront old then (lines ++ (last_text outcome.stop ++ notes))) → IsCutAs noted topo (commands_of script) boxes old then
+  end_cut front =
+      cut_by (IsFrontOf noted old then) topo (commands_of script) boxes come.lines come.next outcome.stop come.stops come.have come.output (come.said.0 ++ (last_text outcome.stop ++ notes), told, front come.said.0 come.said.2)
+
+  pub end_written : ((lines : List ℕ) → IsSaid old now gathered lines → Appends old then (lines ++ (last_text outcome.stop ++ notes))) → IsWrittenAs noted topo script boxes outcome old then
+  end_written written = (
+    come.lines ++ last_text outcome.stop,
+    (come.next, record { stops = come.stops; have = come.have; lines = come.lines; output = come.output; text_is = refl }, come.rows),
+    (come.said.0 ++ (last_text outcome.stop ++ notes), told, written come.said.0 come.said.2),
+  )
+
+-- ---- what is written without notes
+
+pub plain_written : (topo : Topology) (script : List ℕ) (boxes : List Watch) (outcome : Outcome) (old new : Option (List ℕ)) → IsWrittenAs false topo script boxes outcome old new → IsWritten topo script boxes outcome old new
+plain_written topo script boxes outcome old new (text, is, put) = (text, is, put_plain old new text put)
+
+plain_front : (old new : Option (List ℕ)) (lines : List ℕ) → IsFrontOf false old new lines → IsFront old new lines
+plain_front old new lines front = subst (IsFront old new) front.1 front.2
+
+pub plain_cut : (topo : Topology) (script : Script) (boxes : List Watch) (old new : Option (List ℕ)) → IsCutAs false topo script boxes old new → IsCut topo script boxes old new
+plain_cut topo script boxes old new cut = record {
+  count = cut.count;
+  have = cut.have;
+  lines = cut.lines;
+  next = cut.next;
+  output = cut.output;
+  stop = cut.stop;
+  stops = cut.stops;
+  front = plain_front old new (cut.lines ++ last_text cut.stop) cut.front;
+}
 
 -- ---- the edits of a script
 

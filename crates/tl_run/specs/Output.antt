@@ -1,5 +1,5 @@
 -- What the run of a script writes, command by command.
-use Rattle.std.specs.Prelude.{ℕ, ◌≡◌, ◌+◌, Bool, true, false, List, [], ◌∷◌, ◌++◌, length, codes, Option, Some, None, nat_lt}
+use Rattle.std.specs.Prelude.{ℕ, ◌≡◌, ◌+◌, Bool, true, false, List, [], ◌∷◌, ◌++◌, length, codes, Option, Some, None, Result, Ok, Err, nat_lt}
 use Rattle.std.specs.Fmt.{decimal}
 use Rattle.std.specs.Option.{option_map_or}
 use Rattle.tl_topology.specs.Topology.{Topology}
@@ -14,7 +14,10 @@ use Rattle.tl_inputs.specs.declared.fault.EditFault.{EditFault}
 use Rattle.tl_plain.specs.Captured.{captures_after}
 use Rattle.tl_report.specs.Output.{ReportData, joined, newline, report_bytes}
 use Rattle.tl_script.specs.declared.command.Command.{Command}
-use Rattle.tl_desk.specs.Core.{Core, log_of, latest_of, most_versions}
+use Rattle.tl_desk.specs.Core.{Core, AreLinked, log_of, latest_of, most_versions}
+use Rattle.tl_inputs.specs.declared.fault.EditFault.TheVariants as edit_fault
+use Rattle.tl_run.specs.declared.answer.Answer.{Answer}
+use Rattle.tl_run.specs.declared.answer.Answer.TheVariants as answer
 use Rattle.tl_run.specs.Commands.{Asking, an_edit, no_fragment, a_report, asked, attached_by}
 
 -- What a run has come to: the edits that were accepted, how many reports were published, and the rows of the last one.
@@ -47,6 +50,22 @@ and_number (Some number) = codes " " ++ decimal number
 -- the number of a refusal, and what it names
 unfoldable pub refused_text : ℕ → Option ℕ → List ℕ
 refused_text code number = joined (codes "refused " ∷ decimal code ∷ and_number number ∷ newline ∷ [])
+
+-- The lines of what came of a command.
+abbrev pub text_of : Topology → Answer → List ℕ
+text_of topo (answer.Edit number) = edit_text number
+text_of topo (answer.Refused code number) = refused_text code number
+text_of topo (answer.Report report) = report_bytes topo report
+
+-- The topology has the links of its rows.
+abbrev pub IsLinked : Topology → Answer → Type 0
+IsLinked topo (answer.Report report) = AreLinked topo report.rows
+IsLinked topo _ = Unit {0}
+
+-- What came of an edit that was accepted with a number, or refused and not for want of memory.
+abbrev pub IsAnswerTo : Result ℕ EditFault → Answer → Type 0
+IsAnswerTo (Ok number) found = found ≡ answer.Edit number
+IsAnswerTo (Err why) found = (why ≡ edit_fault.Memory → ⊥) × (found ≡ answer.Refused (code_of why) (number_of why))
 
 -- An edit: why it is refused, if it is; its line; and what the run then comes to.
 abbrev pub IsEdit : Progress → AnEdit → Option EditFault → List ℕ → Progress → Type 0

@@ -1,11 +1,12 @@
 -- Where the run of a script stops, and all that it writes.
-use Rattle.std.specs.Prelude.{ℕ, ◌≡◌, ◌+◌, ◌-◌, ◌<◌, ◌≤◌, List, [], ◌++◌, length, take, codes, Option, Some, None, slice_get}
+use Rattle.std.specs.Prelude.{ℕ, Bool, ◌≡◌, ◌+◌, ◌-◌, ◌<◌, ◌≤◌, List, [], ◌++◌, length, take, codes, Option, Some, None, slice_get}
 use Rattle.std.specs.Option.{option_map_or}
 use Rattle.std.specs.Io.KnownBytes.{Appends}
 use Rattle.tl_text.specs.Numbers.{numeral}
 use Rattle.tl_text.specs.Words.{ended}
 use Rattle.tl_topology.specs.Topology.{Topology}
 use Rattle.tl_beats.specs.declared.watch.Watch.{Watch}
+use Rattle.tl_report.specs.Notes.{Tells, IsPut}
 use Rattle.tl_script.specs.Scripts.{Script, commands_of, fault_of}
 use Rattle.tl_script.specs.declared.command.Command.{Command}
 use Rattle.tl_script.specs.declared.fault.ScriptFault.{ScriptFault}
@@ -93,31 +94,43 @@ IsOutcome topo bytes boxes outcome text = (next : Progress) × IsRun topo (comma
 abbrev pub IsWritten : Topology → List ℕ → List Watch → Outcome → Option (List ℕ) → Option (List ℕ) → Type 0
 IsWritten topo script boxes outcome old new = (text : List ℕ) × IsOutcome topo script boxes outcome text × Appends old new text
 
--- What was written and what is gathered behind it are these lines.
+-- The same of what is written for it, with notes or without.
+abbrev pub IsWrittenAs : Bool → Topology → List ℕ → List Watch → Outcome → Option (List ℕ) → Option (List ℕ) → Type 0
+IsWrittenAs noted topo script boxes outcome old new = (text : List ℕ) × IsOutcome topo script boxes outcome text × IsPut noted old new text
+
+-- What was written and what is gathered after it are these lines.
 abbrev pub IsSaid : Option (List ℕ) → Option (List ℕ) → List ℕ → List ℕ → Type 0
 IsSaid old now gathered lines = (written : List ℕ) × Appends old now written × (lines ≡ written ++ gathered)
 
+-- They tell these lines, with notes or without.
+abbrev pub AreSaid : Bool → Option (List ℕ) → Option (List ℕ) → List ℕ → List ℕ → Type 0
+AreSaid noted old now gathered lines = (told : List ℕ) × Tells noted lines told × IsSaid old now gathered told
+
 -- A run came to its end or its stop: its lines were written or are gathered.
-pub record HasCome (topo : Topology) (script : Script) (boxes : List Watch) (old now : Option (List ℕ)) (gathered : List ℕ) (outcome : Outcome) : Type 0 where
+pub record HasCome (noted : Bool) (topo : Topology) (script : Script) (boxes : List Watch) (old now : Option (List ℕ)) (gathered : List ℕ) (outcome : Outcome) : Type 0 where
   pub stops : Stops boxes script outcome.stop
   pub have : HaveBoxes boxes (commands_before script outcome.stop)
   pub lines : List ℕ
   pub next : Progress
   pub output : IsOutput topo start (commands_before script outcome.stop) lines next
   pub rows : outcome.last_rows ≡ length next.rows
-  pub said : IsSaid old now gathered lines
+  pub said : AreSaid noted old now gathered lines
 
 -- A front of these lines was written.
 abbrev pub IsFront : Option (List ℕ) → Option (List ℕ) → List ℕ → Type 0
 IsFront old now lines = (n : ℕ) × (n ≤ length lines) × Appends old now (take n lines)
 
--- the stop, if the run came to one, is behind so many commands
+-- A front of what tells these lines was written.
+abbrev pub IsFrontOf : Bool → Option (List ℕ) → Option (List ℕ) → List ℕ → Type 0
+IsFrontOf noted old now lines = (told : List ℕ) × Tells noted lines told × IsFront old now told
+
+-- the stop, if the run came to one, is after so many commands
 abbrev pub IsBehind : List Watch → Script → ℕ → Option Stop → Type 0
 IsBehind boxes script count None = Unit {0}
 IsBehind boxes script count (Some stop) = StopsFor boxes script stop.cause stop.command × (stop.command ≡ count + 1)
 
--- A front of what a run writes was written: of the lines of so many commands, with the line of its stop or without.
-pub record IsCut (topo : Topology) (script : Script) (boxes : List Watch) (old new : Option (List ℕ)) : Type 0 where
+-- A front of what a run writes: of the lines of so many commands, with the line of its stop or without.
+pub record IsCutBy (Front : List ℕ → Type 0) (topo : Topology) (script : Script) (boxes : List Watch) : Type 0 where
   pub count : ℕ
   pub have : HaveBoxes boxes (take count script.commands)
   pub lines : List ℕ
@@ -125,4 +138,11 @@ pub record IsCut (topo : Topology) (script : Script) (boxes : List Watch) (old n
   pub output : IsOutput topo start (take count script.commands) lines next
   pub stop : Option Stop
   pub stops : IsBehind boxes script count stop
-  pub front : IsFront old new (lines ++ last_text stop)
+  pub front : Front (lines ++ last_text stop)
+
+-- It was written; or it was with notes or without.
+abbrev pub IsCut : Topology → Script → List Watch → Option (List ℕ) → Option (List ℕ) → Type 0
+IsCut topo script boxes old new = IsCutBy (IsFront old new) topo script boxes
+
+abbrev pub IsCutAs : Bool → Topology → Script → List Watch → Option (List ℕ) → Option (List ℕ) → Type 0
+IsCutAs noted topo script boxes old new = IsCutBy (IsFrontOf noted old new) topo script boxes

@@ -4,6 +4,7 @@ ghost use Rattle.std.specs.Prelude.{◌≡◌, ◌+◌, ◌<◌, ◌≤◌, ◌^
 ghost use Rattle.std.specs.Result.{IsErrOf};
 ghost use Rattle.std.specs.Io.KnownBytes.{Appends};
 ghost use Rattle.tl_beats.specs.declared.Row.{Row as AnyRow};
+ghost use Rattle.tl_report.specs.Notes.{IsPut, IsPutFront};
 ghost use Rattle.tl_report.specs.Output.{audit_bytes};
 ghost use Rattle.tl_script.specs.Scripts.{commands_of};
 ghost use Rattle.tl_script.specs.Text.{IsCommand};
@@ -20,8 +21,8 @@ use crate::stop::Stop;
 use std::alloc::{AllocError, Global};
 use thiserror::Error;
 use tl_inputs::{Edit, EditFault, Log, PastFault};
-use tl_plain::audit;
-use tl_report::audit_text;
+use tl_plain::scratch;
+use tl_report::{Form, Plain};
 use tl_script::{Command, ScriptFault, read_command};
 use tl_text::{ByteOut, WriteFault, write_all};
 use tl_topology::Topo;
@@ -170,9 +171,33 @@ pub fn audit_script<O: ByteOut>(
         × ((rows : List AnyRow) × IsAudit topo.now script.now edit rows
         × ((n : ℕ) × Appends (O.contents out.old) (O.contents out.new) (take n (audit_bytes topo.now edit rows)))) }
 {
+    audit_script_as(alloc, topo, script, edit, &Plain, out)
+}
+
+/// The same in a form: with notes, if the form has any.
+pub fn audit_script_as<F: Form, O: ByteOut>(
+    alloc: Global,
+    topo: &Topo,
+    script: &[u8],
+    edit: u64,
+    form: &F,
+    out: &mut O,
+) -> Result<u64, AuditFault>
+    requires { O.failure_count out.old < 2 ^ 63 }
+    ensures written { IfOk result (λ count. (rows : List AnyRow) × IsAudit topo.now script.now edit rows × (count ≡ length rows)
+        × IsPut F.noted (O.contents out.old) (O.contents out.new) (audit_bytes topo.now edit rows)) }
+    ensures quiet { OnOk result (O.failure_count out.new ≡ O.failure_count out.old) }
+    ensures stopped { (stop : AnyStop) → IsErrOf result (AuditFault.Stop stop) → IsStopAt script.now stop × (out.new ≡ out.old) }
+    ensures beyond { (n : ℕ) → IsErrOf result (AuditFault.NoSuchEdit n) → (n ≡ edit) × IsBeyond topo.now script.now edit × (out.new ≡ out.old) }
+    ensures memory { IsErrOf result AuditFault.Memory → out.new ≡ out.old }
+    ensures failed { IsErrOf result AuditFault.WriteFault → (O.failure_count out.new ≡ O.failure_count out.old + 1)
+        × ((rows : List AnyRow) × IsAudit topo.now script.now edit rows
+        × IsPutFront F.noted (O.contents out.old) (O.contents out.new) (audit_bytes topo.now edit rows)) }
+{
     let log = log_of(alloc, topo, script)?;
-    let rows = audit(alloc, &log, edit)?;
-    let text = audit_text(alloc, topo, edit, &rows)?;
+    let inputs = log.inputs_at(alloc, edit)?;
+    let rows = scratch(alloc, &inputs)?;
+    let text = form.audit(alloc, &inputs, edit, &rows)?;
     write_all(out, text.as_bytes())?;
     Ok(rows.len() as u64)
 }

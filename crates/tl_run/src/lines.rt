@@ -115,22 +115,34 @@ fn write_stop<O: ByteOut>(out: &mut O, stop: Stop) -> Result<(), WriteFault>
     write_words(out, &[Word::Decimal(stop.command)])
 }
 
-/// Writes what was gathered, and the line of a stop.
+/// Writes the line of a stop, if there is one, and what follows it.
+fn write_last<O: ByteOut>(out: &mut O, stop: Option<Stop>, notes: &str) -> Result<(), WriteFault>
+    requires { O.failure_count out.old < 2 ^ 63 }
+    ensures { Writes (last_text stop ++ notes.now) (O.contents out.old) (O.contents out.new) (O.failure_count out.old) (O.failure_count out.new) result }
+{
+    match stop {
+        Some(stop) => {
+            write_stop(out, stop)?;
+            write_all(out, notes.as_bytes())
+        }
+        None => write_all(out, notes.as_bytes()),
+    }
+}
+
+/// Writes what was gathered, the line of a stop, and what follows that.
 pub fn write_end<O: ByteOut>(
     out: &mut O,
     gathered: &mut String,
     stop: Option<Stop>,
+    notes: &str,
 ) -> Result<(), WriteFault>
     requires { O.failure_count out.old < 2 ^ 63 }
     ensures quiet { OnOk result (O.failure_count out.new ≡ O.failure_count out.old) }
     ensures said { OnOk result ((old : Option (List ℕ)) (lines : List ℕ) → IsSaid old (O.contents out.old) (string_bytes gathered.old) lines
-        → Appends old (O.contents out.new) (lines ++ last_text stop)) }
+        → Appends old (O.contents out.new) (lines ++ (last_text stop ++ notes.now))) }
     ensures failed { OnErr result ((O.failure_count out.new ≡ O.failure_count out.old + 1)
-        × ((old : Option (List ℕ)) (lines : List ℕ) → IsSaid old (O.contents out.old) (string_bytes gathered.old) lines → IsFront old (O.contents out.new) (lines ++ last_text stop))) }
+        × ((old : Option (List ℕ)) (lines : List ℕ) → IsSaid old (O.contents out.old) (string_bytes gathered.old) lines → IsFront old (O.contents out.new) (lines ++ (last_text stop ++ notes.now)))) }
 {
     write_gathered(out, gathered)?;
-    match stop {
-        Some(stop) => write_stop(out, stop),
-        None => Ok(()),
-    }
+    write_last(out, stop, notes)
 }

@@ -1,15 +1,16 @@
 //! The run of a script.
 
-ghost use Rattle.std.specs.Prelude.{◌≡◌, ◌↔◌, ◌+◌, ◌<◌, ◌≤◌, ◌^◌, ◌++◌, ℕ, List, Option, Some, IfOk, OnOk, OnErr, length, drop, string_bytes, [], IfSome};
+ghost use Rattle.std.specs.Prelude.{Bool, ◌≡◌, ◌↔◌, ◌+◌, ◌<◌, ◌≤◌, ◌^◌, ◌++◌, ℕ, List, Option, Some, IfOk, OnOk, OnErr, length, drop, string_bytes, [], IfSome};
 ghost use Rattle.std.specs.Result.{IsErrOf};
 ghost use Rattle.tl_topology.specs.Topology.{Topology};
 ghost use Rattle.tl_beats.specs.declared.watch.Watch.{Watch as AnyWatch};
+ghost use Rattle.tl_report.specs.Notes.{Tells};
 ghost use Rattle.tl_script.specs.Scripts.{commands_of};
 ghost use Rattle.tl_script.specs.Text.{IsCommand};
 ghost use Rattle.tl_run.specs.Boxes.{watches_in};
 ghost use Rattle.tl_run.specs.Commands.{asked};
 ghost use Rattle.tl_run.specs.Output.{start, Advances, LacksBox};
-ghost use Rattle.tl_run.specs.Stops.{IsSaid, IsFront, HasCome, IsWritten, IsCut};
+ghost use Rattle.tl_run.specs.Stops.{AreSaid, IsFrontOf, HasCome, IsWritten, IsWrittenAs, IsCut, IsCutAs};
 
 use crate::lines::{LineFault, put_lines, write_end};
 use crate::runner::Runner;
@@ -52,17 +53,18 @@ fn run_command<S: Runner, O: ByteOut>(
     ensures topo { (S.so_far runner.new).topo ≡ (S.so_far runner.old).topo }
     ensures quiet { OnOk result (O.failure_count out.new ≡ O.failure_count out.old) }
     ensures step { OnOk result (Advances (S.so_far runner.old) command.now (S.so_far runner.new)
-        (λ line. (old : Option (List ℕ)) (before : List ℕ) → IsSaid old (O.contents out.old) (string_bytes gathered.old) before
-        → IsSaid old (O.contents out.new) (string_bytes gathered.new) (before ++ line))) }
+        (λ line. (old : Option (List ℕ)) (before : List ℕ) → AreSaid S.noted old (O.contents out.old) (string_bytes gathered.old) before
+        → AreSaid S.noted old (O.contents out.new) (string_bytes gathered.new) (before ++ line))) }
     ensures memory { IsErrOf result LineFault.Memory → (out.new ≡ out.old) × (string_bytes gathered.new ≡ string_bytes gathered.old) }
     ensures lacks { IsErrOf result LineFault.WrongBox → LacksBox (S.so_far runner.old).boxes (asked command.now) × (out.new ≡ out.old) × (string_bytes gathered.new ≡ string_bytes gathered.old) }
     ensures failed { IsErrOf result LineFault.WriteFault → (O.failure_count out.new ≡ O.failure_count out.old + 1)
         × Advances (S.so_far runner.old) command.now (S.so_far runner.new)
-        (λ line. (old : Option (List ℕ)) (before : List ℕ) → IsSaid old (O.contents out.old) (string_bytes gathered.old) before
-        → IsFront old (O.contents out.new) (before ++ line)) }
+        (λ line. (old : Option (List ℕ)) (before : List ℕ) → AreSaid S.noted old (O.contents out.old) (string_bytes gathered.old) before
+        → IsFrontOf S.noted old (O.contents out.new) (before ++ line)) }
 {
     let asked = runner.ask(alloc, command, left)?;
-    let lines = runner.lines_of(alloc, asked)?;
+    let answer = runner.answer(alloc, asked)?;
+    let lines = runner.text(alloc, &answer)?;
     let now = matches!(command, Command::Publish);
     put_lines(out, gathered, lines.as_str(), now)
 }
@@ -75,35 +77,43 @@ pub(crate) fn behind(script: &[u8], taken: usize) -> &[u8]
     &script[taken..]
 }
 
-/// The outcome of a run that stops behind so many commands.
-fn stopped(last_rows: u64, cause: StopCause, done: u64) -> Outcome
+/// How the commands of a script ended, before the rest of it.
+#[derive(Drop)]
+struct End<'s> {
+    outcome: Outcome,
+    rest: &'s [u8],
+}
+
+/// How a run ends that stops after so many commands, before the rest.
+fn stopped(last_rows: u64, cause: StopCause, done: u64, rest: &[u8]) -> End<'_>
     requires { done < 2 ^ 63 }
-    ensures { result ≡ record { last_rows = last_rows; stop = Some (record { cause = cause; command = done + 1 }) } }
+    ensures { result.outcome ≡ record { last_rows = last_rows; stop = Some (record { cause = cause; command = done + 1 }) } }
 {
-    Outcome {
+    let outcome = Outcome {
         last_rows,
         stop: Some(Stop {
             cause,
             command: done + 1,
         }),
-    }
+    };
+    End { outcome, rest }
 }
 
 /// Runs the commands of a script up to its end or its stop.
-fn run_commands<S: Runner, O: ByteOut>(
+fn run_commands<'s, S: Runner, O: ByteOut>(
     alloc: Global,
     runner: &mut S,
-    script: &[u8],
+    script: &'s [u8],
     out: &mut O,
     gathered: &mut String,
-) -> Result<Outcome, WriteFault>
+) -> Result<End<'s>, WriteFault>
     requires out { O.failure_count out.old < 2 ^ 63 }
     requires new { (S.so_far runner.old).now ≡ start }
     requires empty { string_bytes gathered.old ≡ [] }
     ensures quiet { OnOk result (O.failure_count out.new ≡ O.failure_count out.old) }
-    ensures come { IfOk result (λ outcome. HasCome (S.so_far runner.old).topo (commands_of script.now) (S.so_far runner.old).boxes (O.contents out.old) (O.contents out.new) (string_bytes gathered.new) outcome) }
+    ensures come { IfOk result (λ end. HasCome S.noted (S.so_far runner.old).topo (commands_of script.now) (S.so_far runner.old).boxes (O.contents out.old) (O.contents out.new) (string_bytes gathered.new) end.outcome) }
     ensures failed { OnErr result ((O.failure_count out.new ≡ O.failure_count out.old + 1)
-        × IsCut (S.so_far runner.old).topo (commands_of script.now) (S.so_far runner.old).boxes (O.contents out.old) (O.contents out.new)) }
+        × IsCutAs S.noted (S.so_far runner.old).topo (commands_of script.now) (S.so_far runner.old).boxes (O.contents out.old) (O.contents out.new)) }
 {
     let mut rest = script;
     let mut done = 0;
@@ -111,21 +121,34 @@ fn run_commands<S: Runner, O: ByteOut>(
         let last_rows = runner.last_rows();
         let read = match read_command(rest) {
             Ok(read) => read,
-            Err(fault) => return Ok(stopped(last_rows, fault.into(), done)),
+            Err(fault) => return Ok(stopped(last_rows, fault.into(), done, rest)),
         };
         let Some((command, taken)) = read else {
-            return Ok(Outcome {
+            let outcome = Outcome {
                 last_rows,
                 stop: None,
-            });
+            };
+            return Ok(End { outcome, rest });
         };
         match run_command(alloc, runner, &command, rest.len(), out, gathered) {
             Ok(()) => rest = behind(rest, taken),
-            Err(LineFault::Memory) => return Ok(stopped(last_rows, StopCause::Memory, done)),
-            Err(LineFault::WrongBox) => return Ok(stopped(last_rows, StopCause::WrongBox, done)),
+            Err(LineFault::Memory) => return Ok(stopped(last_rows, StopCause::Memory, done, rest)),
+            Err(LineFault::WrongBox) => {
+                return Ok(stopped(last_rows, StopCause::WrongBox, done, rest));
+            }
             Err(LineFault::WriteFault) => return Err(WriteFault),
         }
         done += 1;
+    }
+}
+
+/// Notes after the line of a stop, if there is one.
+fn last_notes<S: Runner>(alloc: Global, runner: &S, stop: Option<Stop>, rest: &[u8]) -> String
+    ensures { Tells S.noted [] (string_bytes result) }
+{
+    match stop {
+        Some(stop) => runner.stop_notes(alloc, stop.cause, rest),
+        None => String::new(alloc),
     }
 }
 
@@ -139,14 +162,15 @@ pub fn carry_out<S: Runner, O: ByteOut>(
 ) -> Result<Outcome, WriteFault>
     requires out { O.failure_count out.old < 2 ^ 63 }
     requires new { (S.so_far runner.old).now ≡ start }
-    ensures written { IfOk result (λ outcome. IsWritten (S.so_far runner.old).topo script.now (S.so_far runner.old).boxes outcome (O.contents out.old) (O.contents out.new)) }
+    ensures written { IfOk result (λ outcome. IsWrittenAs S.noted (S.so_far runner.old).topo script.now (S.so_far runner.old).boxes outcome (O.contents out.old) (O.contents out.new)) }
     ensures quiet { OnOk result (O.failure_count out.new ≡ O.failure_count out.old) }
     ensures failed { OnErr result ((O.failure_count out.new ≡ O.failure_count out.old + 1)
-        × IsCut (S.so_far runner.old).topo (commands_of script.now) (S.so_far runner.old).boxes (O.contents out.old) (O.contents out.new)) }
+        × IsCutAs S.noted (S.so_far runner.old).topo (commands_of script.now) (S.so_far runner.old).boxes (O.contents out.old) (O.contents out.new)) }
 {
     let mut gathered = String::new(alloc);
-    let outcome = run_commands(alloc, runner, script, out, &mut gathered)?;
-    write_end(out, &mut gathered, outcome.stop)?;
+    let End { outcome, rest } = run_commands(alloc, runner, script, out, &mut gathered)?;
+    let notes = last_notes(alloc, runner, outcome.stop, rest);
+    write_end(out, &mut gathered, outcome.stop, notes.as_str())?;
     Ok(outcome)
 }
 
@@ -154,14 +178,14 @@ pub fn carry_out<S: Runner, O: ByteOut>(
 /// its first command. WriteFault where a write fails.
 pub fn run_nothing<O: ByteOut>(alloc: Global, out: &mut O) -> Result<Outcome, WriteFault>
     requires { O.failure_count out.old < 2 ^ 63 }
-    ensures written { IfOk result (λ outcome. (topo : Topology) (script : List ℕ) (boxes : List AnyWatch)
-        → IsWritten topo script boxes outcome (O.contents out.old) (O.contents out.new)) }
+    ensures written { IfOk result (λ outcome. (noted : Bool) (topo : Topology) (script : List ℕ) (boxes : List AnyWatch)
+        → IsWrittenAs noted topo script boxes outcome (O.contents out.old) (O.contents out.new)) }
     ensures quiet { OnOk result (O.failure_count out.new ≡ O.failure_count out.old) }
     ensures failed { OnErr result ((O.failure_count out.new ≡ O.failure_count out.old + 1)
-        × ((topo : Topology) (script : List ℕ) (boxes : List AnyWatch) → IsCut topo (commands_of script) boxes (O.contents out.old) (O.contents out.new))) }
+        × ((noted : Bool) (topo : Topology) (script : List ℕ) (boxes : List AnyWatch) → IsCutAs noted topo (commands_of script) boxes (O.contents out.old) (O.contents out.new))) }
 {
-    let outcome = stopped(0, StopCause::Memory, 0);
-    write_end(out, &mut String::new(alloc), outcome.stop)?;
+    let End { outcome, .. } = stopped(0, StopCause::Memory, 0, b"".as_slice());
+    write_end(out, &mut String::new(alloc), outcome.stop, "")?;
     Ok(outcome)
 }
 

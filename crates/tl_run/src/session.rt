@@ -1,17 +1,17 @@
 //! What a run has come to, and the lines of one command more.
 
-ghost use Rattle.std.specs.Prelude.{◌≡◌, [], IfOk, IfSome, OnOk, length, string_bytes};
+ghost use Rattle.std.specs.Prelude.{◌≡◌, [], IfOk, IfSome, OnOk, length};
 ghost use Rattle.std.specs.Result.{IsErrOf};
 ghost use Rattle.std.specs.Option.{option_map_or};
 ghost use Rattle.tl_inputs.specs.Edits.{plain_change, attach};
-ghost use Rattle.tl_inputs.specs.Log.{inputs_after};
 ghost use Rattle.tl_desk.specs.Core.{AreLinked};
 ghost use Rattle.tl_desk.specs.Ends.{AllHaveEnded};
 ghost use Rattle.tl_run.specs.Boxes.{watches_in};
 ghost use Rattle.tl_run.specs.Commands.{asking, an_edit, a_report};
-ghost use Rattle.tl_run.specs.Output.{start, edit_text, refused_text, IsStep, TakesBox, LacksBox};
+ghost use Rattle.tl_run.specs.Output.{start, text_of, IsLinked, IsStep, TakesBox, LacksBox};
 ghost use Rattle.tl_run.specs.declared.session.CommandFault.TheVariants.{Memory};
 
+use crate::answer::Answer;
 use crate::asked::Asked;
 use crate::boxes::Boxes;
 use std::alloc::{AllocError, Global};
@@ -19,9 +19,9 @@ use std::marker::Model;
 use thiserror::Error;
 use tl_beats::Watch;
 use tl_desk::{Desk, PublishFault, RecheckFault};
-use tl_inputs::{Change, EditFault, Inputs};
+use tl_inputs::{Change, EditFault};
 use tl_monitor::{Monitor, Settlement};
-use tl_report::{Report, report_text};
+use tl_report::Report;
 use tl_topology::Topo;
 
 /// Why a command has no lines.
@@ -40,25 +40,6 @@ impl From<AllocError> for CommandFault {
 
     fn from(_error: AllocError) -> CommandFault {
         CommandFault::Memory
-    }
-}
-
-/// The line of an edit of this number. AllocError where memory is refused.
-#[tactic(auto, unfolding(crate::specs::Output::edit_text))]
-pub fn edit_line(alloc: Global, number: u64) -> Result<String, AllocError>
-    ensures { IfOk result (λ line. string_bytes line ≡ edit_text number) }
-{
-    format!(in alloc; "edit {number}\n")
-}
-
-/// The line of a refusal of this code, with the number that it names. AllocError where memory is refused.
-#[tactic(auto, unfolding(crate::specs::Output::refused_text))]
-pub fn refusal_line(alloc: Global, code: u8, number: Option<u32>) -> Result<String, AllocError>
-    ensures { IfOk result (λ line. string_bytes line ≡ refused_text code number) }
-{
-    match number {
-        Some(number) => format!(in alloc; "refused {code} {number}\n"),
-        None => format!(in alloc; "refused {code}\n"),
     }
 }
 
@@ -93,13 +74,12 @@ impl<M: Monitor> Session<M> {
         })
     }
 
-    /// What its edits leave.
-    pub fn inputs(&self) -> &Inputs
-        ensures exact { result.now ≡ inputs_after self.now.topo self.now.now.edits }
-        ensures topo { result.now.topo ≡ self.now.topo }
+    /// Its topology.
+    pub fn topo(&self) -> &Topo
+        ensures { result.now ≡ self.now.topo }
     {
         let _ = &self.boxes;
-        self.desk.log().inputs()
+        self.desk.log().inputs().topo()
     }
 
     /// The last report, if there is one.
@@ -121,76 +101,77 @@ impl<M: Monitor> Session<M> {
         }
     }
 
-    /// The line of an edit that brings no monitor.
+    /// What comes of an edit that brings no monitor.
     #[tactic(auto, unfolding(crate::specs::Output::IsStep))]
-    fn change(&mut self, alloc: Global, change: Change) -> Result<String, AllocError>
+    fn change(&mut self, alloc: Global, change: Change) -> Result<Answer, AllocError>
         ensures topo { self.new.topo ≡ self.old.topo }
         ensures boxes { self.new.boxes ≡ self.old.boxes }
-        ensures step { IfOk result (λ line. IsStep self.old.topo self.old.now (an_edit (plain_change change)) (string_bytes line) self.new.now) }
+        ensures step { IfOk result (λ found. IsStep self.old.topo self.old.now (an_edit (plain_change change)) (text_of self.old.topo found) self.new.now) }
+        ensures links { IfOk result (IsLinked self.old.topo) }
     {
         let _ = &self.boxes;
         let _ = self.desk.settlements();
         match self.desk.edit(alloc, change) {
-            Ok(number) => edit_line(alloc, number),
+            Ok(number) => Ok(Answer::Edit(number)),
             Err(EditFault::Memory) => Err(AllocError),
-            Err(fault) => refusal_line(alloc, fault.code(), fault.number()),
+            Err(fault) => Ok(Answer::Refused(fault.code(), fault.number())),
         }
     }
 
-    /// The line of the attachment of the next monitor.
+    /// What comes of the attachment of the next monitor.
     #[tactic(auto, unfolding(crate::specs::Output::IsStep))]
-    fn attach(&mut self, alloc: Global, number: u32, watch: Watch) -> Result<String, CommandFault>
+    fn attach(&mut self, alloc: Global, number: u32, watch: Watch) -> Result<Answer, CommandFault>
         ensures topo { self.new.topo ≡ self.old.topo }
         ensures boxes { OnOk result (TakesBox self.old.boxes (an_edit (attach number watch)) self.new.boxes) }
         ensures lacks { IsErrOf result CommandFault.WrongBox → LacksBox self.old.boxes (an_edit (attach number watch)) × (self.new ≡ self.old) }
-        ensures step { IfOk result (λ line. IsStep self.old.topo self.old.now (an_edit (attach number watch)) (string_bytes line) self.new.now) }
+        ensures step { IfOk result (λ found. IsStep self.old.topo self.old.now (an_edit (attach number watch)) (text_of self.old.topo found) self.new.now) }
+        ensures links { IfOk result (IsLinked self.old.topo) }
     {
         let Some(monitor) = self.boxes.next(&watch) else {
             return Err(CommandFault::WrongBox);
         };
         match self.desk.attach(alloc, number, monitor) {
-            Ok(edit) => Ok(edit_line(alloc, edit)?),
+            Ok(edit) => Ok(Answer::Edit(edit)),
             Err((EditFault::Memory, _)) => Err(CommandFault::Memory),
-            Err((fault, _)) => Ok(refusal_line(alloc, fault.code(), fault.number())?),
+            Err((fault, _)) => Ok(Answer::Refused(fault.code(), fault.number())),
         }
     }
 
-    /// The lines of a report of all edits, or of the refusal of one more.
+    /// A report of all edits, or the refusal of one more.
     #[tactic(auto, unfolding(crate::specs::Output::IsStep))]
-    fn publish(&mut self, alloc: Global) -> Result<String, AllocError>
+    fn publish(&mut self, alloc: Global) -> Result<Answer, AllocError>
         ensures topo { self.new.topo ≡ self.old.topo }
         ensures boxes { self.new.boxes ≡ self.old.boxes }
-        ensures step { IfOk result (λ lines. IsStep self.old.topo self.old.now a_report (string_bytes lines) self.new.now) }
+        ensures step { IfOk result (λ found. IsStep self.old.topo self.old.now a_report (text_of self.old.topo found) self.new.now) }
+        ensures links { IfOk result (IsLinked self.old.topo) }
     {
         let _ = &self.boxes;
         match self.desk.recheck_now(alloc) {
             Ok(_) => match self.desk.publish(alloc) {
-                Ok(version) => {
-                    let report = self.desk.report(version).unwrap();
-                    report_text(alloc, self.desk.log().inputs().topo(), report)
-                }
+                Ok(version) => Ok(Answer::Report(self.desk.report(version).unwrap().copy()?)),
                 Err(PublishFault::Memory) => Err(AllocError),
-                Err(fault) => refusal_line(alloc, fault.code(), None),
+                Err(fault) => Ok(Answer::Refused(fault.code(), None)),
             },
             Err(RecheckFault::Memory) => Err(AllocError),
             Err(RecheckFault::BoxOut(_)) => unreachable!(),
         }
     }
 
-    /// The lines of one command more. WrongBox, with nothing changed, where it attaches a monitor and the next one is missing or
+    /// What comes of one command more. WrongBox, with nothing changed, where it attaches a monitor and the next one is missing or
     /// watches something else; Memory where memory is refused: the run is then at its end. The monitor of an attachment that is
     /// refused is dropped.
     #[tactic(auto, unfolding(crate::specs::Output::IsStep))]
-    pub fn lines_of(&mut self, alloc: Global, asked: Asked) -> Result<String, CommandFault>
+    pub fn answer(&mut self, alloc: Global, asked: Asked) -> Result<Answer, CommandFault>
         ensures topo { self.new.topo ≡ self.old.topo }
         ensures boxes { OnOk result (TakesBox self.old.boxes (asking asked) self.new.boxes) }
         ensures lacks { IsErrOf result CommandFault.WrongBox → LacksBox self.old.boxes (asking asked) × (self.new ≡ self.old) }
-        ensures step { IfOk result (λ lines. IsStep self.old.topo self.old.now (asking asked) (string_bytes lines) self.new.now) }
+        ensures step { IfOk result (λ found. IsStep self.old.topo self.old.now (asking asked) (text_of self.old.topo found) self.new.now) }
+        ensures links { IfOk result (IsLinked self.old.topo) }
     {
         match asked {
             Asked::Change(change) => Ok(self.change(alloc, change)?),
             Asked::Attach(number, watch) => self.attach(alloc, number, watch),
-            Asked::NoFragment(fault) => Ok(refusal_line(alloc, fault.code(), fault.number())?),
+            Asked::NoFragment(fault) => Ok(Answer::Refused(fault.code(), fault.number())),
             Asked::Report => Ok(self.publish(alloc)?),
         }
     }

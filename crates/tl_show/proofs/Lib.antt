@@ -1,3 +1,4 @@
 pub mod Texts
 pub mod KeptLaws
 pub mod SurveyLaws
+pub mod Noted

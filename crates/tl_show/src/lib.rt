@@ -1,10 +1,15 @@
-//! Rows shown: each beside its beat in words, the earlier beat that makes it so, and what was expected.
+//! Rows shown: each beside its beat in words, the earlier beat that makes it so, and what was expected; and runs whose reports are
+//! shown.
 #![tactic(auto)]
 
 mod expected;
 mod lines;
+mod quote;
+mod showing;
 mod shown;
 mod survey;
 
+pub use quote::{first_line, shown};
+pub use showing::{Showing, Shown};
 pub use shown::{shown_audit, shown_report};
 pub use survey::{Counts, Survey, survey_beats};

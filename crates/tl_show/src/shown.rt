@@ -3,7 +3,8 @@
 ghost use Rattle.std.specs.Prelude.{◌≡◌, ◌<◌, ◌≤◌, ◌++◌, find, IfOk, OnOk, length, string_bytes};
 ghost use Rattle.std.specs.List.{All, flat_map};
 ghost use Rattle.std.specs.Option.{option_copied};
-ghost use Rattle.tl_report.specs.Output.{row_text, head_text, audit_head};
+ghost use Rattle.tl_report.specs.Notes.{IsNoted};
+ghost use Rattle.tl_report.specs.Output.{row_text, head_text, report_bytes, audit_head, audit_bytes};
 ghost use Rattle.tl_show.specs.Lines.{IsSoundTold};
 ghost use Rattle.tl_show.specs.Shown.{same_monitor, is_of_beat, is_of_rule, is_row, lines_for, shown_row, rest_line_of, checked_text_of, asked_text_of, given_text_of, counts_line_of, shown_count, shown_rows, shown_bytes, IsShown};
 
@@ -223,18 +224,22 @@ fn with_lines(
     head: &str,
     rows: &[Row],
 ) -> Result<String, AllocError>
-    requires { All (λ row. row.link < length topo.now.links) rows.now }
-    ensures { IfOk result (λ text. IsShown topo.now present.now head.now rows.now (string_bytes text)) }
+    requires links { All (λ row. row.link < length topo.now.links) rows.now }
+    requires head { IsNoted head.now head.now }
+    ensures shown { IfOk result (λ text. IsShown topo.now present.now head.now rows.now (string_bytes text)) }
+    ensures noted { IfOk result (λ text. IsNoted (head.now ++ flat_map (row_text topo.now) rows.now) (string_bytes text)) }
 {
+    let _ = topo.link_count();
     let count = shown_count(rows);
     let survey = survey_beats(alloc, topo, present, &rows[..count])?;
     shown_text(alloc, topo, head, rows, &survey)
 }
 
-/// The text of a report whose rows are shown: each of the first 1,000 with its lines behind it, which are its beat in words, its
+/// The text of a report whose rows are shown, with notes alone between the lines of the report: each of the first 1,000 with its lines behind it, which are its beat in words, its
 /// rule, the earlier beat that makes it so, and what was expected; then the others without, how many these are, and how much was
 /// checked. The fragments that are present are those that the report is of, and the topology has the links of its rows.
 /// AllocError where memory is refused.
+#[tactic(auto, unfolding(tl_report::specs::Output::report_bytes))]
 pub fn shown_report(
     alloc: Global,
     topo: &Topo,
@@ -242,13 +247,15 @@ pub fn shown_report(
     report: &Report,
 ) -> Result<String, AllocError>
     requires { All (λ row. row.link < length topo.now.links) report.now.rows }
-    ensures { IfOk result (λ text. IsShown topo.now present.now (head_text report.now) report.now.rows (string_bytes text)) }
+    ensures shown { IfOk result (λ text. IsShown topo.now present.now (head_text report.now) report.now.rows (string_bytes text)) }
+    ensures noted { IfOk result (λ text. IsNoted (report_bytes topo.now report.now) (string_bytes text)) }
 {
     let head = head_text(alloc, report)?;
     with_lines(alloc, topo, present, head.as_str(), report.rows())
 }
 
 /// The same of what an audit after so many edits finds.
+#[tactic(auto, unfolding(tl_report::specs::Output::audit_bytes))]
 pub fn shown_audit(
     alloc: Global,
     topo: &Topo,
@@ -257,7 +264,8 @@ pub fn shown_audit(
     rows: &[Row],
 ) -> Result<String, AllocError>
     requires { All (λ row. row.link < length topo.now.links) rows.now }
-    ensures { IfOk result (λ text. IsShown topo.now present.now (audit_head edit (length rows.now)) rows.now (string_bytes text)) }
+    ensures shown { IfOk result (λ text. IsShown topo.now present.now (audit_head edit (length rows.now)) rows.now (string_bytes text)) }
+    ensures noted { IfOk result (λ text. IsNoted (audit_bytes topo.now edit rows.now) (string_bytes text)) }
 {
     let head = audit_head(alloc, edit, rows.len())?;
     with_lines(alloc, topo, present, head.as_str(), rows)

@@ -11,6 +11,7 @@ use Rattle.std.proofs.lemmas.List.Elements.{All-append}
 use Rattle.tl_topology.specs.declared.LinkDecl.{LinkDecl}
 use Rattle.tl_topology.specs.declared.reading.ManagerLine.{ManagerLine}
 use Rattle.tl_topology.specs.declared.reading.LinkLine.{LinkLine}
+use Rattle.tl_text.specs.Names.{is_name}
 use Rattle.tl_topology.specs.Topology.{Topology, is_named, exponent_of, IsSound, IsTopology}
 use Rattle.tl_topology.specs.Reading.{with_manager, with_link, fitted, manager_named}
 
@@ -53,13 +54,17 @@ one_managed : (count : ℕ) (name : List ℕ) (decl : LinkDecl) → decl.manager
 one_managed count name decl managed zero d lt = managed
 one_managed count name decl managed (suc k) d lt = absurd (omega arith)
 
+one_named : (name : List ℕ) (decl : LinkDecl) → is_name decl.name ≡ true → All (λ (p : List ℕ × LinkDecl). is_name p.1.name ≡ true) ((name, decl) ∷ [])
+one_named name decl named zero d lt = named
+one_named name decl named (suc k) d lt = absurd (omega arith)
+
 one_sound : (name : List ℕ) (decl : LinkDecl) → IsSound decl → All (λ (p : List ℕ × LinkDecl). IsSound p.1) ((name, decl) ∷ [])
 one_sound name decl sound zero d lt = sound
 one_sound name decl sound (suc k) d lt = absurd (omega arith)
 
 pub topology_with_link : (managers : List (List ℕ × ℕ)) (es new : List (List ℕ × LinkDecl)) (topo : Topology) (name : List ℕ) (decl : LinkDecl) → record { managers = managers; links = es } ≡ topo → is_named topo name ≡ false
-    → IsTopology (record { managers = managers; links = es }) → IsSound decl → decl.manager < length managers → length es < 256 → new ≡ insert_entry bytes_eq es name decl → IsTopology (record { managers = managers; links = new })
-topology_with_link managers es new topo name decl was unused kept sound managed room put =
+    → IsTopology (record { managers = managers; links = es }) → IsSound decl → is_name decl.name ≡ true → decl.manager < length managers → length es < 256 → new ≡ insert_entry bytes_eq es name decl → IsTopology (record { managers = managers; links = new })
+topology_with_link managers es new topo name decl was unused kept sound named managed room put =
     let here : is_named (record { managers = managers; links = es }) name ≡ false = subst (λ (t : Topology). is_named t name ≡ false) (sym was) unused in
     let one_more : length (es ++ (name, decl) ∷ []) ≤ 256 = omega (arith, length-append es ((name, decl) ∷ [])) in
     let last : new ≡ es ++ (name, decl) ∷ [] = put ∙ insert_new bytes_eq name decl es (unnamed _ _ here).1 in
@@ -68,4 +73,5 @@ topology_with_link managers es new topo name decl was unused kept sound managed 
       links = one_more;
       sound = All-append (λ (p : List ℕ × LinkDecl). IsSound p.1) es ((name, decl) ∷ []) kept.sound (one_sound name decl sound);
       managed = All-append (λ (p : List ℕ × LinkDecl). p.1.manager < length managers) es ((name, decl) ∷ []) kept.managed (one_managed (length managers) name decl managed);
+      named = All-append (λ (p : List ℕ × LinkDecl). is_name p.1.name ≡ true) es ((name, decl) ∷ []) kept.named (one_named name decl named);
     })

@@ -1,7 +1,8 @@
 -- A topology as plain data, and what may be declared behind it.
-use Rattle.std.specs.Prelude.{ℕ, ◌<◌, ◌≤◌, ◌^◌, ◌==◌, ◌&&◌, ◌||◌, not, Bool, true, List, [], ◌∷◌, length, map, Option, is_some, nat_le, position}
+use Rattle.std.specs.Prelude.{ℕ, ◌≡◌, ◌<◌, ◌≤◌, ◌^◌, ◌==◌, ◌&&◌, ◌||◌, not, Bool, true, List, [], ◌∷◌, length, map, Option, is_some, nat_le, position}
 use Rattle.std.specs.List.{All}
 use Rattle.std.specs.Str.{bytes_eq}
+use Rattle.tl_text.specs.Names.{is_name}
 use Rattle.tl_tables.specs.declared.Level.{Level}
 use Rattle.tl_tables.specs.declared.Level.TheVariants as level
 use Rattle.tl_topology.specs.declared.LinkDecl.{LinkDecl}
@@ -49,9 +50,14 @@ pub record IsSound (link : LinkDecl) : Type 0 where
   pub some_source : 1 ≤ link.sources
   pub sources : link.sources ≤ 65536
 
+-- Each link has a name.
+abbrev pub AreNamed : Topology → Type 0
+AreNamed topo = All (λ p. is_name p.1.name ≡ true) topo.links
+
 -- what each topology keeps
 pub record IsTopology (topo : Topology) : Type 0 where
   pub managers : length topo.managers ≤ 64
   pub links : length topo.links ≤ 256
   pub sound : All (λ p. IsSound p.1) topo.links
   pub managed : All (λ p. p.1.manager < length topo.managers) topo.links
+  pub named : AreNamed topo

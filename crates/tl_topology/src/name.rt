@@ -1,11 +1,12 @@
 //! Names of links and managers.
 
-ghost use Rattle.std.specs.Prelude.{◌≡◌, Some};
+ghost use Rattle.std.specs.Prelude.{◌≡◌, IfSome, Some, true};
 ghost use Rattle.std.specs.Cmp.Rules.{comparing, hashing};
 ghost use Rattle.std.proofs.Common.{rules};
 ghost use Rattle.std.specs.Hash as fed;
 ghost use lib.Pointwise.{pointwise};
 ghost use Rattle.std.specs.Prelude.{nat_eq};
+ghost use Rattle.tl_text.specs.Names.{is_name};
 
 use std::fmt;
 use std::hash::{Hash, Hasher};
@@ -41,7 +42,8 @@ impl Name {
     /// The name that a word is, or None where it is none.
     #[tactic(auto, unfolding(crate::specs::Naming::name_at))]
     pub fn new(word: &[u8]) -> Option<Name>
-        ensures { result ≡ name_at word.now }
+        ensures exact { result ≡ name_at word.now }
+        ensures named { IfSome result (λ name. is_name name ≡ true) }
     {
         if !is_name(word) {
             return None;

@@ -1,7 +1,8 @@
 //! The text of a topology.
 
-ghost use Rattle.std.specs.Prelude.{◌≡◌, ◌≤◌, ◌<◌, ◌++◌, ℕ, List, false, length, option_map, IfSome, IfOk, IfErr, take, drop};
+ghost use Rattle.std.specs.Prelude.{◌≡◌, ◌≤◌, ◌<◌, ◌++◌, ℕ, List, true, false, length, option_map, IfSome, IfOk, IfErr, take, drop};
 ghost use Rattle.tl_text.specs.Words.{lines_of, IsBehind};
+ghost use Rattle.tl_text.specs.Names.{is_name};
 ghost use Rattle.tl_text.specs.Readings.{Gives};
 ghost use Rattle.tl_topology.specs.Faults.{is_memory};
 ghost use Rattle.tl_topology.specs.Reading.{version_at, level_at, manager_at, sizes_at, mark_at, sources_at, link_at, declared, topology_in};
@@ -124,6 +125,7 @@ fn sources_of(version: Version, words: &[u8]) -> Option<(u32, bool)>
 #[tactic(auto, unfolding(crate::specs::Reading::link_at))]
 fn link_of(version: Version, words: &[u8]) -> Option<LinkLine>
     ensures exact { result ≡ link_at version words.now }
+    ensures named { IfSome result (λ link. is_name link.name ≡ true) }
     ensures some_source { IfSome result (λ link. 1 ≤ link.sources) }
     ensures sources { IfSome result (λ link. link.sources ≤ 65536) }
 {

@@ -1,10 +1,11 @@
 //! Links and managers by name, in declared order.
 
-ghost use Rattle.std.specs.Prelude.{◌≡◌, ◌↔◌, ◌<◌, ◌≤◌, [], IsSome, IfSome, IfOk, option_map, slice_get, length};
+ghost use Rattle.std.specs.Prelude.{◌≡◌, ◌↔◌, ◌<◌, ◌≤◌, [], true, IsSome, IfSome, IfOk, option_map, slice_get, length};
 ghost use Rattle.std.specs.Option.{option_copied};
+ghost use Rattle.tl_text.specs.Names.{is_name};
 ghost use Rattle.tl_text.specs.Readings.{Gives};
 ghost use Rattle.tl_topology.specs.Faults.{is_memory};
-ghost use Rattle.tl_topology.specs.Topology.{number_of_name, is_named, exponent_of, is_size, is_width, may_be_strict, IsSound};
+ghost use Rattle.tl_topology.specs.Topology.{number_of_name, is_named, exponent_of, is_size, is_width, may_be_strict, AreNamed, IsSound};
 ghost use Rattle.tl_topology.specs.Reading.{with_manager, with_link, fitted, manager_named};
 
 use crate::LinkDecl;
@@ -99,6 +100,7 @@ fn fitted(link: &LinkLine, manager: u16, exponent: u8, line: u64) -> Result<Link
     ensures exact { result ≡ fitted link.now manager exponent line }
     ensures sound { IfOk result IsSound }
     ensures managed { IfOk result (λ decl. decl.manager ≡ manager) }
+    ensures named { IfOk result (λ decl. decl.name ≡ link.now.name) }
 {
     if exponent_of(link.width).is_none() || link.width > MOST_LANES {
         return Err(TopoFault::BadWidth(line));
@@ -157,10 +159,11 @@ impl Topo {
         self.links.get_index(number as usize).map(|(_, link)| link)
     }
 
-    /// How many links there are, at most 256.
+    /// How many links there are, at most 256, each with a name.
     pub fn link_count(&self) -> usize
         ensures count { result ≡ length self.now.links }
         ensures limit { result ≤ 256 }
+        ensures named { AreNamed self.now }
     {
         self.links.len()
     }
@@ -223,6 +226,7 @@ impl Topo {
     /// The topology with one link more, that of a line.
     #[tactic(auto, unfolding(crate::specs::Reading::with_link))]
     pub(crate) fn with_link(mut self, link: LinkLine, line: u64) -> Result<Topo, TopoFault>
+        requires named { is_name link.name ≡ true }
         requires some_source { 1 ≤ link.sources }
         requires sources { link.sources ≤ 65536 }
         ensures { Gives is_memory (λ t. t) result (with_link self link line) }

@@ -29,8 +29,9 @@ use Rattle.tl_hall.specs.Working.{WorkedOnce}
 use Rattle.tl_hall.proofs.Histories.{only_self, only_trans}
 use Rattle.tl_hall.proofs.Tellings.{histories_tell}
 use Rattle.tl_run.specs.Commands.{Asking, an_edit, a_report}
-use Rattle.tl_run.specs.Output.{Progress, RunData, IsEdit, IsPublish, IsStep, edit_text, refused_text}
-use Rattle.tl_workers.specs.Crew.{GoesOn, HasPublished, IsUnpublished, IsLineOf, progress_in, seen_in}
+use Rattle.tl_run.specs.declared.answer.Answer.{Answer}
+use Rattle.tl_run.specs.Output.{Progress, RunData, IsEdit, IsPublish, IsStep, IsLinked, IsAnswerTo, edit_text, refused_text, text_of}
+use Rattle.tl_workers.specs.Crew.{GoesOn, HasPublished, IsUnpublished, progress_in, seen_in}
 use Rattle.tl_workers.specs.Crew.{Leads as LeadsRun}
 
 -- ---- workers tell of no edit and of no report
@@ -237,12 +238,20 @@ module _ (hall : HallData) (topo : Topology) (pass : Option PassData) (rows : Li
       (subst (λ (t : Topology). IsStep t (progress_in (seen_in pass) rows) asking line next) run_topo
       (subst (λ (o : Option PassData). IsStep p.topo (progress_in (seen_in o) rows) asking line next) (sym is) step))
 
-  pub change_line : (c : Change) (answer : Result ℕ EditFault) (q : PassData) (line : List ℕ) → IfOk answer (λ n. Made p (call.Edit c n) NoMore q) → IfErr answer (λ f. Looked p (IsRefused (plain_change c) f) q) → IsLineOf answer line
-      → IsStep run.topo run.now (an_edit (plain_change c)) line (progress_in q.seen rows)
-  change_line c (Ok n) q line ok err said = run_step (an_edit (plain_change c)) line (progress_in q.seen rows) (change_made p q rows c n line run_sole ok said)
-  change_line c (Err f) q line ok err said = run_step (an_edit (plain_change c)) line (progress_in q.seen rows) (edit_refused p q rows (plain_change c) f line run_sole err said.0 said.1)
+  pub change_answer : (c : Change) (answer : Result ℕ EditFault) (q : PassData) (found : Answer) → IfOk answer (λ n. Made p (call.Edit c n) NoMore q) → IfErr answer (λ f. Looked p (IsRefused (plain_change c) f) q) → IsAnswerTo answer found
+      → IsStep run.topo run.now (an_edit (plain_change c)) (text_of run.topo found) (progress_in q.seen rows)
+  change_answer c (Ok n) q found ok err said = run_step (an_edit (plain_change c)) (text_of run.topo found) (progress_in q.seen rows) (change_made p q rows c n (text_of run.topo found) run_sole ok (ap (text_of run.topo) said))
+  change_answer c (Err f) q found ok err said =
+      run_step (an_edit (plain_change c)) (text_of run.topo found) (progress_in q.seen rows) (edit_refused p q rows (plain_change c) f (text_of run.topo found) run_sole err said.0 (ap (text_of run.topo) said.1))
 
-  pub attach_line : (monitor : ℕ) (w : Watch) (answer : Result ℕ EditFault) (q : PassData) (line : List ℕ) → IfOk answer (λ n. Made p (call.Attach monitor w n) NoMore q) → IfErr answer (λ f. Looked p (IsRefused (attach monitor w) f) q) → IsLineOf answer line
-      → IsStep run.topo run.now (an_edit (attach monitor w)) line (progress_in q.seen rows)
-  attach_line monitor w (Ok n) q line ok err said = run_step (an_edit (attach monitor w)) line (progress_in q.seen rows) (attach_made p q rows monitor w n line run_sole ok said)
-  attach_line monitor w (Err f) q line ok err said = run_step (an_edit (attach monitor w)) line (progress_in q.seen rows) (edit_refused p q rows (attach monitor w) f line run_sole err said.0 said.1)
+  pub attach_answer : (monitor : ℕ) (w : Watch) (answer : Result ℕ EditFault) (q : PassData) (found : Answer) → IfOk answer (λ n. Made p (call.Attach monitor w n) NoMore q) → IfErr answer (λ f. Looked p (IsRefused (attach monitor w) f) q) → IsAnswerTo answer found
+      → IsStep run.topo run.now (an_edit (attach monitor w)) (text_of run.topo found) (progress_in q.seen rows)
+  attach_answer monitor w (Ok n) q found ok err said =
+      run_step (an_edit (attach monitor w)) (text_of run.topo found) (progress_in q.seen rows) (attach_made p q rows monitor w n (text_of run.topo found) run_sole ok (ap (text_of run.topo) said))
+  attach_answer monitor w (Err f) q found ok err said =
+      run_step (an_edit (attach monitor w)) (text_of run.topo found) (progress_in q.seen rows) (edit_refused p q rows (attach monitor w) f (text_of run.topo found) run_sole err said.0 (ap (text_of run.topo) said.1))
+
+-- What comes of an edit has no rows.
+pub edits_linked : (topo : Topology) (answer : Result ℕ EditFault) (found : Answer) → IsAnswerTo answer found → IsLinked topo found
+edits_linked topo (Ok n) found said = subst (IsLinked topo) (sym said) tt
+edits_linked topo (Err f) found said = subst (IsLinked topo) (sym said.1) tt

@@ -1,14 +1,12 @@
 -- What a run knows beside its workers.
-use Rattle.std.specs.Prelude.{◌≡◌, ◌+◌, ℕ, true, List, [], Option, Some, Result, Ok, Err, IfOk, OnOk, OnErr}
+use Rattle.std.specs.Prelude.{◌≡◌, ◌+◌, ℕ, Bool, true, List, [], Option, Some, Result, IfOk, OnOk, OnErr}
 use Rattle.std.specs.Option.{option_map_or}
 use Rattle.tl_topology.specs.Topology.{Topology}
 use Rattle.tl_beats.specs.declared.Row.{Row}
+use Rattle.tl_beats.specs.declared.watch.Watch.{Watch}
 use Rattle.tl_desk.specs.declared.call.Call.TheVariants as call
 use Rattle.tl_desk.specs.declared.fault.PublishFault.{PublishFault}
 use Rattle.tl_desk.specs.declared.fault.PublishFault.TheVariants as fault
-use Rattle.tl_inputs.specs.Edits.{code_of, number_of}
-use Rattle.tl_inputs.specs.declared.fault.EditFault.{EditFault}
-use Rattle.tl_inputs.specs.declared.fault.EditFault.TheVariants as edit_fault
 use Rattle.tl_report.specs.Output.{ReportData}
 use Rattle.tl_hall.specs.declared.entry.Entry.{Entry}
 use Rattle.tl_hall.specs.History.{OnlyWork}
@@ -16,8 +14,8 @@ use Rattle.tl_hall.specs.Passes.{HallData, PassData, IsSame, Made, NoMore, Looke
 use Rattle.tl_hall.specs.Telling.{told_by}
 use Rattle.tl_script.specs.Scripts.{commands_of}
 use Rattle.tl_run.specs.declared.stop.Outcome.{Outcome}
-use Rattle.tl_run.specs.Output.{Progress, RunData, edit_text, refused_text}
-use Rattle.tl_run.specs.Stops.{IsWritten, IsCut}
+use Rattle.tl_run.specs.Output.{Progress, RunData, start}
+use Rattle.tl_run.specs.Stops.{IsWrittenAs, IsCutAs}
 
 -- what a pass has seen
 abbrev pub seen_in : Option PassData → List Entry
@@ -44,11 +42,6 @@ pub record GoesOn (p q : PassData) : Type 0 where
   pub same : IsSame p q
   pub others : p.sole ≡ true → OnlyWork p.seen q.seen
 
--- The line of an edit: its number, or why it was refused, which was no want of memory.
-abbrev pub IsLineOf : Result ℕ EditFault → List ℕ → Type 0
-IsLineOf (Ok number) line = line ≡ edit_text number
-IsLineOf (Err why) line = (why ≡ edit_fault.Memory → ⊥) × (line ≡ refused_text (code_of why) (number_of why))
-
 -- A report was published, after workers' entries.
 abbrev pub HasPublished : PassData → ℕ → PassData → Type 0
 HasPublished p version q = (r : PassData) × GoesOn p r × Made r (call.Publish version) NoMore q
@@ -60,7 +53,11 @@ IsUnpublished p fault.VersionFull q = (r : PassData) × GoesOn p r × Looked r (
 IsUnpublished p fault.NotReady q = ⊥
 
 -- A script was carried out from its first command on: what was written, how often a write failed before and after, and what is told.
-pub record IsCarriedOut {E : Type 0} (run : RunData) (script : List ℕ) (old new : Option (List ℕ)) (failed fails : ℕ) (told : Result Outcome E) : Type 0 where
-  pub written : IfOk told (λ outcome. IsWritten run.topo script run.boxes outcome old new)
+pub record IsCarriedOut {E : Type 0} (noted : Bool) (run : RunData) (script : List ℕ) (old new : Option (List ℕ)) (failed fails : ℕ) (told : Result Outcome E) : Type 0 where
+  pub written : IfOk told (λ outcome. IsWrittenAs noted run.topo script run.boxes outcome old new)
   pub quiet : OnOk told (fails ≡ failed)
-  pub cut : OnErr told ((fails ≡ failed + 1) × IsCut run.topo (commands_of script) run.boxes old new)
+  pub cut : OnErr told ((fails ≡ failed + 1) × IsCutAs noted run.topo (commands_of script) run.boxes old new)
+
+-- a run that begins
+abbrev pub beginning : Topology → List Watch → RunData
+beginning topo boxes = record { topo = topo; now = start; boxes = boxes }

@@ -1,14 +1,14 @@
 //! The run of a script on a hall that workers call too.
 
-ghost use Rattle.std.specs.Prelude.{◌≡◌, IfOk, IfErr, OnOk, length, string_bytes};
+ghost use Rattle.std.specs.Prelude.{◌≡◌, false, IfOk, IfErr, OnOk, length};
 ghost use Rattle.std.specs.Result.{IsErrOf};
 ghost use Rattle.tl_inputs.specs.Edits.{plain_change, attach};
 ghost use Rattle.tl_desk.specs.declared.call.Call.TheVariants as call;
 ghost use Rattle.tl_hall.specs.Passes.{Made, NoMore, Looked, IsRefused};
 ghost use Rattle.tl_script.specs.Text.{IsCommand};
 ghost use Rattle.tl_run.specs.Commands.{asked, asking, an_edit, a_report};
-ghost use Rattle.tl_run.specs.Output.{IsStep, TakesBox, LacksBox};
-ghost use Rattle.tl_workers.specs.Crew.{HasPublished, IsUnpublished, IsLineOf};
+ghost use Rattle.tl_run.specs.Output.{text_of, IsLinked, IsStep, TakesBox, LacksBox};
+ghost use Rattle.tl_workers.specs.Crew.{HasPublished, IsUnpublished};
 
 use crate::shift::Shift;
 use crate::windows::check_wanted;
@@ -21,8 +21,8 @@ use tl_desk::PublishFault;
 use tl_hall::{Gate, Hall, Pass};
 use tl_inputs::{Change, EditFault};
 use tl_monitor::Monitor;
-use tl_report::{Report, report_text};
-use tl_run::{Asked, Boxes, CommandFault, Runner, asked_by, edit_line, refusal_line};
+use tl_report::Report;
+use tl_run::{Answer, Asked, Boxes, CommandFault, Runner, StopCause, answer_text, asked_by};
 use tl_script::Command;
 use tl_topology::Topo;
 
@@ -58,17 +58,6 @@ fn manager_of(topo: &Topo, change: &Change) -> Option<u16> {
             Some(topo.link(number)?.manager)
         }
         _ => None,
-    }
-}
-
-/// The line of what came of an edit. AllocError where memory is refused, or was.
-fn line_of(alloc: Global, answer: Result<u64, EditFault>) -> Result<String, AllocError>
-    ensures { IfOk result (λ line. IsLineOf answer (string_bytes line)) }
-{
-    match answer {
-        Ok(number) => edit_line(alloc, number),
-        Err(EditFault::Memory) => Err(AllocError),
-        Err(fault) => refusal_line(alloc, fault.code(), fault.number()),
     }
 }
 
@@ -125,11 +114,12 @@ fn published<R: Wait, M: Monitor, G: Gate>(
 }
 
 impl<'x, 'h, 't, 's, R: Wait, M: Monitor, G: Gate> Crew<'x, 'h, 't, 's, R, M, G> {
-    /// The line of an edit that brings no monitor.
-    fn change(&mut self, alloc: Global, change: Change) -> Result<String, AllocError>
+    /// What comes of an edit that brings no monitor.
+    fn change(&mut self, alloc: Global, change: Change) -> Result<Answer, AllocError>
         ensures topo { self.new.topo ≡ self.old.topo }
         ensures boxes { self.new.boxes ≡ self.old.boxes }
-        ensures step { IfOk result (λ line. IsStep self.old.topo self.old.now (an_edit (plain_change change)) (string_bytes line) self.new.now) }
+        ensures step { IfOk result (λ found. IsStep self.old.topo self.old.now (an_edit (plain_change change)) (text_of self.old.topo found) self.new.now) }
+        ensures links { IfOk result (IsLinked self.old.topo) }
     {
         let manager = manager_of(self.topo, &change);
         let pass = self.pass.take().unwrap();
@@ -138,15 +128,16 @@ impl<'x, 'h, 't, 's, R: Wait, M: Monitor, G: Gate> Crew<'x, 'h, 't, 's, R, M, G>
         if answer.is_ok() {
             self.shift.edited(manager);
         }
-        line_of(alloc, answer)
+        Answer::of_edit(answer)
     }
 
-    /// The line of the attachment of the next monitor.
-    fn attach(&mut self, alloc: Global, number: u32, watch: Watch) -> Result<String, CommandFault>
+    /// What comes of the attachment of the next monitor.
+    fn attach(&mut self, alloc: Global, number: u32, watch: Watch) -> Result<Answer, CommandFault>
         ensures topo { self.new.topo ≡ self.old.topo }
         ensures boxes { OnOk result (TakesBox self.old.boxes (an_edit (attach number watch)) self.new.boxes) }
         ensures lacks { IsErrOf result CommandFault.WrongBox → LacksBox self.old.boxes (an_edit (attach number watch)) × (self.new ≡ self.old) }
-        ensures step { IfOk result (λ line. IsStep self.old.topo self.old.now (an_edit (attach number watch)) (string_bytes line) self.new.now) }
+        ensures step { IfOk result (λ found. IsStep self.old.topo self.old.now (an_edit (attach number watch)) (text_of self.old.topo found) self.new.now) }
+        ensures links { IfOk result (IsLinked self.old.topo) }
     {
         let Some(monitor) = self.boxes.next(&watch) else {
             return Err(CommandFault::WrongBox);
@@ -154,14 +145,15 @@ impl<'x, 'h, 't, 's, R: Wait, M: Monitor, G: Gate> Crew<'x, 'h, 't, 's, R, M, G>
         let pass = self.pass.take().unwrap();
         let (pass, answer) = attach_one(self.rt, alloc, self.hall, pass, number, monitor);
         self.pass = Some(pass);
-        Ok(line_of(alloc, answer)?)
+        Ok(Answer::of_edit(answer)?)
     }
 
-    /// The lines of a report of all edits, or of the refusal of one more.
-    fn publish(&mut self, alloc: Global) -> Result<String, AllocError>
+    /// A report of all edits, or the refusal of one more.
+    fn publish(&mut self, alloc: Global) -> Result<Answer, AllocError>
         ensures topo { self.new.topo ≡ self.old.topo }
         ensures boxes { self.new.boxes ≡ self.old.boxes }
-        ensures step { IfOk result (λ lines. IsStep self.old.topo self.old.now a_report (string_bytes lines) self.new.now) }
+        ensures step { IfOk result (λ found. IsStep self.old.topo self.old.now a_report (text_of self.old.topo found) self.new.now) }
+        ensures links { IfOk result (IsLinked self.old.topo) }
     {
         let pass = self.pass.take().unwrap();
         let (pass, answer) = published(self.rt, alloc, self.hall, pass, self.shift);
@@ -172,9 +164,8 @@ impl<'x, 'h, 't, 's, R: Wait, M: Monitor, G: Gate> Crew<'x, 'h, 't, 's, R, M, G>
                 self.pass = Some(pass);
                 match found {
                     Ok(Some(report)) => {
-                        let lines = report_text(alloc, self.topo, &report)?;
-                        self.last = Some(report);
-                        Ok(lines)
+                        self.last = Some(report.copy()?);
+                        Ok(Answer::Report(report))
                     }
                     Ok(None) => unreachable!(),
                     Err(_) => Err(AllocError),
@@ -186,7 +177,7 @@ impl<'x, 'h, 't, 's, R: Wait, M: Monitor, G: Gate> Crew<'x, 'h, 't, 's, R, M, G>
             }
             Err(PublishFault::VersionFull) => {
                 self.pass = Some(pass);
-                refusal_line(alloc, PublishFault::VersionFull.code(), None)
+                Ok(Answer::Refused(PublishFault::VersionFull.code(), None))
             }
             Err(PublishFault::NotReady) => unreachable!(),
         }
@@ -195,6 +186,13 @@ impl<'x, 'h, 't, 's, R: Wait, M: Monitor, G: Gate> Crew<'x, 'h, 't, 's, R, M, G>
 
 impl<'x, 'h, 't, 's, R: Wait, M: Monitor, G: Gate> Runner for Crew<'x, 'h, 't, 's, R, M, G> {
     ghost so_far = { λ c. c };
+
+    ghost noted = { false };
+
+    fn topo(&self) -> &Topo {
+        let _ = &self.boxes;
+        self.topo
+    }
 
     fn ask(&self, alloc: Global, command: &Command<'_>, left: usize) -> Result<Asked, AllocError>
         requires { IsCommand command.now }
@@ -208,13 +206,22 @@ impl<'x, 'h, 't, 's, R: Wait, M: Monitor, G: Gate> Runner for Crew<'x, 'h, 't, '
     }
 
     #[tactic(auto, unfolding(tl_run::specs::Output::IsStep))]
-    fn lines_of(&mut self, alloc: Global, asked: Asked) -> Result<String, CommandFault> {
+    fn answer(&mut self, alloc: Global, asked: Asked) -> Result<Answer, CommandFault> {
         match asked {
             Asked::Change(change) => Ok(self.change(alloc, change)?),
             Asked::Attach(number, watch) => self.attach(alloc, number, watch),
-            Asked::NoFragment(fault) => Ok(refusal_line(alloc, fault.code(), fault.number())?),
+            Asked::NoFragment(fault) => Ok(Answer::Refused(fault.code(), fault.number())),
             Asked::Report => Ok(self.publish(alloc)?),
         }
+    }
+
+    fn text(&self, alloc: Global, answer: &Answer) -> Result<String, AllocError> {
+        let _ = &self.boxes;
+        answer_text(alloc, self.topo, answer)
+    }
+
+    fn stop_notes(&self, alloc: Global, _cause: StopCause, _rest: &[u8]) -> String {
+        String::new(alloc)
     }
 
     fn last_rows(&self) -> u64

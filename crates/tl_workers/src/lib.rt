@@ -8,4 +8,4 @@ mod shift;
 mod texts;
 mod windows;
 
-pub use run::{run_gated, run_with};
+pub use run::{Script, run_gated, run_with, show_with};

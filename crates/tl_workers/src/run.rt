@@ -1,9 +1,10 @@
 //! The run of a script beside workers.
 
-ghost use Rattle.std.specs.Prelude.{◌≡◌, ◌+◌, ◌<◌, ◌≤◌, ◌^◌, List, ℕ, IfOk, OnOk, OnErr, [], true};
+ghost use Rattle.std.specs.Prelude.{◌≡◌, ◌+◌, ◌<◌, ◌≤◌, ◌^◌, List, ℕ, IfOk, OnOk, OnErr, [], true, is_some};
 ghost use Rattle.tl_script.specs.Scripts.{commands_of};
 ghost use Rattle.tl_run.specs.Boxes.{watches_in};
-ghost use Rattle.tl_run.specs.Stops.{IsWritten, IsCut};
+ghost use Rattle.tl_run.specs.Stops.{IsWritten, IsWrittenAs, IsCut, IsCutAs};
+ghost use Rattle.tl_workers.specs.Crew.{IsCarriedOut, beginning};
 
 use crate::crew::Crew;
 use crate::seat::{Seats, seats_beside, serve_all};
@@ -13,8 +14,10 @@ use std::alloc::{AllocError, Global};
 use std::sync::Wait;
 use std::thread::{Threads, join};
 use tl_hall::{Gate, Hall, Helper, Pass};
+use tl_inputs::Log;
 use tl_monitor::Monitor;
-use tl_run::{Boxes, Outcome, Runner, carry_out, run_nothing, run_script};
+use tl_run::{Boxes, Outcome, Runner, Session, carry_out, run_nothing, run_script};
+use tl_show::Showing;
 use tl_text::{ByteOut, WriteFault};
 use tl_topology::Topo;
 
@@ -24,6 +27,11 @@ fn hall_of<M: Monitor>(alloc: Global, topo: &Topo) -> Result<(Hall<M>, Pass<M>),
 {
     let topo = topo.copy(alloc)?;
     Hall::new(alloc, topo)
+}
+
+/// A log without edits on a topology.
+fn log_on(alloc: Global, topo: &Topo) -> Result<Log, AllocError> {
+    Log::new(alloc, topo.copy(alloc)?)
 }
 
 /// Ends a hall: each monitor that is still attached is closed with the number of the last edit, and all are dropped.
@@ -70,7 +78,7 @@ impl<'s, 'o, S: Runner + Drop, O: ByteOut> Task for Errand<'s, 'o, S, O> {
     ghost can_run = { λ t. (O.failure_count t.out.now < 2 ^ 63) × ((S.so_far t.runner).now ≡ start) };
 
     ghost run_gives = { λ t r. (r.0.ghost_name ≡ t.out.ghost_name)
-        × IsCarriedOut (S.so_far t.runner) t.script.now (O.contents t.out.now) (O.contents r.0.now) (O.failure_count t.out.now) (O.failure_count r.0.now) r.1 };
+        × IsCarriedOut S.noted (S.so_far t.runner) t.script.now (O.contents t.out.now) (O.contents r.0.now) (O.failure_count t.out.now) (O.failure_count r.0.now) r.1 };
 
     fn run(self, alloc: Global) -> (&'o mut O, Result<Outcome, WriteFault>) {
         let Errand {
@@ -115,13 +123,77 @@ fn take_back<T>(x: &mut T)
     ensures { x.new ≡ x.old }
 {}
 
+/// A script, the topology that it runs on, and the monitors that its commands attach, in their order.
+pub struct Script<'a, M: Monitor> {
+    /// The topology.
+    pub topo: &'a Topo,
+    /// The script's text.
+    pub text: &'a [u8],
+    /// The monitors.
+    pub boxes: Vec<M>,
+}
+
+/// How a script is run beside workers.
+struct Way<'x, G: Gate> {
+    /// How many workers.
+    workers: u8,
+    /// The gate that it calls.
+    gate: &'x G,
+    /// An empty log of its topology, where its reports are shown.
+    log: Option<Log>,
+}
+
+/// Runs a script on a hall of its own, in which workers help.
+fn run_on_hall<'x, R: Threads + Wait + Sync, M: Monitor + Send, G: Gate + Sync, O: ByteOut>(
+    rt: &'x R,
+    alloc: Global,
+    script: Script<'x, M>,
+    way: Way<'x, G>,
+    out: &mut O,
+) -> Result<Outcome, WriteFault>
+    requires workers { way.workers ≤ 16 }
+    requires out { O.failure_count out.old < 2 ^ 63 }
+    ensures { IsCarriedOut (is_some way.log) (beginning script.topo.now (watches_in M.held script.boxes.items)) script.text.now
+        (O.contents out.old) (O.contents out.new) (O.failure_count out.old) (O.failure_count out.new) result }
+{
+    let Script { topo, text, boxes } = script;
+    let Ok((hall, pass)) = hall_of(alloc, topo) else {
+        return run_nothing(alloc, out);
+    };
+    let own = Shift::new(FragmentTexts::new(alloc, text), way.gate);
+    let lent = &hall;
+    let shift = &own;
+    let (pass, seats) = seats_beside(alloc, lent, pass, way.workers);
+    let (pass, spare) = hall.help(pass);
+    let seats = Seats { seats, shift };
+    let runner = Crew {
+        rt,
+        topo,
+        hall: lent,
+        shift,
+        pass: Some(pass),
+        boxes: Boxes::new(boxes),
+        last: None,
+    };
+    let (back, told) = match way.log {
+        Some(log) => {
+            let runner = Showing::new(runner, log);
+            run_beside(rt, alloc, seats, Errand { runner, script: text, out })
+        }
+        None => run_beside(rt, alloc, seats, Errand { runner, script: text, out }),
+    };
+    take_back(back);
+    close(rt, hall, spare);
+    told
+}
+
 /// Does as `run_with`, and calls a gate: the script's thread and each worker tell it which tickets they took and handed in, and
 /// workers go on while it says so.
 pub fn run_gated<'x, R: Threads + Wait + Sync, M: Monitor + Send, G: Gate + Sync, O: ByteOut>(
     rt: &'x R,
     alloc: Global,
     topo: &'x Topo,
-    script: &[u8],
+    script: &'x [u8],
     boxes: Vec<M>,
     out: &mut O,
     workers: u8,
@@ -137,32 +209,13 @@ pub fn run_gated<'x, R: Threads + Wait + Sync, M: Monitor + Send, G: Gate + Sync
     if workers == 0 {
         return run_script(alloc, topo, script, boxes, out);
     }
-    let Ok((hall, pass)) = hall_of(alloc, topo) else {
-        return run_nothing(alloc, out);
-    };
-    let own = Shift::new(FragmentTexts::new(alloc, script), gate);
-    let lent = &hall;
-    let shift = &own;
-    let (pass, seats) = seats_beside(alloc, lent, pass, workers);
-    let (pass, spare) = hall.help(pass);
-    let runner = Crew {
-        rt,
+    let script = Script {
         topo,
-        hall: lent,
-        shift,
-        pass: Some(pass),
-        boxes: Boxes::new(boxes),
-        last: None,
+        text: script,
+        boxes,
     };
-    let errand = Errand {
-        runner,
-        script,
-        out,
-    };
-    let (back, told) = run_beside(rt, alloc, Seats { seats, shift }, errand);
-    take_back(back);
-    close(rt, hall, spare);
-    told
+    let log = None;
+    run_on_hall(rt, alloc, script, Way { workers, gate, log }, out)
 }
 
 /// A gate that lets everything through.
@@ -198,4 +251,55 @@ pub fn run_with<R: Threads + Wait + Sync, M: Monitor + Send, O: ByteOut>(
         × IsCut topo.now (commands_of script.now) (watches_in M.held boxes.items) (O.contents out.old) (O.contents out.new)) }
 {
     run_gated(rt, alloc, topo, script, boxes, out, workers, &NoGate)
+}
+
+/// Runs a script whose reports are shown, without workers.
+fn show_alone<M: Monitor, O: ByteOut>(
+    alloc: Global,
+    script: Script<'_, M>,
+    log: Log,
+    out: &mut O,
+) -> Result<Outcome, WriteFault>
+    requires { O.failure_count out.old < 2 ^ 63 }
+    ensures { IsCarriedOut true (beginning script.topo.now (watches_in M.held script.boxes.items)) script.text.now
+        (O.contents out.old) (O.contents out.new) (O.failure_count out.old) (O.failure_count out.new) result }
+{
+    let Script { topo, text, boxes } = script;
+    let Ok(session) = Session::new(alloc, topo, boxes) else {
+        return run_nothing(alloc, out);
+    };
+    let mut showing = Showing::new(session, log);
+    let told = carry_out(alloc, &mut showing, text, out);
+    showing.into_runner().finish();
+    told
+}
+
+/// Runs a script as `run_with` does, and shows its reports: it writes the same lines, and notes between them, which begin with two
+/// spaces. WriteFault where a write fails; a front of that was then written.
+pub fn show_with<R: Threads + Wait + Sync, M: Monitor + Send, O: ByteOut>(
+    rt: &R,
+    alloc: Global,
+    script: Script<'_, M>,
+    out: &mut O,
+    workers: u8,
+) -> Result<Outcome, WriteFault>
+    requires workers { workers ≤ 16 }
+    requires out { O.failure_count out.old < 2 ^ 63 }
+    ensures written { IfOk result (λ outcome. IsWrittenAs true script.topo.now script.text.now (watches_in M.held script.boxes.items) outcome (O.contents out.old) (O.contents out.new)) }
+    ensures quiet { OnOk result (O.failure_count out.new ≡ O.failure_count out.old) }
+    ensures failed { OnErr result ((O.failure_count out.new ≡ O.failure_count out.old + 1)
+        × IsCutAs true script.topo.now (commands_of script.text.now) (watches_in M.held script.boxes.items) (O.contents out.old) (O.contents out.new)) }
+{
+    let Ok(log) = log_on(alloc, script.topo) else {
+        return run_nothing(alloc, out);
+    };
+    if workers == 0 {
+        return show_alone(alloc, script, log, out);
+    }
+    let way = Way {
+        workers,
+        gate: &NoGate,
+        log: Some(log),
+    };
+    run_on_hall(rt, alloc, script, way, out)
 }

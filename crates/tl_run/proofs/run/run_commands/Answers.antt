@@ -8,30 +8,30 @@ use Rattle.tl_run.proofs.run.run_commands.Goals as goal
 pub returns-in-Err-clause-come : goal.returns-in-Err-clause-come
 returns-in-Err-clause-come g c =
     let e : command_in c.loop-read.rest.now ≡ Err c.in-Err.fault = sym c.read_command.ensures.exact ∙ c.in-Err.is in
-    rw (c.stopped.ensures, c.last_rows-last_rows.ensures, c.into.ensures) (came_to_fault _ c.args.script.now c.loop-read.rest.now c.loop-read.done _ _ _ _ _ _ c.loop-read.invariant.ran c.in-Err.fault e)
+    rw (c.stopped.ensures, c.last_rows-last_rows.ensures, c.into.ensures) (came_to_fault _ _ c.args.script.now c.loop-read.rest.now c.loop-read.done _ _ _ _ _ _ c.loop-read.invariant.ran c.in-Err.fault e)
 
 pub returns-in_default-clause-come : goal.returns-in_default-clause-come
 returns-in_default-clause-come g c =
     let e : command_in c.loop-read.rest.now ≡ Ok None = sym c.read_command.ensures.exact ∙ c.in-Ok.is ∙ ap (λ r. Ok r) c.in_default.is in
-    rw (c.last_rows-last_rows.ensures) (came_to_end _ c.args.script.now c.loop-read.rest.now c.loop-read.done _ _ _ _ _ _ c.loop-read.invariant.ran e)
+    rw (c.last_rows-last_rows.ensures) (came_to_end _ _ c.args.script.now c.loop-read.rest.now c.loop-read.done _ _ _ _ _ _ c.loop-read.invariant.ran e)
 
 pub run_command-requires-clause-lawful : goal.run_command-requires-clause-lawful
 run_command-requires-clause-lawful g c =
     let e : command_in c.loop-read.rest.now ≡ Ok (Some (c.in-Some.command, c.in-Some.taken)) = sym c.read_command.ensures.exact ∙ c.in-Ok.is ∙ ap (λ r. Ok r) c.in-Some.is in
-    lawful _ c.args.script.now c.loop-read.rest.now c.loop-read.done _ _ _ _ _ _ c.loop-read.invariant.ran c.in-Some.command c.in-Some.taken e
+    lawful _ _ c.args.script.now c.loop-read.rest.now c.loop-read.done _ _ _ _ _ _ c.loop-read.invariant.ran c.in-Some.command c.in-Some.taken e
 
 pub returns-in-Err-Memory-clause-come : goal.returns-in-Err-Memory-clause-come
 returns-in-Err-Memory-clause-come g c =
     let same = c.run_command.ensures.memory (search rules) in
     rw (c.stopped-in-Err-Memory.ensures, c.last_rows-last_rows.ensures)
-    (came_to_want _ c.args.script.now c.loop-read.rest.now c.loop-read.done _ _ _ _ _ _ c.loop-read.invariant.ran _ _ (ap (λ o. g.O.ByteOut.contents o) same.0) same.1)
+    (came_to_want _ _ c.args.script.now c.loop-read.rest.now c.loop-read.done _ _ _ _ _ _ c.loop-read.invariant.ran _ _ (ap (λ o. g.O.ByteOut.contents o) same.0) same.1)
 
 pub returns-in-Err-WrongBox-clause-come : goal.returns-in-Err-WrongBox-clause-come
 returns-in-Err-WrongBox-clause-come g c =
     let e : command_in c.loop-read.rest.now ≡ Ok (Some (c.in-Some.command, c.in-Some.taken)) = sym c.read_command.ensures.exact ∙ c.in-Ok.is ∙ ap (λ r. Ok r) c.in-Some.is in
     let lacks = c.run_command.ensures.lacks (search rules) in
     rw (c.stopped-in-Err-WrongBox.ensures, c.last_rows-last_rows.ensures)
-    (came_to_lack _ c.args.script.now c.loop-read.rest.now c.loop-read.done _ _ _ _ _ _ c.loop-read.invariant.ran c.in-Some.command c.in-Some.taken _ _ e lacks.0 (ap (λ o. g.O.ByteOut.contents o) lacks.1) lacks.2)
+    (came_to_lack _ _ c.args.script.now c.loop-read.rest.now c.loop-read.done _ _ _ _ _ _ c.loop-read.invariant.ran c.in-Some.command c.in-Some.taken _ _ e lacks.0 (ap (λ o. g.O.ByteOut.contents o) lacks.1) lacks.2)
 
 pub returns-in-Err-WriteFault-clause-failed : goal.returns-in-Err-WriteFault-clause-failed
 returns-in-Err-WriteFault-clause-failed g c =
@@ -39,7 +39,7 @@ returns-in-Err-WriteFault-clause-failed g c =
     let failed = c.run_command.ensures.failed (search rules) in
     let step = subst (λ t. IsStep t (g.S.Runner.so_far c.loop-read.runner).now (asked c.in-Some.command) failed.1.0 (g.S.Runner.so_far c.run_command.new.runner).now) c.loop-read.invariant.topo failed.1.1 in (
       failed.0 ∙ ap (λ n. n + 1) c.loop-read.invariant.quiet,
-      cut_there _ c.args.script.now c.loop-read.rest.now c.loop-read.done _ _ _ _ _ _ c.loop-read.invariant.ran c.in-Some.command c.in-Some.taken failed.1.0 (g.S.Runner.so_far c.run_command.new.runner).now _ _ e step failed.1.2
+      cut_there _ _ c.args.script.now c.loop-read.rest.now c.loop-read.done _ _ _ _ _ _ c.loop-read.invariant.ran c.in-Some.command c.in-Some.taken failed.1.0 (g.S.Runner.so_far c.run_command.new.runner).now _ _ e step failed.1.2
           (failed.1.3 (g.O.ByteOut.contents c.args.out.now)),
     )
 
@@ -51,6 +51,6 @@ loop-read-preserved g c =
     record {
       topo = c.in-Ok-run_command.ensures.topo ∙ c.loop-read.invariant.topo;
       quiet = c.in-Ok-run_command.ensures.quiet ∙ c.loop-read.invariant.quiet;
-      ran = rw (c.behind-rest.ensures) (ran_more _ c.args.script.now c.loop-read.rest.now c.loop-read.done _ _ _ _ _ _ _ _ _ _ c.in-Some.command c.in-Some.taken went.0 c.loop-read.invariant.ran e step went.2
+      ran = rw (c.behind-rest.ensures) (ran_more _ _ c.args.script.now c.loop-read.rest.now c.loop-read.done _ _ _ _ _ _ _ _ _ _ c.in-Some.command c.in-Some.taken went.0 c.loop-read.invariant.ran e step went.2
           (went.3 (g.O.ByteOut.contents c.args.out.now)));
     }

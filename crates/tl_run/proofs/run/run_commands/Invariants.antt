@@ -7,7 +7,7 @@ abbrev pub invariant-loop-read : goal.invariant-loop-read
 invariant-loop-read g l = record {
   topo : (g.S.Runner.so_far l.runner).topo ≡ (g.S.Runner.so_far l.fn.runner).topo;
   quiet : g.O.ByteOut.failure_count l.out ≡ g.O.ByteOut.failure_count l.fn.out;
-  ran : Ran (g.S.Runner.so_far l.fn.runner).topo l.script l.rest l.done (g.S.Runner.so_far l.fn.runner).boxes (g.S.Runner.so_far l.runner).boxes (g.S.Runner.so_far l.runner).now (g.O.ByteOut.contents l.fn.out) (g.O.ByteOut.contents l.out) (string_bytes l.gathered);
+  ran : Ran g.S.Runner.noted (g.S.Runner.so_far l.fn.runner).topo l.script l.rest l.done (g.S.Runner.so_far l.fn.runner).boxes (g.S.Runner.so_far l.runner).boxes (g.S.Runner.so_far l.runner).now (g.O.ByteOut.contents l.fn.out) (g.O.ByteOut.contents l.out) (string_bytes l.gathered);
 }
 
 abbrev pub decreases-loop-read : goal.decreases-loop-read

@@ -1,7 +1,7 @@
 use Rattle.std.proofs.Common.{◌≡◌, None, refl, rules}
 use Rattle.tl_report.proofs.Texts.{in_words}
 use Rattle.tl_run.specs.Output.{refused_text}
-use Rattle.tl_run.proofs.session.refusal_line.Goals as goal
+use Rattle.tl_run.proofs.answer.refusal_line.Goals as goal
 
 pub returns-in-None : goal.returns-in-None
 unfolding refused_text

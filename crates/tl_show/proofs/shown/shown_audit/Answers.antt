@@ -1,0 +1,7 @@
+use Rattle.std.proofs.Common.{sym, subst, ◌∙◌}
+use Rattle.tl_report.specs.Notes.{IsNoted}
+use Rattle.tl_report.proofs.NoteLaws.{audit_head_is_plain}
+use Rattle.tl_show.proofs.shown.shown_audit.Goals as goal
+
+pub with_lines-requires-clause-head : goal.with_lines-requires-clause-head
+with_lines-requires-clause-head c = subst (λ t. IsNoted t t) (sym (c.as_str.ensures.value ∙ c.in_ok-head.ensures)) (audit_head_is_plain c.args.edit _)

@@ -1,0 +1,50 @@
+//! Lines of a text, as they can be shown.
+
+ghost use Rattle.std.specs.Prelude.{◌≡◌, true};
+ghost use Rattle.tl_report.specs.Notes.{is_unbroken};
+
+use std::str;
+use tl_text::line;
+
+/// The most bytes of a line that are shown.
+const MOST_SHOWN: usize = 100;
+
+const RETURN: u8 = b'\r';
+
+const DELETE: u8 = 0x7f;
+
+/// What stands for bytes that can't be shown.
+const NO_TEXT: &str = "bytes that are no text";
+
+/// The first bytes of a line, at most 100, without a carriage return at their end.
+fn front_of(bytes: &[u8]) -> &[u8] {
+    let length = match bytes.last() {
+        Some(last) if *last == RETURN => bytes.len() - 1,
+        _ => bytes.len(),
+    };
+    &bytes[..length.min(MOST_SHOWN)]
+}
+
+/// Bytes as they can be shown, at most 100 and without a carriage return at the end; none with control characters.
+pub fn shown(bytes: &[u8]) -> &str
+    ensures { is_unbroken result.now ≡ true }
+{
+    let start = front_of(bytes);
+    for byte in start {
+        if *byte < b' ' || *byte == DELETE {
+            return NO_TEXT;
+        }
+    }
+    match str::from_utf8(start) {
+        Ok(text) => text,
+        Err(_) => NO_TEXT,
+    }
+}
+
+/// The first line of a text, or all of it where it has no newline.
+pub fn first_line(text: &[u8]) -> &[u8] {
+    match line(text) {
+        Some((found, _)) => found,
+        None => text,
+    }
+}

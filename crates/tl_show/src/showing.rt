@@ -1,0 +1,176 @@
+//! Runs and reports that are shown.
+
+ghost use Rattle.std.specs.Prelude.{◌≡◌, [], true, IfOk, IfSome, length, string_bytes};
+ghost use Rattle.tl_report.specs.Notes.{is_unbroken, IsNoted};
+ghost use Rattle.tl_script.specs.Text.{IsCommand};
+ghost use Rattle.tl_run.specs.Commands.{asked, asking};
+ghost use Rattle.tl_run.specs.Output.{RunData};
+
+use crate::quote::{first_line, shown};
+use crate::shown::{shown_audit, shown_report};
+use std::alloc::{AllocError, Global};
+use std::marker::Model;
+use tl_beats::Row;
+use tl_inputs::{Edit, EditFault, Inputs, Log};
+use tl_report::{Form, Report};
+use tl_run::{Answer, Asked, CommandFault, Runner, StopCause, edit_line, refusal_line};
+use tl_script::Command;
+use tl_topology::Topo;
+
+/// Rows with what makes them so, between the lines of a report.
+pub struct Shown;
+
+impl Form for Shown {
+    ghost noted = { true };
+
+    fn report(&self, alloc: Global, inputs: &Inputs, report: &Report) -> Result<String, AllocError> {
+        shown_report(alloc, inputs.topo(), inputs.present(), report)
+    }
+
+    fn audit(
+        &self,
+        alloc: Global,
+        inputs: &Inputs,
+        edit: u64,
+        rows: &[Row],
+    ) -> Result<String, AllocError> {
+        shown_audit(alloc, inputs.topo(), inputs.present(), edit, rows)
+    }
+}
+
+/// A run whose reports are shown. It keeps the edits that were accepted, since these tell what the rows of a report mean.
+#[derive(Drop)]
+pub struct Showing<S: Runner + Drop> {
+    runner: S,
+    log: Log,
+}
+
+impl<S: Runner + Drop> Model for Showing<S> {
+    ghost use Rattle.tl_run.specs.Output.{RunData};
+
+    ghost Value = { RunData };
+
+    ghost view = { λ s. S.so_far s.runner };
+}
+
+impl<S: Runner + Drop> Showing<S> {
+    /// The run, whose accepted edits are kept in this log.
+    pub fn new(runner: S, log: Log) -> Showing<S>
+        ensures { result ≡ S.so_far runner }
+    {
+        Showing { runner, log }
+    }
+
+    /// The run that was shown.
+    pub fn into_runner(self) -> S
+        ensures { S.so_far result ≡ self }
+    {
+        self.runner
+    }
+}
+
+/// The edit that a command asks for, if it asks for one.
+fn edit_of(asked: &Asked) -> Result<Option<Edit>, AllocError> {
+    Ok(match asked {
+        Asked::Change(change) => Some(Edit::Change(change.copy()?)),
+        Asked::Attach(number, watch) => Some(Edit::Attach(*number, *watch)),
+        Asked::NoFragment(_) | Asked::Report => None,
+    })
+}
+
+/// Keeps an edit that was accepted.
+fn keep(log: &mut Log, edit: Edit) -> Result<(), CommandFault> {
+    match log.push(edit) {
+        Err(EditFault::Memory) => Err(CommandFault::Memory),
+        Ok(_) | Err(_) => Ok(()),
+    }
+}
+
+/// A note with this text.
+fn note(alloc: Global, text: &str) -> Result<String, AllocError>
+    requires { is_unbroken text.now ≡ true }
+    ensures { IfOk result (λ note. IsNoted [] (string_bytes note)) }
+{
+    format!(in alloc; "  {text}\n")
+}
+
+/// What is wrong where a script stops.
+fn wrong_there(cause: StopCause) -> Option<&'static str>
+    ensures { IfSome result (λ what. is_unbroken what.now ≡ true) }
+{
+    match cause {
+        StopCause::Memory => None,
+        StopCause::BadCommand => {
+            Some("this is no command: tlcheck explain 41 has the form of each")
+        }
+        StopCause::Truncated => Some("the script ends inside this command"),
+        StopCause::WrongBox => Some("the next monitor is missing or watches something else"),
+    }
+}
+
+/// The line that a script stops at, and what is wrong there, as notes; none where memory was refused.
+fn notes_of(alloc: Global, cause: StopCause, rest: &[u8]) -> Result<String, AllocError>
+    ensures { IfOk result (λ notes. IsNoted [] (string_bytes notes)) }
+{
+    let Some(what) = wrong_there(cause) else {
+        return Ok(String::new(alloc));
+    };
+    let mut notes = note(alloc, shown(first_line(rest)))?;
+    let last = note(alloc, what)?;
+    notes.push_str(last.as_str())?;
+    Ok(notes)
+}
+
+impl<S: Runner + Drop> Runner for Showing<S> {
+    ghost so_far = { λ s. s };
+
+    ghost noted = { true };
+
+    fn topo(&self) -> &Topo {
+        let _ = &self.log;
+        self.runner.topo()
+    }
+
+    fn ask(&self, alloc: Global, command: &Command<'_>, left: usize) -> Result<Asked, AllocError>
+        requires { IsCommand command.now }
+        ensures { IfOk result (λ found. asking found ≡ asked command.now) }
+    {
+        let _ = &self.log;
+        self.runner.ask(alloc, command, left)
+    }
+
+    fn answer(&mut self, alloc: Global, asked: Asked) -> Result<Answer, CommandFault> {
+        let edit = edit_of(&asked)?;
+        let answer = self.runner.answer(alloc, asked)?;
+        if let Some(edit) = edit
+            && matches!(answer, Answer::Edit(_))
+        {
+            keep(&mut self.log, edit)?;
+        }
+        Ok(answer)
+    }
+
+    fn text(&self, alloc: Global, answer: &Answer) -> Result<String, AllocError> {
+        match answer {
+            Answer::Edit(number) => edit_line(alloc, *number),
+            Answer::Refused(code, number) => refusal_line(alloc, *code, *number),
+            Answer::Report(report) => {
+                let present = self.log.inputs().present();
+                shown_report(alloc, self.runner.topo(), present, report)
+            }
+        }
+    }
+
+    fn stop_notes(&self, alloc: Global, cause: StopCause, rest: &[u8]) -> String {
+        match notes_of(alloc, cause, rest) {
+            Ok(notes) => notes,
+            Err(_) => String::new(alloc),
+        }
+    }
+
+    fn last_rows(&self) -> u64
+        ensures { result ≡ length self.now.now.rows }
+    {
+        self.runner.last_rows()
+    }
+}

@@ -1,11 +1,11 @@
 //! What `--deny` makes a fault: that something was refused, or that no beat was checked.
 
-use std::alloc::Global;
+use std::alloc::{AllocError, Global};
 use std::fmt;
 use std::sync::Arc;
 use tl_beats::Fragment;
 use tl_run::{AuditFault, log_of};
-use tl_script::{Command, read_command};
+use tl_script::{Command, Spot, Visitor, visit_all};
 use tl_topology::Topo;
 
 /// The most reports of a script; a further one is refused.
@@ -45,8 +45,22 @@ struct Asked {
     edits: u64,
     /// How many reports.
     reports: u64,
-    /// How many bytes of the script stand before what no report looks at.
-    checked: usize,
+    /// How many bytes of the script are left after the last report.
+    unchecked: usize,
+}
+
+impl<'s> Visitor<'s> for Asked {
+    ghost has_seen = { λ _ _ _. Unit {0} };
+
+    fn visit(&mut self, command: &Command<'s>, spot: Spot<'s>) -> Result<(), AllocError> {
+        if matches!(command, Command::Publish) {
+            self.reports = self.reports.saturating_add(1);
+            self.unchecked = spot.rest.len().saturating_sub(spot.taken);
+        } else {
+            self.edits = self.edits.saturating_add(1);
+        }
+        Ok(())
+    }
 }
 
 /// What the commands of a script ask for, up to its end or its first bad command.
@@ -54,23 +68,9 @@ fn asked_in(script: &[u8]) -> Asked {
     let mut asked = Asked {
         edits: 0,
         reports: 0,
-        checked: 0,
+        unchecked: script.len(),
     };
-    let mut rest = script;
-    let mut used = 0_usize;
-    for _ in 0..u64::MAX {
-        let Some((command, taken)) = read_command(rest).ok().flatten() else {
-            return asked;
-        };
-        rest = &rest[taken..];
-        used = used.saturating_add(taken);
-        if matches!(command, Command::Publish) {
-            asked.reports = asked.reports.saturating_add(1);
-            asked.checked = used;
-        } else {
-            asked.edits = asked.edits.saturating_add(1);
-        }
-    }
+    let _ = visit_all(script, &mut asked);
     asked
 }
 
@@ -130,7 +130,8 @@ impl Deny {
         {
             return Ok(Some(Denial::Refused));
         }
-        let checked = script.get(..asked.checked).unwrap_or(script);
+        let checked = script.len().saturating_sub(asked.unchecked);
+        let checked = script.get(..checked).unwrap_or(script);
         if self.empty && has_no_beat(alloc, topo, checked, None)? {
             return Ok(Some(Denial::Empty));
         }

@@ -9,7 +9,7 @@ use std::alloc::{AllocError, Global};
 use tl_beats::FragmentFault;
 use tl_inputs::{Edit, EditFault, Log};
 use tl_run::{Asked, asked_by};
-use tl_script::{Command, ScriptFault, read_command};
+use tl_script::{Command, ScriptFault, Spot, Visitor, visit_all};
 use tl_show::first_line;
 use tl_topology::Topo;
 
@@ -172,50 +172,66 @@ fn before_next(command: &Command<'_>) -> Before {
     }
 }
 
-/// Puts the sentences of a script behind a text, and answers how many of its commands are refused.
-fn push_sentences(
+/// The sentences of a script's refused commands.
+#[derive(Drop)]
+struct Refusals<'a> {
     alloc: Global,
-    log: &mut Log,
-    bytes: &[u8],
-    script: Script<'_>,
-    text: &mut String,
-) -> Result<u64, AllocError> {
-    let mut rest = bytes;
-    let mut number = script.first;
-    let mut before = Before::Nothing;
-    let mut refused = 0_u64;
-    for done in 0..u64::MAX {
-        let mark = Mark {
+    script: Script<'a>,
+    /// What the commands so far left.
+    log: Log,
+    /// The number of the next command's line.
+    number: u64,
+    /// What stands before it.
+    before: Before,
+    /// How many commands were refused.
+    refused: u64,
+    text: String,
+}
+
+impl<'a> Refusals<'a> {
+    /// Those before the first command of a script.
+    fn new(alloc: Global, topo: &Topo, script: Script<'a>) -> Result<Refusals<'a>, AllocError> {
+        Ok(Refusals {
+            alloc,
             script,
-            command: done + 1,
+            log: Log::new(alloc, topo.copy(alloc)?)?,
+            number: script.first,
+            before: Before::Nothing,
+            refused: 0,
+            text: String::new(alloc),
+        })
+    }
+
+    /// A command before which this is left of the script.
+    fn mark<'t>(&self, script: Script<'t>, command: u64, rest: &'t [u8]) -> Mark<'t> {
+        Mark {
+            script,
+            command,
             line: Line {
-                number,
+                number: self.number,
                 text: first_line(rest),
             },
-        };
-        let read = match read_command(rest) {
-            Ok(read) => read,
-            Err(fault) => {
-                let sentence = stop_sentence(alloc, mark, rest, before, fault)?;
-                text.push_str(sentence.as_str())?;
-                return Ok(refused);
-            }
-        };
-        let Some((command, taken)) = read else {
-            return Ok(refused);
-        };
-        if let Some(refusal) = refusal_of(alloc, log, &command)? {
-            refused = refused.saturating_add(1);
-            if refused <= script.most {
-                let topo = log.inputs().topo();
-                push_refusal(alloc, mark, command.bytes(), refusal, topo, text)?;
+        }
+    }
+}
+
+impl<'a, 's> Visitor<'s> for Refusals<'a> {
+    ghost has_seen = { λ _ _ _. Unit {0} };
+
+    fn visit(&mut self, command: &Command<'s>, spot: Spot<'s>) -> Result<(), AllocError> {
+        let mark = self.mark(self.script, spot.number, spot.rest);
+        if let Some(refusal) = refusal_of(self.alloc, &mut self.log, command)? {
+            self.refused = self.refused.saturating_add(1);
+            if self.refused <= self.script.most {
+                let topo = self.log.inputs().topo();
+                let bytes = command.bytes();
+                push_refusal(self.alloc, mark, bytes, refusal, topo, &mut self.text)?;
             }
         }
-        before = before_next(&command);
-        number = number.saturating_add(line_count(&rest[..taken]));
-        rest = &rest[taken..];
+        self.before = before_next(command);
+        self.number = self.number.saturating_add(line_count(&spot.rest[..spot.taken]));
+        Ok(())
     }
-    Ok(refused)
 }
 
 /// What the run of a script refused, the first of it, and where it stopped, in sentences; empty where it did neither. AllocError
@@ -226,15 +242,20 @@ pub(crate) fn script_sentences(
     bytes: &[u8],
     script: Script<'_>,
 ) -> Result<String, AllocError> {
-    let mut text = String::new(alloc);
-    let mut log = Log::new(alloc, topo.copy(alloc)?)?;
-    let refused = push_sentences(alloc, &mut log, bytes, script, &mut text)?;
+    let mut refusals = Refusals::new(alloc, topo, script)?;
+    let end = visit_all(bytes, &mut refusals)?;
+    if let Some(fault) = end.fault {
+        let mark = refusals.mark(script, end.commands.saturating_add(1), end.rest);
+        let sentence = stop_sentence(alloc, mark, end.rest, refusals.before, fault)?;
+        refusals.text.push_str(sentence.as_str())?;
+    }
+    let refused = refusals.refused;
     let most = script.most;
     if 0 < most && most < refused {
         let last = format!(in alloc;
             "  {refused} commands were refused; these are the first {most}\n"
         )?;
-        text.push_str(last.as_str())?;
+        refusals.text.push_str(last.as_str())?;
     }
-    Ok(text)
+    Ok(refusals.text)
 }

@@ -11,8 +11,7 @@ use Rattle.tl_script.specs.declared.command.Command.{Command}
 use Rattle.tl_script.specs.declared.fault.ScriptFault.{ScriptFault}
 use Rattle.tl_script.specs.Reading.{command_in}
 use Rattle.tl_script.specs.Scripts.{Script, script_by, commands_of, fault_of}
-use Rattle.tl_script.proofs.CommandTexts.{takes_some}
-use Rattle.tl_script.proofs.ScriptLaws.{first_command_then_others}
+use Rattle.tl_script.proofs.ReadCommands.{IsRead, none_read, one_read, all_read, fault_read, first_are, few_are}
 use Rattle.tl_beats.specs.declared.watch.Watch.{Watch}
 use Rattle.tl_run.specs.Commands.{asked, attached_by, watches_of}
 use Rattle.tl_inputs.specs.Edits.{AnEdit}
@@ -30,61 +29,6 @@ use Rattle.tl_report.specs.Notes.{Tells, IsNoted, is_note}
 use Rattle.tl_report.proofs.NoteLaws.{tells_nil, tells_more, tells_plain, put_plain}
 use Rattle.tl_run.proofs.LineLaws.{nothing_said, last_tells}
 use Rattle.tl_run.proofs.OutputLaws.{output_more}
-
--- these commands, and then those of what is left
-abbrev pub behind_them : List Command → Script → Script
-behind_them before rest = record { commands = before ++ rest.commands; fault = rest.fault }
-
--- So many commands were read, and these bytes are left.
-pub record IsRead (script rest : List ℕ) (before : List Command) (count : ℕ) : Type 0 where
-  pub splits : commands_of script ≡ behind_them before (commands_of rest)
-  pub counted : length before ≡ count
-  pub short : count + length rest ≤ length script
-
-pub none_read : (script : List ℕ) → IsRead script script [] 0
-none_read script = record { splits = refl; counted = refl; short = omega arith }
-
-abbrev Read : Type 0
-Read = Result (Option (Command × ℕ)) ScriptFault
-
-by_reading : (rest : List ℕ) (read : Read) → command_in rest ≡ read → commands_of rest ≡ script_by read (λ taken. commands_of (drop taken rest))
-by_reading rest read e = first_command_then_others rest ∙ ap (λ (r : Read). script_by r (λ taken. commands_of (drop taken rest))) e
-
-pub one_read : (script rest : List ℕ) (before : List Command) (count : ℕ) (c : Command) (taken : ℕ) → IsRead script rest before count → command_in rest ≡ Ok (Some (c, taken))
-    → IsRead script (drop taken rest) (before ++ c ∷ []) (count + 1)
-one_read script rest before count c taken is e =
-    let some = takes_some rest c taken e in
-    let here = by_reading rest (Ok (Some (c, taken))) e in
-    record {
-      splits = is.splits ∙ ap (behind_them before) here ∙ ap (λ cs. record { commands = cs; fault = (commands_of (drop taken rest)).fault }) (sym (append_assoc before (c ∷ []) (commands_of (drop taken rest)).commands));
-      counted = length-append before (c ∷ []) ∙ ap (λ n. n + 1) is.counted;
-      short = omega (arith, length-drop taken rest, some.0, some.1, is.short);
-    }
-
-pub all_read : (script rest : List ℕ) (before : List Command) (count : ℕ) → IsRead script rest before count → command_in rest ≡ Ok None
-    → ((commands_of script).commands ≡ before) × ((commands_of script).fault ≡ None)
-all_read script rest before count is e =
-    let here = by_reading rest (Ok None) e in
-    let whole = is.splits ∙ ap (behind_them before) here in
-    (ap (λ (s : Script). s.commands) whole ∙ append-nil before, ap (λ (s : Script). s.fault) whole)
-
-pub fault_read : (script rest : List ℕ) (before : List Command) (count : ℕ) (found : ScriptFault) → IsRead script rest before count → command_in rest ≡ Err found
-    → ((commands_of script).commands ≡ before) × (fault_of (commands_of script) ≡ Some (count + 1, found))
-fault_read script rest before count found is e =
-    let here = by_reading rest (Err found) e in
-    let whole = is.splits ∙ ap (behind_them before) here in
-    let commands = ap (λ (s : Script). s.commands) whole ∙ append-nil before in
-    (commands, ap fault_of whole ∙ ap (λ n. Some (n + 1, found)) (ap (λ (cs : List Command). length cs) (append-nil before) ∙ is.counted))
-
--- the commands that were read are the first so many
-pub first_are : (script rest : List ℕ) (before : List Command) (count : ℕ) → IsRead script rest before count → take count (commands_of script).commands ≡ before
-first_are script rest before count is =
-    ap (λ (s : Script). take count s.commands) is.splits ∙ ap (λ n. take n (before ++ (commands_of rest).commands)) (sym is.counted) ∙ take-append_seam before (commands_of rest).commands
-
-pub few_are : (script rest : List ℕ) (before : List Command) (count : ℕ) → IsRead script rest before count → count ≤ length (commands_of script).commands
-few_are script rest before count is =
-    let whole : length (commands_of script).commands ≡ length before + length (commands_of rest).commands = ap (λ (s : Script). length s.commands) is.splits ∙ length-append before (commands_of rest).commands in
-    omega (arith, whole, is.counted)
 
 -- ---- and their lines
 
@@ -325,30 +269,21 @@ accepted_more : (topo : Topology) (edits : List AnEdit) (cs : List Command) (c :
 accepted_more topo edits [] c = refl
 accepted_more topo edits (d ∷ cs) c = accepted_more topo (edits_with topo edits (asked d)) cs c
 
--- So many commands were read, and these edits of them were accepted.
-pub record Applied (topo : Topology) (script rest : List ℕ) (done : ℕ) (edits : List AnEdit) : Type 0 where
-  pub before : List Command
-  pub read : IsRead script rest before done
-  pub are : edits ≡ accepted topo [] before
+-- The edits of one command more.
+pub more_accepted : (topo now_topo : Topology) (edits now next : List AnEdit) (before : List Command) (c : Command) → now_topo ≡ topo → now ≡ accepted topo edits before → next ≡ edits_with now_topo now (asked c) → next ≡ accepted topo edits (before ++ c ∷ [])
+more_accepted topo now_topo edits now next before c same was then =
+    then ∙ ap (λ t. edits_with t now (asked c)) same ∙ ap (λ es. edits_with topo es (asked c)) was ∙ sym (accepted_more topo edits before c)
 
-pub applied_none : (topo : Topology) (script : List ℕ) (edits : List AnEdit) → edits ≡ [] → Applied topo script script 0 edits
-applied_none topo script edits none = record { before = []; read = none_read script; are = none }
+-- how a script ends that was seen whole
+fault_none : (script : Script) (done : ℕ) → None ≡ fault_of script → script.fault ≡ None
+fault_none script done e = none_of script.fault e
+  where
+    none_of : (found : Option ScriptFault) → None ≡ option_map (λ f. (length script.commands + 1, f)) found → found ≡ None
+    none_of None e = refl
+    none_of (Some f) e = absurd cc
 
-module _ (topo : Topology) (script rest : List ℕ) (done : ℕ) (edits : List AnEdit) (so : Applied topo script rest done edits) where
-  pub applied_more : (c : Command) (taken : ℕ) (next : List AnEdit) → command_in rest ≡ Ok (Some (c, taken)) → next ≡ edits_with topo edits (asked c) → Applied topo script (drop taken rest) (done + 1) next
-  applied_more c taken next e is = record {
-    before = so.before ++ c ∷ [];
-    read = one_read script rest so.before done c taken so.read e;
-    are = is ∙ ap (λ es. edits_with topo es (asked c)) so.are ∙ sym (accepted_more topo [] so.before c);
-  }
+pub seen_whole : (script : List ℕ) → None ≡ fault_of (commands_of script) → (commands_of script).fault ≡ None
+seen_whole script e = fault_none (commands_of script) 0 e
 
-  pub applied_lawful : (c : Command) (taken : ℕ) → command_in rest ≡ Ok (Some (c, taken)) → IsCommand c
-  applied_lawful c taken e = (reads_are_spelled rest c taken e).0
-
-  pub applied_all : command_in rest ≡ Ok None → (edits ≡ edits_of topo script) × ((commands_of script).fault ≡ None)
-  applied_all e =
-      let all = all_read script rest so.before done so.read e in
-      (so.are ∙ ap (accepted topo []) (sym all.0), all.1)
-
-  pub applied_to_fault : (found : ScriptFault) → command_in rest ≡ Err found → IsStopAt script (record { cause = of_script found; command = done + 1 })
-  applied_to_fault found e = (found, (fault_read script rest so.before done found so.read e).1, refl)
+pub seen_stop : (script : List ℕ) (done : ℕ) (found : ScriptFault) → Some (done + 1, found) ≡ fault_of (commands_of script) → IsStopAt script (record { cause = of_script found; command = done + 1 })
+seen_stop script done found e = (found, sym e, refl)

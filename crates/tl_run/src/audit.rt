@@ -16,14 +16,13 @@ ghost use Rattle.tl_run.specs.declared.stop.Stop.{Stop as AnyStop};
 ghost use Rattle.tl_run.specs.declared.audit.AuditFault.TheVariants.{Memory, WriteFault as Unwritten};
 
 use crate::asked::{Asked, asked_by};
-use crate::run::behind;
 use crate::stop::Stop;
 use std::alloc::{AllocError, Global};
 use thiserror::Error;
 use tl_inputs::{Edit, EditFault, Log, PastFault};
 use tl_plain::scratch;
 use tl_report::{Form, Plain};
-use tl_script::{Command, ScriptFault, read_command};
+use tl_script::{Command, ScriptFault, Spot, Visitor, visit_all};
 use tl_text::{ByteOut, WriteFault, write_all};
 use tl_topology::Topo;
 
@@ -96,6 +95,24 @@ impl From<PastFault> for AuditFault {
     }
 }
 
+/// A log that the edits of a script are added to. Its publishes ask for nothing.
+#[derive(Drop)]
+struct Edits {
+    alloc: Global,
+    log: Log,
+}
+
+impl<'s> Visitor<'s> for Edits {
+    ghost use Rattle.std.specs.Prelude.{◌≡◌};
+    ghost use Rattle.tl_run.specs.Output.{accepted};
+
+    ghost has_seen = { λ first now before. (now.log.topo ≡ first.log.topo) × (now.log.edits ≡ accepted first.log.topo first.log.edits before) };
+
+    fn visit(&mut self, command: &Command<'s>, _spot: Spot<'s>) -> Result<(), AllocError> {
+        push_asked(self.alloc, &mut self.log, command)
+    }
+}
+
 /// The accepted edits of a script. Its publishes ask for nothing. Stop where the script stops, at any command, and Memory where
 /// memory is refused.
 pub fn log_of(alloc: Global, topo: &Topo, script: &[u8]) -> Result<Log, AuditFault>
@@ -103,25 +120,17 @@ pub fn log_of(alloc: Global, topo: &Topo, script: &[u8]) -> Result<Log, AuditFau
     ensures whole { OnOk result ((commands_of script.now).fault ≡ None) }
     ensures stopped { IfErr result (λ fault. IsStopped script.now fault) }
 {
-    let mut log = Log::new(alloc, topo.copy(alloc)?)?;
-    let mut rest = script;
-    let mut done = 0;
-    loop {
-        let read = match read_command(rest) {
-            Ok(read) => read,
-            Err(fault) => return Err(AuditFault::Stop(stop_behind(done, fault))),
-        };
-        let Some((command, taken)) = read else {
-            return Ok(log);
-        };
-        push_asked(alloc, &mut log, &command)?;
-        rest = behind(rest, taken);
-        done += 1;
+    let log = Log::new(alloc, topo.copy(alloc)?)?;
+    let mut edits = Edits { alloc, log };
+    let end = visit_all(script, &mut edits)?;
+    match end.fault {
+        Some(fault) => Err(AuditFault::Stop(stop_after(end.commands, fault))),
+        None => Ok(edits.log),
     }
 }
 
-/// Where a script stops behind so many commands.
-fn stop_behind(done: u64, fault: ScriptFault) -> Stop
+/// Where a script stops after so many commands.
+fn stop_after(done: u64, fault: ScriptFault) -> Stop
     requires { done < 2 ^ 63 }
     ensures { result ≡ record { cause = of_script fault; command = done + 1 } }
 {

@@ -70,7 +70,7 @@ fn run_command<S: Runner, O: ByteOut>(
 }
 
 /// What is left of a script.
-pub(crate) fn behind(script: &[u8], taken: usize) -> &[u8]
+fn behind(script: &[u8], taken: usize) -> &[u8]
     requires { taken ≤ length script.now }
     ensures { result.now ≡ drop taken script.now }
 {

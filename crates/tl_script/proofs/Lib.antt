@@ -3,3 +3,5 @@ pub mod LineTexts
 pub mod CommandTexts
 pub mod ScriptLaws
 pub mod FaultLaws
+pub mod ReadCommands
+pub mod Visits

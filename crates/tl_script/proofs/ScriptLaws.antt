@@ -132,32 +132,17 @@ scripts_are_commands bytes =
 
 -- ---- the monitors that are attached
 
-monitors_behind : (bytes : List ℕ) (c : Command) (taken : ℕ) → command_in bytes ≡ Ok (Some (c, taken)) → attached (commands_of bytes) ≡ cons_option (monitor_of c) (attached (commands_of (drop taken bytes)))
-monitors_behind bytes c taken e = ap attached (at_command bytes c taken e)
+one_back : (o : Option (ℕ × Watch)) (xs ys zs : List (ℕ × Watch)) → xs ≡ ys ++ zs → cons_option o xs ≡ cons_option o ys ++ zs
+one_back None xs ys zs e = e
+one_back (Some monitor) xs ys zs e = ap (λ (l : List (ℕ × Watch)). monitor ∷ l) e
 
-pub one_attached : (told : List (ℕ × Watch)) (bytes : List ℕ) (c : Command) (taken : ℕ) (monitor : ℕ × Watch) → command_in bytes ≡ Ok (Some (c, taken)) → monitor_of c ≡ Some monitor
-    → (told ++ monitor ∷ []) ++ attached (commands_of (drop taken bytes)) ≡ told ++ attached (commands_of bytes)
-one_attached told bytes c taken monitor e is =
-    let behind : List (ℕ × Watch) = attached (commands_of (drop taken bytes)) in
-    append_assoc told (monitor ∷ []) behind ∙ ap (λ (l : List (ℕ × Watch)). told ++ l) (sym (monitors_behind bytes c taken e ∙ ap (λ (o : Option (ℕ × Watch)). cons_option o behind) is))
+last_attached : (before : List Command) (c : Command) → filter_map monitor_of (before ++ c ∷ []) ≡ filter_map monitor_of before ++ cons_option (monitor_of c) []
+last_attached [] c = refl
+last_attached (d ∷ before) c = one_back (monitor_of d) (filter_map monitor_of (before ++ c ∷ [])) (filter_map monitor_of before) (cons_option (monitor_of c) []) (last_attached before c)
 
-pub none_attached : (told : List (ℕ × Watch)) (bytes : List ℕ) (c : Command) (taken : ℕ) → command_in bytes ≡ Ok (Some (c, taken)) → monitor_of c ≡ None
-    → told ++ attached (commands_of (drop taken bytes)) ≡ told ++ attached (commands_of bytes)
-none_attached told bytes c taken e is =
-    let behind : List (ℕ × Watch) = attached (commands_of (drop taken bytes)) in
-    ap (λ (l : List (ℕ × Watch)). told ++ l) (sym (monitors_behind bytes c taken e ∙ ap (λ (o : Option (ℕ × Watch)). cons_option o behind) is))
-
--- a command was read, or none was
-pub some_read : (read : Read) (c : Command) (taken : ℕ) → option_flatten (result_ok read) ≡ Some (c, taken) → read ≡ Ok (Some (c, taken))
-some_read (Ok found) c taken e = ap (λ (o : Option (Command × ℕ)). Ok o) e
-some_read (Err found) c taken e = absurd cc
-
-none_read : (read : Read) (behind : ℕ → Script) → option_flatten (result_ok read) ≡ None → (script_by read behind).commands ≡ []
-none_read (Ok None) behind e = refl
-none_read (Ok (Some found)) behind e = absurd cc
-none_read (Err found) behind e = refl
-
-pub all_attached : (told all : List (ℕ × Watch)) (bytes : List ℕ) → told ++ attached (commands_of bytes) ≡ all → option_flatten (result_ok (command_in bytes)) ≡ None → told ≡ all
-all_attached told all bytes inv e =
-    let empty : (commands_of bytes).commands ≡ [] = ap (λ (s : Script). s.commands) (first_command_then_others bytes) ∙ none_read (command_in bytes) (λ taken. commands_of (drop taken bytes)) e in
-    sym (ap (λ (cs : List Command). told ++ filter_map monitor_of cs) empty ∙ append-nil told) ∙ inv
+-- The monitors of one command more.
+pub more_attached : (first old new : List (ℕ × Watch)) (before : List Command) (c : Command) (found : Option (ℕ × Watch)) → monitor_of c ≡ found → old ≡ first ++ filter_map monitor_of before → new ≡ old ++ cons_option found []
+    → new ≡ first ++ filter_map monitor_of (before ++ c ∷ [])
+more_attached first old new before c found is was then =
+    then ∙ ap (λ (l : List (ℕ × Watch)). l ++ cons_option found []) was ∙ append_assoc first (filter_map monitor_of before) (cons_option found [])
+    ∙ ap (λ (l : List (ℕ × Watch)). first ++ l) (ap (λ (o : Option (ℕ × Watch)). filter_map monitor_of before ++ cons_option o []) (sym is) ∙ sym (last_attached before c))

@@ -9,6 +9,7 @@ ghost use Rattle.tl_script.specs.Scripts.{attached, commands_of};
 use crate::command::{Command, Text};
 use crate::fault::ScriptFault;
 use crate::line::order_of;
+use crate::visiting::{Spot, Visitor, visit_all};
 use std::alloc::{AllocError, Global};
 use tl_beats::Watch;
 use tl_text::{decimal, line, word};
@@ -83,12 +84,24 @@ pub fn read_command(script: &[u8]) -> Result<Option<(Command<'_>, usize)>, Scrip
     front_of(script)
 }
 
-/// What is left of a script.
-fn behind(script: &[u8], taken: usize) -> &[u8]
-    requires { taken ≤ length script.now }
-    ensures { result.now ≡ drop taken script.now }
-{
-    &script[taken..]
+/// The lines that attach monitors.
+#[derive(Drop)]
+struct AttachLines {
+    all: Vec<(u32, Watch)>,
+}
+
+impl<'s> Visitor<'s> for AttachLines {
+    ghost use Rattle.std.specs.Prelude.{◌≡◌, ◌++◌, filter_map};
+    ghost use Rattle.tl_script.specs.Commands.{monitor_of};
+
+    ghost has_seen = { λ first now before. now.all.items ≡ first.all.items ++ filter_map monitor_of before };
+
+    fn visit(&mut self, command: &Command<'s>, _spot: Spot<'s>) -> Result<(), AllocError> {
+        if let Some(monitor) = command.monitor() {
+            self.all.push(monitor)?;
+        }
+        Ok(())
+    }
 }
 
 /// The number and the watch of each line that attaches a monitor, in order, up to the end of the script or its first bad
@@ -96,13 +109,9 @@ fn behind(script: &[u8], taken: usize) -> &[u8]
 pub fn monitors_of(alloc: Global, script: &[u8]) -> Result<Vec<(u32, Watch)>, AllocError>
     ensures { IfOk result (λ all. all.items ≡ attached (commands_of script.now)) }
 {
-    let mut all = Vec::new(alloc);
-    let mut rest = script;
-    while let Some((command, taken)) = read_command(rest).ok().flatten() {
-        if let Some(monitor) = command.monitor() {
-            all.push(monitor)?;
-        }
-        rest = behind(rest, taken);
-    }
-    Ok(all)
+    let mut lines = AttachLines {
+        all: Vec::new(alloc),
+    };
+    visit_all(script, &mut lines)?;
+    Ok(lines.all)
 }

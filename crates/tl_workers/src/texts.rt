@@ -13,7 +13,7 @@ use std::thread::yield_now;
 use tl_beats::{Fragment, FragmentFault};
 use tl_inputs::Change;
 use tl_run::{Asked, fragment_of};
-use tl_script::{Command, Text, read_command};
+use tl_script::{Command, Spot, Text, Visitor, visit_all};
 
 /// The most bytes of a fragment's text in a script.
 const MOST_TEXT: usize = 8_388_608;
@@ -207,20 +207,28 @@ impl<'s> FragmentTexts<'s> {
     }
 }
 
+/// The texts of a script's fragments, in order.
+#[derive(Drop)]
+struct Texts<'s> {
+    all: Vec<FragmentText<'s>>,
+}
+
+impl<'s> Visitor<'s> for Texts<'s> {
+    ghost has_seen = { λ _ _ _. Unit {0} };
+
+    fn visit(&mut self, command: &Command<'s>, spot: Spot<'s>) -> Result<(), AllocError> {
+        if let Some(text) = text_of(command) {
+            self.all.push(FragmentText::new(spot.rest.len(), text))?;
+        }
+        Ok(())
+    }
+}
+
 /// The texts of a script's fragments, up to its first line that is no command. Where memory is refused there are fewer.
 fn texts_of(alloc: Global, script: &[u8]) -> Vec<FragmentText<'_>> {
-    let mut texts = Vec::new(alloc);
-    let mut rest = script;
-    for _ in 0..u64::MAX {
-        let Ok(Some((command, taken))) = read_command(rest) else {
-            return texts;
-        };
-        if let Some(text) = text_of(&command) {
-            if texts.push(FragmentText::new(rest.len(), text)).is_err() {
-                return texts;
-            }
-        }
-        rest = &rest[taken..];
-    }
-    texts
+    let mut texts = Texts {
+        all: Vec::new(alloc),
+    };
+    let _ = visit_all(script, &mut texts);
+    texts.all
 }

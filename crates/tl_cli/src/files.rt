@@ -3,11 +3,11 @@
 ghost use Rattle.std.specs.Prelude.{◌≤◌, ◌^◌};
 
 use crate::fault::Fault;
-use crate::kinds::Role;
 use std::alloc::Global;
 use std::rt::Files;
 use std::sync::Arc;
 use std::{fs, io};
+use tl_advice::Role;
 use tl_beats::{Fragment, read_fragment};
 use tl_run::read_script;
 use tl_text::{CountedReader, TextFault, read_text};

@@ -1,25 +1,17 @@
 //! The program without its process: its words, its files, and what it writes.
 #![tactic(auto)]
 
-mod advice;
-mod causes;
 mod denial;
 mod explain;
 mod fault;
-mod fields;
 mod files;
 mod flow_entries;
 mod format_entries;
-mod forms;
-mod kinds;
 mod monitors;
 mod permission_entries;
-mod places;
 mod refusal_entries;
-mod refusals;
 mod run;
 mod screen;
-mod sentences;
 mod telling;
 mod words;
 

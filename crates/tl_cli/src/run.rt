@@ -8,7 +8,6 @@ use crate::explain::titles;
 use crate::fault::Fault;
 use crate::files::{fragments_of, script_of, topology_of};
 use crate::monitors::{attached_in, settlement_lines};
-use crate::places::More;
 use crate::screen::Screen;
 use crate::telling::{
     Suspect, input_sentence, input_sentences, once_sentence, run_sentences, script_sentence,
@@ -20,6 +19,7 @@ use std::io;
 use std::rt::Files;
 use std::sync::{Arc, Wait};
 use std::thread::Threads;
+use tl_advice::More;
 use tl_beats::Watch;
 use tl_monitor::{After, Budget, Monitor};
 use tl_report::{run_once, run_once_as};

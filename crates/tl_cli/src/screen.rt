@@ -1,7 +1,7 @@
 //! What standard error is.
 
-use crate::places::Look;
 use crate::words::Command;
+use tl_advice::Look;
 
 /// What standard error is.
 #[derive(Clone, Copy, Debug, PartialEq, Eq)]

@@ -1,16 +1,14 @@
 //! Which file a fault is of, and its sentence.
 
-use crate::advice::edit_cause;
-use crate::causes::{Advice, Cause};
 use crate::fault::Fault;
 use crate::files::{Seen, line_after, seen_at, whole_topology};
-use crate::kinds::{Role, kind_of};
-use crate::places::{Line, Look, Place, Sentence};
-use crate::refusals::{Script, script_sentences};
-use crate::sentences::{Home, fragment_cause, length_cause, line_at, line_of, topology_cause};
 use std::alloc::Global;
 use std::rt::Files;
 use std::sync::Arc;
+use tl_advice::{
+    Advice, Cause, Home, Line, Look, Place, Role, Script, Sentence, edit_cause, fragment_cause, kind_of,
+    length_cause, line_at, line_of, script_sentences, topology_cause,
+};
 use tl_beats::{Fragment, FragmentFault, parse_whole_fragment};
 use tl_inputs::{Change, Edit, EditFault, Log};
 use tl_run::log_of;

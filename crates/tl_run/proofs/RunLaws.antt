@@ -274,16 +274,13 @@ pub more_accepted : (topo now_topo : Topology) (edits now next : List AnEdit) (b
 more_accepted topo now_topo edits now next before c same was then =
     then ∙ ap (λ t. edits_with t now (asked c)) same ∙ ap (λ es. edits_with topo es (asked c)) was ∙ sym (accepted_more topo edits before c)
 
--- how a script ends that was seen whole
-fault_none : (script : Script) (done : ℕ) → None ≡ fault_of script → script.fault ≡ None
-fault_none script done e = none_of script.fault e
-  where
-    none_of : (found : Option ScriptFault) → None ≡ option_map (λ f. (length script.commands + 1, f)) found → found ≡ None
-    none_of None e = refl
-    none_of (Some f) e = absurd cc
+none_of : (n : ℕ) (found : Option ScriptFault) → None ≡ option_map (λ f. (let p : ℕ × ScriptFault = (n, f) in p)) found → found ≡ None
+none_of n None e = refl
+none_of n (Some f) e = absurd cc
 
+-- how a script ends that was seen whole
 pub seen_whole : (script : List ℕ) → None ≡ fault_of (commands_of script) → (commands_of script).fault ≡ None
-seen_whole script e = fault_none (commands_of script) 0 e
+seen_whole script e = none_of (length (commands_of script).commands + 1) (commands_of script).fault e
 
 pub seen_stop : (script : List ℕ) (done : ℕ) (found : ScriptFault) → Some (done + 1, found) ≡ fault_of (commands_of script) → IsStopAt script (record { cause = of_script found; command = done + 1 })
 seen_stop script done found e = (found, sym e, refl)

@@ -115,7 +115,15 @@ fn write_stop<O: ByteOut>(out: &mut O, stop: Stop) -> Result<(), WriteFault>
     write_words(out, &[Word::Decimal(stop.command)])
 }
 
-/// Writes the line of a stop, if there is one, and what follows it.
+/// Writes notes.
+fn write_notes<O: ByteOut>(out: &mut O, notes: &str) -> Result<(), WriteFault>
+    requires { O.failure_count out.old < 2 ^ 63 }
+    ensures { Writes notes.now (O.contents out.old) (O.contents out.new) (O.failure_count out.old) (O.failure_count out.new) result }
+{
+    write_all(out, notes.as_bytes())
+}
+
+/// Writes the line of a stop, if there is one, and the notes after it.
 fn write_last<O: ByteOut>(out: &mut O, stop: Option<Stop>, notes: &str) -> Result<(), WriteFault>
     requires { O.failure_count out.old < 2 ^ 63 }
     ensures { Writes (last_text stop ++ notes.now) (O.contents out.old) (O.contents out.new) (O.failure_count out.old) (O.failure_count out.new) result }
@@ -123,9 +131,9 @@ fn write_last<O: ByteOut>(out: &mut O, stop: Option<Stop>, notes: &str) -> Resul
     match stop {
         Some(stop) => {
             write_stop(out, stop)?;
-            write_all(out, notes.as_bytes())
+            write_notes(out, notes)
         }
-        None => write_all(out, notes.as_bytes()),
+        None => write_notes(out, notes),
     }
 }
 

@@ -1,9 +1,12 @@
-use Rattle.std.proofs.Common.{rules, ◌≡◌, ◌+◌, Some, None, Ok, Err, sym, ap, ◌∙◌, subst}
+use Rattle.std.proofs.Common.{rules, refl, ◌≡◌, ◌+◌, Some, None, Ok, Err, sym, ap, ◌∙◌, subst}
 use Rattle.tl_script.specs.Reading.{command_in}
 use Rattle.tl_run.specs.Commands.{asked}
 use Rattle.tl_run.specs.Output.{IsStep}
-use Rattle.tl_run.proofs.RunLaws.{ran_more, came_to_fault, came_to_end, came_to_want, came_to_lack, lawful, cut_there}
+use Rattle.tl_run.proofs.RunLaws.{ran_none, ran_more, came_to_fault, came_to_end, came_to_want, came_to_lack, lawful, cut_there}
 use Rattle.tl_run.proofs.run.run_commands.Goals as goal
+
+pub loop-read-init : goal.loop-read-init
+loop-read-init g c = record { topo = refl; quiet = refl; ran = ran_none g.S.Runner.noted _ c.args.script.now _ _ _ _ c.requires.new c.requires.empty }
 
 pub returns-in-Err-clause-come : goal.returns-in-Err-clause-come
 returns-in-Err-clause-come g c =

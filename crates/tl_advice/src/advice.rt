@@ -48,7 +48,7 @@ fn empty_advice(role: Role) -> Advice {
 }
 
 /// What is said of a file by its kind, where that is wrong in this place.
-pub(crate) fn kind_advice(kind: Kind, role: Role) -> Option<Advice> {
+pub fn kind_advice(kind: Kind, role: Role) -> Option<Advice> {
     let advice = match kind {
         Kind::Empty => empty_advice(role),
         Kind::Gzip => Advice::new("a gzip file", "the text in it: gunzip unpacks it"),
@@ -119,7 +119,7 @@ fn space_advice(line: &[u8]) -> Option<Advice> {
 }
 
 /// What is said of a line, whatever text it is of.
-pub(crate) fn line_advice(line: &[u8]) -> Option<Advice> {
+pub fn line_advice(line: &[u8]) -> Option<Advice> {
     match byte_advice(line) {
         Some(advice) => Some(advice),
         None => space_advice(line),
@@ -166,7 +166,7 @@ fn edit_advice(fault: EditFault) -> Advice {
 }
 
 /// Why an edit is refused.
-pub(crate) fn edit_cause(fault: EditFault, topo: &Topo) -> Cause<'_> {
+pub fn edit_cause(fault: EditFault, topo: &Topo) -> Cause<'_> {
     match fault {
         EditFault::UnknownLink => Cause::Link(topo),
         EditFault::RangeOverlap(number) => Cause::Overlap(number),

@@ -6,16 +6,16 @@ use std::fmt;
 
 /// A line of a text.
 #[derive(Clone, Copy)]
-pub(crate) struct Line<'a> {
+pub struct Line<'a> {
     /// Its number, from 1.
-    pub(crate) number: u64,
+    pub number: u64,
     /// What it says, without its newline.
-    pub(crate) text: &'a [u8],
+    pub text: &'a [u8],
 }
 
 /// Where in a file a fault is.
 #[derive(Clone, Copy)]
-pub(crate) enum Place<'a> {
+pub enum Place<'a> {
     /// The file is at fault as a whole.
     File,
     /// In a line.
@@ -40,7 +40,7 @@ pub(crate) enum Place<'a> {
 
 /// How the first line of a sentence looks.
 #[derive(Clone, Copy, Debug, PartialEq, Eq)]
-pub(crate) enum Look {
+pub enum Look {
     Plain,
     /// As a terminal shows it that takes colours.
     Bold,
@@ -66,17 +66,17 @@ impl Look {
 
 /// A fault, as it is told to a person.
 #[derive(Clone, Copy)]
-pub(crate) struct Sentence<'a> {
+pub struct Sentence<'a> {
     /// The file, as the words name it.
-    pub(crate) path: &'a str,
+    pub path: &'a str,
     /// Where in the file.
-    pub(crate) place: Place<'a>,
+    pub place: Place<'a>,
     /// Why.
-    pub(crate) cause: Cause<'a>,
+    pub cause: Cause<'a>,
     /// The number of the refusal.
-    pub(crate) code: u8,
+    pub code: u8,
     /// How its first line looks.
-    pub(crate) look: Look,
+    pub look: Look,
 }
 
 /// Writes where the fault is, in one line without its newline.
@@ -130,7 +130,7 @@ impl fmt::Display for Sentence<'_> {
 
 /// The last line of a sentence.
 #[derive(Clone, Copy)]
-pub(crate) struct More(pub(crate) u8);
+pub struct More(pub u8);
 
 impl fmt::Display for More {
     fn fmt<W: fmt::Write>(&self, f: &mut fmt::Formatter<W>) -> fmt::Result {
@@ -141,14 +141,14 @@ impl fmt::Display for More {
 
 impl More {
     /// The line as a text.
-    pub(crate) fn text(&self, alloc: Global) -> Result<String, AllocError> {
+    pub fn text(&self, alloc: Global) -> Result<String, AllocError> {
         format!(in alloc; "{self}")
     }
 }
 
 impl Sentence<'_> {
     /// The sentence as a text.
-    pub(crate) fn text(&self, alloc: Global) -> Result<String, AllocError> {
+    pub fn text(&self, alloc: Global) -> Result<String, AllocError> {
         format!(in alloc; "{self}")
     }
 }

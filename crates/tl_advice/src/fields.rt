@@ -5,7 +5,7 @@ use tl_text::{bit, decimal, hexadecimal, is_name, word};
 
 /// What a field is spelled as.
 #[derive(Clone, Copy)]
-pub(crate) enum Spelling {
+pub enum Spelling {
     /// A word that the form of the line fixes.
     Fixed,
     Name,
@@ -175,21 +175,25 @@ fn hexadecimal_flaw(own: &[u8]) -> &'static str {
 
 /// A field of a line.
 #[derive(Clone, Copy)]
-pub(crate) struct Field {
-    pub(crate) name: &'static str,
-    pub(crate) spelling: Spelling,
+pub struct Field {
+    /// Its name, as the README's forms have it.
+    pub name: &'static str,
+    /// How it is spelled.
+    pub spelling: Spelling,
 }
 
 /// The form of a line, as `tlcheck explain` writes it, with its fields in order.
 #[derive(Clone, Copy)]
-pub(crate) struct Form {
-    pub(crate) text: &'static str,
-    pub(crate) fields: &'static [Field],
+pub struct Form {
+    /// The form as the README writes it.
+    pub text: &'static str,
+    /// Its fields, in order.
+    pub fields: &'static [Field],
 }
 
 /// What is wrong with a line that has another form.
 #[derive(Clone, Copy)]
-pub(crate) enum Slip<'a> {
+pub enum Slip<'a> {
     /// It has this many fields.
     Count {
         /// How many it has.
@@ -208,7 +212,7 @@ pub(crate) enum Slip<'a> {
 
 impl Slip<'_> {
     /// What is wrong with the word that is spelled wrong.
-    pub(crate) fn flaw(&self) -> &'static str {
+    pub fn flaw(&self) -> &'static str {
         match self {
             Slip::Count { .. } => "",
             Slip::Field { field, own } => field.spelling.flaw(own),
@@ -225,7 +229,7 @@ fn first_word(line: &[u8]) -> (&[u8], &[u8]) {
 }
 
 /// The field of a line at a place from 0; empty where it has none there.
-pub(crate) fn field_at(line: &[u8], place: usize) -> &[u8] {
+pub fn field_at(line: &[u8], place: usize) -> &[u8] {
     let mut rest = line;
     for _ in 0..place {
         rest = first_word(rest).1;
@@ -234,13 +238,13 @@ pub(crate) fn field_at(line: &[u8], place: usize) -> &[u8] {
 }
 
 /// How many fields a line has.
-pub(crate) fn field_count(line: &[u8]) -> usize {
+pub fn field_count(line: &[u8]) -> usize {
     let spaces = line.iter().filter(|byte| **byte == b' ').count();
     spaces.saturating_add(1)
 }
 
 /// What is wrong with a line of this form, if anything is.
-pub(crate) fn slip_in<'a>(form: Form, line: &'a [u8]) -> Option<Slip<'a>> {
+pub fn slip_in<'a>(form: Form, line: &'a [u8]) -> Option<Slip<'a>> {
     let found = field_count(line);
     if found != form.fields.len() {
         return Some(Slip::Count { found, form });

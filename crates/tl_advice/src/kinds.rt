@@ -8,7 +8,7 @@ use tl_show::first_line;
 
 /// What the words of the command line name.
 #[derive(Clone, Copy, Debug, PartialEq, Eq)]
-pub(crate) enum Role {
+pub enum Role {
     Topology,
     Fragment,
     Script,
@@ -16,7 +16,7 @@ pub(crate) enum Role {
 
 impl Role {
     /// The most bytes that its file has.
-    pub(crate) fn most(self) -> u64
+    pub fn most(self) -> u64
         ensures { result ≤ 2 ^ 32 }
     {
         match self {
@@ -29,7 +29,7 @@ impl Role {
 
 /// What a file is, where it is told by its first bytes.
 #[derive(Clone, Copy, Debug, PartialEq, Eq)]
-pub(crate) enum Kind {
+pub enum Kind {
     Empty,
     Gzip,
     Zstd,
@@ -48,7 +48,7 @@ pub(crate) enum Kind {
 
 impl Kind {
     /// Whether it has lines that can be shown.
-    pub(crate) fn has_lines(self) -> bool {
+    pub fn has_lines(self) -> bool {
         matches!(
             self,
             Kind::Marked | Kind::Waveform | Kind::Text(_) | Kind::Other
@@ -94,7 +94,7 @@ fn foreign_kind(bytes: &[u8]) -> Option<Kind> {
 }
 
 /// What a file is.
-pub(crate) fn kind_of(bytes: &[u8]) -> Kind {
+pub fn kind_of(bytes: &[u8]) -> Kind {
     if let Some(kind) = foreign_kind(bytes) {
         return kind;
     }

@@ -185,7 +185,8 @@ const CHAN: Field = Field {
     spelling: Spelling::Channel,
 };
 
-pub(crate) const HEADER: Form = Form {
+/// The first line of a fragment.
+pub const HEADER: Form = Form {
     text: "fragment LINK NUMBER FIRST LAST",
     fields: &[WORD, LINK, NUMBER, FIRST, LAST],
 };
@@ -223,17 +224,20 @@ const ACK: Form = Form {
     fields: &[CYCLE, CHANNEL, SINK],
 };
 
-pub(crate) const MANAGER_LINE: Form = Form {
+/// The line of a manager.
+pub const MANAGER_LINE: Form = Form {
     text: "manager NAME BLOCK",
     fields: &[WORD, NAME, BLOCK],
 };
 
-pub(crate) const LINK_LINE: Form = Form {
+/// The line of a link.
+pub const LINK_LINE: Form = Form {
     text: "link NAME MANAGER LEVEL WIDTH MAXSIZE SOURCES",
     fields: &[WORD, NAME, MANAGER, LEVEL, WIDTH, MAXSIZE, SOURCES],
 };
 
-pub(crate) const STRICT_LINE: Form = Form {
+/// The line of a link in a topology of version 2.
+pub const STRICT_LINE: Form = Form {
     text: "link NAME MANAGER LEVEL WIDTH MAXSIZE SOURCES strict",
     fields: &[WORD, NAME, MANAGER, LEVEL, WIDTH, MAXSIZE, SOURCES, WORD],
 };
@@ -294,7 +298,7 @@ const PUBLISH: Form = Form {
 };
 
 /// The form of a beat on the channel that its line names; None where the line names none.
-pub(crate) fn form_of_beat(line: &[u8]) -> Option<Form> {
+pub fn form_of_beat(line: &[u8]) -> Option<Form> {
     match field_at(line, 1) {
         [b'A'] => Some(ACCESS),
         [b'B'] => Some(PROBE),
@@ -315,7 +319,7 @@ fn form_of_monitor(line: &[u8]) -> Form {
 }
 
 /// The form of the command that a line begins with; None where it begins with none.
-pub(crate) fn form_of_command(line: &[u8]) -> Option<Form> {
+pub fn form_of_command(line: &[u8]) -> Option<Form> {
     let form = match field_at(line, 0) {
         b"add" => ADD,
         b"replace" => REPLACE,

@@ -23,7 +23,7 @@ fn lines_from(text: &[u8], number: u64) -> &[u8] {
 }
 
 /// The line of a text with this number, from 1.
-pub(crate) fn line_at(text: &[u8], number: u64) -> &[u8] {
+pub fn line_at(text: &[u8], number: u64) -> &[u8] {
     first_line(lines_from(text, number))
 }
 
@@ -34,7 +34,7 @@ fn is_behind_end(text: &[u8], number: u64) -> bool {
 
 /// Where a fragment's text stands.
 #[derive(Clone, Copy, Debug, PartialEq, Eq)]
-pub(crate) enum Home {
+pub enum Home {
     /// In a file of its own.
     File,
     /// Behind the line of a command.
@@ -121,7 +121,7 @@ fn beat_cause(own: &[u8]) -> Cause<'_> {
 }
 
 /// The number of the line of a fragment that is at fault, from 1.
-pub(crate) fn line_of(fault: FragmentFault) -> u64 {
+pub fn line_of(fault: FragmentFault) -> u64 {
     u64::from(fault.number().unwrap_or(1))
 }
 
@@ -142,7 +142,7 @@ fn spelling_cause(text: &[u8], number: u64, home: Home) -> Cause<'_> {
 }
 
 /// Why a fragment's text is refused.
-pub(crate) fn fragment_cause(text: &[u8], fault: FragmentFault, home: Home) -> Cause<'_> {
+pub fn fragment_cause(text: &[u8], fault: FragmentFault, home: Home) -> Cause<'_> {
     let number = line_of(fault);
     if number == 1
         && let Some(advice) = kind_advice(kind_of(text), Role::Fragment)
@@ -169,7 +169,7 @@ pub(crate) fn fragment_cause(text: &[u8], fault: FragmentFault, home: Home) -> C
 }
 
 /// Why a file is too long.
-pub(crate) fn length_cause<'a>(role: Role) -> Cause<'a> {
+pub fn length_cause<'a>(role: Role) -> Cause<'a> {
     match role {
         Role::Topology => plain(
             "more than 1048576 bytes",
@@ -271,7 +271,7 @@ fn bad_line_cause(text: &[u8], number: u64) -> Cause<'_> {
 }
 
 /// Why a topology's text is refused.
-pub(crate) fn topology_cause(text: &[u8], fault: TopoFault) -> Cause<'_> {
+pub fn topology_cause(text: &[u8], fault: TopoFault) -> Cause<'_> {
     let own = line_at(text, fault.number().unwrap_or(1));
     match fault {
         TopoFault::BadLine(number) => bad_line_cause(text, number),
@@ -356,7 +356,7 @@ fn cut_command_cause(rest: &[u8]) -> Cause<'_> {
 
 /// What stands before the place where a script stops.
 #[derive(Clone, Copy, Debug, PartialEq, Eq)]
-pub(crate) enum Before {
+pub enum Before {
     Nothing,
     /// A command without a fragment.
     Command,
@@ -365,7 +365,7 @@ pub(crate) enum Before {
 }
 
 /// Why a script stops before the rest of it.
-pub(crate) fn stop_cause(rest: &[u8], before: Before, fault: ScriptFault) -> Cause<'_> {
+pub fn stop_cause(rest: &[u8], before: Before, fault: ScriptFault) -> Cause<'_> {
     if before == Before::Nothing
         && let Some(advice) = kind_advice(kind_of(rest), Role::Script)
     {

@@ -24,15 +24,15 @@ enum Refusal {
 
 /// A script's file, and how it is told of.
 #[derive(Clone, Copy)]
-pub(crate) struct Script<'a> {
+pub struct Script<'a> {
     /// The file, as the words name it.
-    pub(crate) path: &'a str,
+    pub path: &'a str,
     /// The number of the line that the script begins with.
-    pub(crate) first: u64,
+    pub first: u64,
     /// How many of its refused commands are told.
-    pub(crate) most: u64,
+    pub most: u64,
     /// How the first line of a sentence looks.
-    pub(crate) look: Look,
+    pub look: Look,
 }
 
 /// A command in its script.
@@ -236,7 +236,7 @@ impl<'a, 's> Visitor<'s> for Refusals<'a> {
 
 /// What the run of a script refused, the first of it, and where it stopped, in sentences; empty where it did neither. AllocError
 /// where memory is refused.
-pub(crate) fn script_sentences(
+pub fn script_sentences(
     alloc: Global,
     topo: &Topo,
     bytes: &[u8],

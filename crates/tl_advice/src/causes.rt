@@ -12,7 +12,7 @@ const MOST_LINKS: u16 = 16;
 
 /// Bytes as they can be shown: what is no character of ASCII as an escape, and the first 100 alone; where there are none, that.
 #[derive(Clone, Copy)]
-pub(crate) struct Quoted<'a>(pub(crate) &'a [u8]);
+pub struct Quoted<'a>(pub &'a [u8]);
 
 /// Writes one byte as it can be shown.
 fn write_byte<W: fmt::Write>(f: &mut fmt::Formatter<W>, byte: u8) -> fmt::Result {
@@ -41,21 +41,21 @@ impl fmt::Display for Quoted<'_> {
 
 /// A cause whose words need nothing from the text.
 #[derive(Clone, Copy)]
-pub(crate) struct Advice {
+pub struct Advice {
     found: &'static str,
     wanted: &'static str,
 }
 
 impl Advice {
     /// What was found, and what would be right.
-    pub(crate) fn new(found: &'static str, wanted: &'static str) -> Advice {
+    pub fn new(found: &'static str, wanted: &'static str) -> Advice {
         Advice { found, wanted }
     }
 }
 
 /// Why a text, a file or an edit is refused.
 #[derive(Clone, Copy)]
-pub(crate) enum Cause<'a> {
+pub enum Cause<'a> {
     /// What its words alone say.
     Plain(Advice),
     /// A line has another form.

@@ -1,0 +1,18 @@
+//! Faults in sentences: where each is, what was found there, and what would be right.
+#![tactic(auto)]
+
+mod advice;
+mod causes;
+mod fields;
+mod forms;
+mod kinds;
+mod places;
+mod refusals;
+mod sentences;
+
+pub use advice::edit_cause;
+pub use causes::{Advice, Cause};
+pub use kinds::{Role, kind_of};
+pub use places::{Line, Look, More, Place, Sentence};
+pub use refusals::{Script, script_sentences};
+pub use sentences::{Home, fragment_cause, length_cause, line_at, line_of, topology_cause};

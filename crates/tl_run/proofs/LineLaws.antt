@@ -8,7 +8,11 @@ use Rattle.tl_text.specs.Written.{Writes}
 use Rattle.std.specs.Option.{option_map_or}
 use Rattle.tl_text.specs.Numbers.{numeral}
 use Rattle.tl_report.specs.Notes.{Tells, IsNoted, is_note, is_unbroken}
-use Rattle.tl_report.proofs.NoteLaws.{Ends, ends_here, ends_more, digits_unbroken, plain_line, noted_nil, tells_more, tells_plain}
+use Rattle.std.specs.Prelude.{codes}
+use Rattle.std.specs.Fmt.{decimal}
+use Rattle.tl_report.specs.Output.{joined}
+use Rattle.tl_run.specs.Output.{edit_text, refused_text, and_number}
+use Rattle.tl_report.proofs.NoteLaws.{Ends, ends_here, ends_more, joined_ends, digits_unbroken, decimal_unbroken, unbroken_more, plain_line, noted_nil, tells_more, tells_plain}
 use Rattle.tl_run.specs.Stops.{IsSaid, IsFront, AreSaid, IsFrontOf, stop_front, stop_text, last_text}
 use Rattle.tl_run.specs.declared.stop.Stop.{Stop}
 use Rattle.tl_run.specs.declared.stop.StopCause.{StopCause}
@@ -129,3 +133,21 @@ said_more noted old now new gathered kept before line text tells more (told, are
 pub said_front : (noted : Bool) (old now new : Known) (gathered before line text : List ℕ) → Tells noted line text
     → ((told : List ℕ) → IsSaid old now gathered told → IsFront old new (told ++ text)) → AreSaid noted old now gathered before → IsFrontOf noted old new (before ++ line)
 said_front noted old now new gathered before line text tells front (told, are, said) = (told ++ text, tells_more noted before line told text are tells, front told said)
+
+-- ---- lines of edits are no notes
+
+pub edit_is_plain : (number : ℕ) → IsNoted (edit_text number) (edit_text number)
+unfolding edit_text joined_ends ends_more ends_here
+edit_is_plain number =
+    let pieces = codes "edit " ∷ decimal number ∷ (10 ∷ []) ∷ [] in
+    plain_line (joined pieces) (joined_ends pieces (refl, (decimal_unbroken number, refl))) refl
+
+and_unbroken : (number : Option ℕ) → is_unbroken (and_number number) ≡ true
+and_unbroken None = refl
+and_unbroken (Some number) = unbroken_more (codes " ") (decimal number) refl (decimal_unbroken number)
+
+pub refused_is_plain : (code : ℕ) (number : Option ℕ) → IsNoted (refused_text code number) (refused_text code number)
+unfolding refused_text joined_ends ends_more ends_here
+refused_is_plain code number =
+    let pieces = codes "refused " ∷ decimal code ∷ and_number number ∷ (10 ∷ []) ∷ [] in
+    plain_line (joined pieces) (joined_ends pieces (refl, (decimal_unbroken code, (and_unbroken number, refl)))) refl

@@ -1,14 +1,15 @@
 -- What is shown is the plain text with notes.
 use Rattle.std.proofs.Common.{◌≡◌, ℕ, zero, suc, ◌<◌, Bool, true, false, cond, List, [], ◌∷◌, ◌++◌, append-nil, length, map, take, drop, Option, Some, None, Result, Ok, Err, refl, sym, ap, ◌∙◌, subst, arith}
-use Rattle.std.specs.Prelude.{◌==◌, ◌-◌, ◌^◌, IfOk, String, string_bytes, codes, find, slice_index_or}
+use Rattle.std.specs.Prelude.{not, ◌==◌, ◌-◌, ◌^◌, IfOk, String, string_bytes, codes, find, slice_index_or}
 use Rattle.std.specs.List.{All, AllByRecursion, list_all, flat_map, slice_get}
 use Rattle.std.specs.Fmt.{decimal, digits}
-use Rattle.std.specs.Option.{option_map_or}
+use Rattle.std.specs.Option.{option_map, option_map_or}
 use Rattle.std.proofs.lemmas.Bool.{and_from, and_parts}
 use Rattle.std.proofs.lemmas.Grind.{flat_map-append}
 use Rattle.std.proofs.lemmas.List.{take-append-drop}
 use Rattle.std.proofs.lemmas.Option.{same_Some}
 use Rattle.tl_text.specs.Names.{is_name}
+use Rattle.tl_text.specs.Words.{cut, line_at}
 use Rattle.tl_tables.specs.declared.Chan.{Chan}
 use Rattle.tl_tables.specs.declared.Chan.TheVariants as chan
 use Rattle.tl_tables.specs.declared.Op.{Op}
@@ -501,3 +502,52 @@ noted_as (Ok text) topo head told counts rows names within sound plain is =
     subst (IsNoted (head ++ flat_map (row_text topo) rows)) (sym is)
     (text_noted topo head told counts rows names (all_rec (λ (row : Row). row.link < length topo.links) rows within) (all_rec (IsSoundTold topo) told sound) plain)
 noted_as (Err fault) topo head told counts rows names within sound plain is = tt
+
+-- ---- lines that are quoted
+
+pub unbroken_front : (n : ℕ) (bytes : List ℕ) → is_unbroken bytes ≡ true → is_unbroken (take n bytes) ≡ true
+unbroken_front zero bytes free = refl
+unbroken_front (suc n) [] free = refl
+unbroken_front (suc n) (b ∷ bytes) free = and_from _ _ (and_parts _ _ free).0 (unbroken_front n bytes (and_parts _ _ free).1)
+
+-- what stands before the first newline, and what has none
+by_cut : (t : Bool) (b : ℕ) (bytes : List ℕ) → (b == 10) ≡ t → is_unbroken (cut 10 bytes).0 ≡ true → is_unbroken (cond t (let p : List ℕ × Option (List ℕ) = ([], Some bytes) in p) (b ∷ (cut 10 bytes).0, (cut 10 bytes).1)).0 ≡ true
+by_cut true b bytes is rest = refl
+by_cut false b bytes is rest = and_from _ _ (ap not is) rest
+
+cut_unbroken : (bytes : List ℕ) → is_unbroken (cut 10 bytes).0 ≡ true
+cut_unbroken [] = refl
+cut_unbroken (b ∷ bytes) = by_cut (b == 10) b bytes refl (cut_unbroken bytes)
+
+by_none : (t : Bool) (b : ℕ) (bytes : List ℕ) → (b == 10) ≡ t → ((cut 10 bytes).1 ≡ None → is_unbroken bytes ≡ true) → (cond t (let p : List ℕ × Option (List ℕ) = ([], Some bytes) in p) (b ∷ (cut 10 bytes).0, (cut 10 bytes).1)).1 ≡ None
+    → is_unbroken (b ∷ bytes) ≡ true
+by_none true b bytes is rest none = absurd cc
+by_none false b bytes is rest none = and_from _ _ (ap not is) (rest none)
+
+no_newline : (bytes : List ℕ) → (cut 10 bytes).1 ≡ None → is_unbroken bytes ≡ true
+no_newline [] none = refl
+no_newline (b ∷ bytes) none = by_none (b == 10) b bytes refl (no_newline bytes) none
+
+front_is : (o : Option (List ℕ)) (front : List ℕ) (x : List ℕ × List ℕ) → Some x ≡ option_map (λ rest. (let p : List ℕ × List ℕ = (front, rest) in p)) o → x.0 ≡ front
+front_is None front x e = absurd cc
+front_is (Some rest) front x e = ap (λ (p : List ℕ × List ℕ). p.0) (same_Some _ _ e)
+
+pub line_unbroken : (bytes : List ℕ) (x : List ℕ × List ℕ) → Some x ≡ line_at bytes → is_unbroken x.0 ≡ true
+unfolding line_at
+line_unbroken bytes x e = subst (λ l. is_unbroken l ≡ true) (sym (front_is (cut 10 bytes).1 (cut 10 bytes).0 x e)) (cut_unbroken bytes)
+
+none_is : (o : Option (List ℕ)) (front : List ℕ) → None ≡ option_map (λ rest. (let p : List ℕ × List ℕ = (front, rest) in p)) o → o ≡ None
+none_is None front e = refl
+none_is (Some rest) front e = absurd cc
+
+pub whole_unbroken : (bytes : List ℕ) → None ≡ line_at bytes → is_unbroken bytes ≡ true
+unfolding line_at
+whole_unbroken bytes e = no_newline bytes (none_is (cut 10 bytes).1 (cut 10 bytes).0 e)
+
+pub note_made : {Z E : Type 0} (made : Result (String Z) E) (bytes : List ℕ) → IfOk made (λ text. string_bytes text ≡ bytes) → IsNoted [] bytes → IfOk made (λ text. IsNoted [] (string_bytes text))
+note_made (Ok text) bytes is noted = subst (IsNoted []) (sym is) noted
+note_made (Err fault) bytes is noted = tt
+
+pub line_made : {Z E : Type 0} (made : Result (String Z) E) (bytes target : List ℕ) → IfOk made (λ text. string_bytes text ≡ bytes) → target ≡ bytes → IsNoted bytes bytes → IfOk made (λ text. IsNoted target (string_bytes text))
+line_made (Ok text) bytes target is same plain = subst (λ t. IsNoted t (string_bytes text)) (sym same) (subst (IsNoted bytes) (sym is) plain)
+line_made (Err fault) bytes target is same plain = tt

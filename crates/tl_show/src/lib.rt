@@ -9,7 +9,7 @@ mod showing;
 mod shown;
 mod survey;
 
-pub use quote::{first_line, shown};
+pub use quote::first_line;
 pub use showing::{Showing, Shown};
 pub use shown::{shown_audit, shown_report};
 pub use survey::{Counts, Survey, survey_beats};

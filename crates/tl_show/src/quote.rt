@@ -17,7 +17,10 @@ const DELETE: u8 = 0x7f;
 const NO_TEXT: &str = "bytes that are no text";
 
 /// The first bytes of a line, at most 100, without a carriage return at their end.
-fn front_of(bytes: &[u8]) -> &[u8] {
+fn front_of(bytes: &[u8]) -> &[u8]
+    requires { is_unbroken bytes.now ≡ true }
+    ensures { is_unbroken result.now ≡ true }
+{
     let length = match bytes.last() {
         Some(last) if *last == RETURN => bytes.len() - 1,
         _ => bytes.len(),
@@ -25,15 +28,14 @@ fn front_of(bytes: &[u8]) -> &[u8] {
     &bytes[..length.min(MOST_SHOWN)]
 }
 
-/// Bytes as they can be shown, at most 100 and without a carriage return at the end; none with control characters.
-pub fn shown(bytes: &[u8]) -> &str
+/// A line as it can be shown: at most 100 bytes of it, without a carriage return at the end; none with control characters.
+pub(crate) fn quoted(bytes: &[u8]) -> &str
+    requires { is_unbroken bytes.now ≡ true }
     ensures { is_unbroken result.now ≡ true }
 {
     let start = front_of(bytes);
-    for byte in start {
-        if *byte < b' ' || *byte == DELETE {
-            return NO_TEXT;
-        }
+    if start.iter().any(|byte| *byte < b' ' || *byte == DELETE) {
+        return NO_TEXT;
     }
     match str::from_utf8(start) {
         Ok(text) => text,
@@ -42,7 +44,9 @@ pub fn shown(bytes: &[u8]) -> &str
 }
 
 /// The first line of a text, or all of it where it has no newline.
-pub fn first_line(text: &[u8]) -> &[u8] {
+pub fn first_line(text: &[u8]) -> &[u8]
+    ensures { is_unbroken result.now ≡ true }
+{
     match line(text) {
         Some((found, _)) => found,
         None => text,

@@ -6,7 +6,7 @@ ghost use Rattle.tl_script.specs.Text.{IsCommand};
 ghost use Rattle.tl_run.specs.Commands.{asked, asking};
 ghost use Rattle.tl_run.specs.Output.{RunData};
 
-use crate::quote::{first_line, shown};
+use crate::quote::{first_line, quoted};
 use crate::shown::{shown_audit, shown_report};
 use std::alloc::{AllocError, Global};
 use std::marker::Model;
@@ -78,10 +78,10 @@ fn edit_of(asked: &Asked) -> Result<Option<Edit>, AllocError> {
     })
 }
 
-/// Keeps an edit that was accepted.
-fn keep(log: &mut Log, edit: Edit) -> Result<(), CommandFault> {
+/// Keeps an edit that was accepted. AllocError where memory is refused.
+fn keep(log: &mut Log, edit: Edit) -> Result<(), AllocError> {
     match log.push(edit) {
-        Err(EditFault::Memory) => Err(CommandFault::Memory),
+        Err(EditFault::Memory) => Err(AllocError),
         Ok(_) | Err(_) => Ok(()),
     }
 }
@@ -115,10 +115,9 @@ fn notes_of(alloc: Global, cause: StopCause, rest: &[u8]) -> Result<String, Allo
     let Some(what) = wrong_there(cause) else {
         return Ok(String::new(alloc));
     };
-    let mut notes = note(alloc, shown(first_line(rest)))?;
+    let own = note(alloc, quoted(first_line(rest)))?;
     let last = note(alloc, what)?;
-    notes.push_str(last.as_str())?;
-    Ok(notes)
+    format!(in alloc; "{own}{last}")
 }
 
 impl<S: Runner + Drop> Runner for Showing<S> {

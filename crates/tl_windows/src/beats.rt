@@ -25,24 +25,6 @@ impl Present {
         Ok(beats)
     }
 
-    /// The beats of a link in a window. AllocError where memory is refused.
-    pub fn link_beats_in(
-        &self,
-        alloc: Global,
-        window: u64,
-        link: u16,
-    ) -> Result<Vec<Placed>, AllocError>
-        ensures { IfOk result (λ beats. beats.items ≡ beats_in window (beats_of link self.now)) }
-    {
-        let _ = &self.ranges;
-        let mut beats = Vec::new(alloc);
-        let Some((from, to)) = span_of(window) else {
-            return Ok(beats);
-        };
-        self.ranges.push_link(from, to, link, &mut beats)?;
-        Ok(beats)
-    }
-
     /// The beats of these links, whose numbers rise, in the order of positions. AllocError where memory is refused.
     pub fn beats(&self, alloc: Global, links: &[u16]) -> Result<Vec<Placed>, AllocError>
         requires { IsStrictlySortedBy nat_cmp links.now }

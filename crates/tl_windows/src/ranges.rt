@@ -1,6 +1,6 @@
 //! Fragments by link and range.
 
-ghost use Rattle.std.specs.Prelude.{◌≡◌, ◌≤◌, ◌<◌, ◌+◌, ◌++◌, ◌==◌, length, [], IfOk, OnOk, OnErr, MatchOption, false, map, slice_get};
+ghost use Rattle.std.specs.Prelude.{◌≡◌, ◌≤◌, ◌<◌, ◌+◌, ◌++◌, ◌==◌, length, [], IfOk, OnOk, OnErr, MatchOption, false, slice_get};
 ghost use Rattle.std.specs.Arc.{arc_value};
 ghost use Rattle.std.specs.List.{AllByRecursion, find};
 ghost use Rattle.std.specs.Option.{option_map};
@@ -14,7 +14,7 @@ ghost use Rattle.tl_windows.specs.Windows.{beats_within};
 
 use crate::cursor::Cursor;
 use crate::walks::{
-    Part, all_of_link, any_in_span, first_number, lowest_other, push_all_windows, push_cursors,
+    Part, any_in_span, first_number, lowest_other, push_all_windows, push_cursors,
     push_parts, push_span, span_count, span_less,
 };
 use std::alloc::{AllocError, Global};
@@ -192,17 +192,6 @@ impl Ranges {
         ensures { OnOk result (windows.new.items ≡ windows.old.items ++ windows_of_all (of_link link self.now)) }
     {
         push_all_windows(&self.ends, link, windows)
-    }
-
-    /// The fragments of a link, in the order of their ranges, shared and not copied. AllocError where memory is refused.
-    pub(crate) fn fragments(
-        &self,
-        alloc: Global,
-        link: u16,
-    ) -> Result<Vec<Arc<Fragment>>, AllocError>
-        ensures { IfOk result (λ fragments. map (λ f. recorded link (arc_value f)) fragments.items ≡ of_link link self.now) }
-    {
-        all_of_link(alloc, &self.ends, link)
     }
 
     /// The number of the first fragment of a link.

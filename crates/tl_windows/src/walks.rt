@@ -1,17 +1,17 @@
 //! Walks over the fragments of one link, in the order of their ranges.
 
-ghost use Rattle.std.specs.Prelude.{◌≡◌, ◌≤◌, ◌<◌, ◌+◌, ◌++◌, Some, IfOk, OnOk, MatchOption, length, map, min, slice_get};
+ghost use Rattle.std.specs.Prelude.{◌≡◌, ◌≤◌, ◌<◌, ◌+◌, ◌++◌, Some, OnOk, MatchOption, length, min, slice_get};
 ghost use Rattle.std.specs.Arc.{arc_value};
 ghost use Rattle.std.specs.Option.{option_map, option_map_or};
 ghost use Rattle.tl_windows.specs.Cursors.{all_left};
 ghost use Rattle.tl_windows.specs.Parts.{spanned};
-ghost use Rattle.tl_windows.specs.Present.{recorded, least};
+ghost use Rattle.tl_windows.specs.Present.{least};
 ghost use Rattle.tl_windows.specs.Ranges.{has_some, from_key, walked, span_beats, own_windows, itself, other_number, nowhere, begins_after};
 
 use crate::cursor::Cursor;
 use crate::cut::{bounds, cursor_in, has_some, push_beats};
 use crate::shares::push_windows;
-use std::alloc::{AllocError, Global};
+use std::alloc::AllocError;
 use std::collections::BTreeMap;
 use std::sync::Arc;
 use tl_beats::{Fragment, Placed};
@@ -207,24 +207,6 @@ pub(crate) fn push_all_windows(
         push_windows(fragment.beats(), windows)?;
     }
     Ok(())
-}
-
-/// The fragments of a link.
-pub(crate) fn all_of_link(
-    alloc: Global,
-    ends: &Ends,
-    link: u16,
-) -> Result<Vec<Arc<Fragment>>, AllocError>
-    ensures { IfOk result (λ fragments. map (λ f. recorded link (arc_value f)) fragments.items ≡ walked arc_value itself nowhere link (from_key arc_value link 0 ends.now.entries)) }
-{
-    let mut fragments = Vec::new(alloc);
-    for ((of, _), fragment) in ends.range((link, 0)..) {
-        if *of != link {
-            return Ok(fragments);
-        }
-        fragments.push(fragment.clone()?)?;
-    }
-    Ok(fragments)
 }
 
 /// The number of the first fragment of a link.

@@ -87,7 +87,7 @@ otherwise false s h = h
 -- What begins no earlier than something that begins after an end does so too.
 later_too : (last : Option ℕ) (low high : ℕ) → is_by last low ≡ false → low ≤ high → is_by last high ≡ false
 later_too None low high h le = h
-later_too (Some last) low high h le = let late : nat_le low last ≡ false = h in grind (arith, nat_tests)
+later_too (Some last) low high h le = let late : nat_le low last ≡ false = h in let also : nat_le high last ≡ false = grind (arith, nat_tests) in also
 
 other_link : (link first : ℕ) (last : Option ℕ) (g : Recorded) → link < g.link → meets link first last g ≡ false
 other_link link first last g lt =
@@ -245,7 +245,7 @@ other_number number f = cond (f.number == number) [] (f.number ∷ [])
 pub numbers_read : (link first last number : ℕ) (fs : List Recorded) → read_all (other_number number) (filter (meets link first (Some last)) fs)
     ≡ map (λ (g : Recorded). g.number) (filter (λ g. not (g.number == number) && shares link first last g) fs)
 numbers_read link first last number [] = refl
-numbers_read link first last number (g ∷ fs) = step (shares link first last g)
+numbers_read link first last number (g ∷ fs) = step (shares link first last g) (numbers_read link first last number fs)
   where
     some : List Recorded
     some = filter (meets link first (Some last)) fs
@@ -253,15 +253,13 @@ numbers_read link first last number (g ∷ fs) = step (shares link first last g)
     others : List Recorded
     others = filter (λ x. not (x.number == number) && shares link first last x) fs
 
-    known : read_all (other_number number) some ≡ map (λ (x : Recorded). x.number) others
-    known = numbers_read link first last number fs
-
-    step : (s : Bool) → read_all (other_number number) (cond s (g ∷ some) some) ≡ map (λ (x : Recorded). x.number) (cond (not (g.number == number) && s) (g ∷ others) others)
-    step true = elim (g.number == number) as (λ b. cond b [] (g.number ∷ []) ++ read_all (other_number number) some ≡ map (λ (x : Recorded). x.number) (cond (not b && true) (g ∷ others) others)) [
+    step : (s : Bool) → read_all (other_number number) some ≡ map (λ (x : Recorded). x.number) others
+        → read_all (other_number number) (cond s (g ∷ some) some) ≡ map (λ (x : Recorded). x.number) (cond (not (g.number == number) && s) (g ∷ others) others)
+    step true known = elim (g.number == number) as (λ b. cond b [] (g.number ∷ []) ++ read_all (other_number number) some ≡ map (λ (x : Recorded). x.number) (cond (not b && true) (g ∷ others) others)) [
       | true ↦ known
       | false ↦ ap (λ ns. g.number ∷ ns) known
     ]
-    step false = elim (g.number == number) as (λ b. read_all (other_number number) some ≡ map (λ (x : Recorded). x.number) (cond (not b && false) (g ∷ others) others)) [ true ↦ known | false ↦ known ]
+    step false known = elim (g.number == number) as (λ b. read_all (other_number number) some ≡ map (λ (x : Recorded). x.number) (cond (not b && false) (g ∷ others) others)) [ true ↦ known | false ↦ known ]
 
 -- How many beats are read more.
 pub one_more : (from to : ℕ) (f : Recorded) (fs : List Recorded) (n : ℕ) → length (span_beats from to f) ≡ n → length (read_all (span_beats from to) (f ∷ fs)) ≡ n + length (read_all (span_beats from to) fs)

@@ -15,7 +15,7 @@ use Rattle.tl_windows.proofs.ranges.Ranges.has_beat.Goals as goal
 pub loop-fragment-init : goal.loop-fragment-init
 loop-fragment-init c =
     let left : fragments_left c.into_iter-fragment-iterator.result ≡ filter (meets c.args.link c.args.from (Some c.args.to)) c.args.self.now = search rules in
-    ap (read_all (span_beats c.args.from c.args.to)) left ∙ span_read c.args.from c.args.to c.args.link c.args.self.now c.on_link.ensures.kept
+    ap (read_all (span_beats c.args.from c.args.to)) left ∙ span_read c.args.from c.args.to c.args.link c.args.self.now c.on_link-fragment-items.ensures.kept
 
 pub returns-then-has_some : goal.returns-then-has_some
 returns-then-has_some c =

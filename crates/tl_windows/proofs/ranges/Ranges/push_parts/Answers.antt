@@ -17,7 +17,7 @@ use Rattle.tl_windows.proofs.ranges.Ranges.push_parts.Goals as goal
 pub loop-of-init : goal.loop-of-init
 loop-of-init c =
     let left : fragments_left c.into_iter-of-iterator.result ≡ filter (meets c.args.link c.args.from (Some c.args.to)) c.args.self.now = search rules in
-    ap (λ ps. spanned arc_value c.args.from c.args.to c.args.parts.now.items ++ ps) (ap (read_all (span_beats c.args.from c.args.to)) left ∙ span_read c.args.from c.args.to c.args.link c.args.self.now c.on_link.ensures.kept)
+    ap (λ ps. spanned arc_value c.args.from c.args.to c.args.parts.now.items ++ ps) (ap (read_all (span_beats c.args.from c.args.to)) left ∙ span_read c.args.from c.args.to c.args.link c.args.self.now c.on_link-of-items.ensures.kept)
 
 pub loop-of-preserved-in_ok-push : goal.loop-of-preserved-in_ok-push
 loop-of-preserved-in_ok-push c =

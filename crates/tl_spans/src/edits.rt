@@ -22,12 +22,7 @@ impl Spans {
     /// lose their results, those that have no beat any more go, and those that get their first come. AllocError where memory is
     /// refused: then the edit is dropped, and nothing has changed. It costs the beats of its fragments, and a few looks for each
     /// window that it touches; a region's costs the windows of its manager.
-    pub fn accept(
-        &mut self,
-        alloc: Global,
-        edit: Edit,
-        touched: Touched,
-    ) -> Result<u64, AllocError>
+    pub fn accept(&mut self, alloc: Global, edit: Edit, touched: Touched) -> Result<u64, AllocError>
         requires none { refusal (length self.old.log.edits) (standing self.old) (plain edit) ≡ None }
         requires touched { IsTouched (standing self.old) (plain edit) touched }
         ensures number { IfOk result (λ number. number ≡ length self.new.log.edits) }

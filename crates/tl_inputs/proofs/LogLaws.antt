@@ -171,3 +171,11 @@ module _ {X : Type 0} (value : X → AnEdit) (all : List X) (log : LogData) (vie
 
   pub all_is_made : length (take k all) ≤ i → now ≡ inputs_after log.topo (take k log.edits)
   all_is_made far = stands ∙ ap (λ l. inputs_after log.topo (map value l)) (take_all i (take k all) far) ∙ ap (inputs_after log.topo) (sym (take-map value k all) ∙ ap (take k) view)
+
+-- What no cause refuses by a log, none refuses by what the code keeps of it.
+pub free_inside : {X : Type 0} (value : X → AnEdit) (xs : List X) (now : InputData) (log : LogData) (x : X) → ◌≡◌ {A = LogData} (record { topo = now.topo; edits = map value xs }) log
+    → now ≡ inputs_after now.topo (map value xs) → refusal (length log.edits) (inputs_after log.topo log.edits) (value x) ≡ None → refusal (length xs) now (value x) ≡ None
+free_inside value xs now log x view stands none =
+    let shown : refusal (length (map value xs)) (inputs_after now.topo (map value xs)) (value x) ≡ None =
+    subst (λ (l : LogData). refusal (length l.edits) (inputs_after l.topo l.edits) (value x) ≡ None) (sym view) none in
+    subst (λ n. refusal n now (value x) ≡ None) (length-map xs value) (subst (λ (d : InputData). refusal (length (map value xs)) d (value x) ≡ None) (sym stands) shown)

@@ -83,9 +83,21 @@ impl Log {
         ensures memory { IsErrOf result EditFault.Memory → refusal (length self.old.edits) (inputs_after self.old.topo self.old.edits) (plain edit) ≡ None }
         ensures err { OnErr result (self.new ≡ self.old) }
     {
-        if let Some(fault) = self.inputs.refusal(self.edits.len(), &edit) {
+        if let Some(fault) = self.refusal(&edit) {
             return Err(fault);
         }
+        let number = self.accept(edit)?;
+        Ok(number)
+    }
+
+    /// Appends an edit that no cause refuses and answers its number. AllocError where memory is refused: then the edit is dropped,
+    /// and the log is as before.
+    pub fn accept(&mut self, edit: Edit) -> Result<u64, AllocError>
+        requires { refusal (length self.old.edits) (inputs_after self.old.topo self.old.edits) (plain edit) ≡ None }
+        ensures number { IfOk result (λ number. number ≡ length self.new.edits) }
+        ensures ok { OnOk result (self.new ≡ record self.old { edits = self.old.edits ++ plain edit ∷ [] }) }
+        ensures err { OnErr result (self.new ≡ self.old) }
+    {
         self.edits.reserve(1)?;
         self.inputs.apply(&edit)?;
         self.edits.push(edit)?;

@@ -1,5 +1,5 @@
 -- Windows of monitors that go out and come back.
-use Rattle.std.proofs.Common.{◌≡◌, ℕ, Bool, true, false, List, Option, Some, None, refl, sym, ap, subst, ◌∙◌}
+use Rattle.std.proofs.Common.{◌≡◌, ℕ, ◌⊎◌, inl, inr, Bool, true, false, List, Option, Some, None, refl, sym, ap, subst, ◌∙◌}
 use Rattle.std.specs.Prelude.{is_some}
 use Rattle.std.specs.Bool.{Decides}
 use Rattle.std.specs.Option.{IfSome}
@@ -8,17 +8,19 @@ use Rattle.tl_beats.specs.declared.watch.Watch.{Watch}
 use Rattle.tl_definitions.specs.Passes.{Judge, IsPass}
 use Rattle.tl_definitions.specs.Tallies.{watching}
 use Rattle.tl_inputs.specs.Inputs.{InputData, watch_at}
+use Rattle.tl_monitor.specs.Held.{Held}
 use Rattle.tl_pieces.specs.declared.key.PieceKey.{PieceKey}
 use Rattle.tl_pieces.specs.Keys.{change}
 use Rattle.tl_pieces.specs.Pieces.{Piece, Board, Pass, IsBoard, opening_of, piece_at, with_live, with_pieces, IsFirst}
 use Rattle.tl_plain.specs.Captured.{watched_beats}
+use Rattle.tl_spans.specs.Spans.{standing}
 use Rattle.tl_spans.proofs.CheckLemmas.{first_there, owner_of}
 use Rattle.tl_spans.proofs.TicketLemmas.{live_openings, live_there, live_result}
 use Rattle.tl_windows.specs.Windows.{beats_in}
 use Rattle.tl_watches.specs.declared.tally.Tally.{Tally}
-use Rattle.tl_watches.specs.Outside.{StandsInWatch}
-use Rattle.tl_watches.specs.Tasks.{WatchTaskData, IsTallyOf, IsWatchPassOf, IsWatchCurrent}
-use Rattle.tl_watches.specs.Watches.{beats_for, IsOfWatch, AreWatches}
+use Rattle.tl_watches.specs.Outside.{IsWatchTaskFor, StandsInWatch}
+use Rattle.tl_watches.specs.Tasks.{WatchWindowData, WatchTaskData, IsAmid, IsTallyOf, IsWatchPassOf, IsWatchCurrent, LeavesTally, with_monitor}
+use Rattle.tl_watches.specs.Watches.{WatchesData, beats_for, IsOfWatch, IsAmidWindow, AreWatches}
 use Rattle.tl_watches.proofs.PassLemmas.{judge_is, beats_are, one_watch}
 
 -- ---- a window that is found
@@ -86,3 +88,35 @@ stands_by now task w at result decides = ((λ h. stands (decides.0 h)), (λ s. d
 
 pub none_stands : (now : InputData) (task : WatchTaskData) → watch_at task.number now.monitors ≡ None → Decides false (StandsInWatch now task)
 none_stands now task none = ((λ h. cc), (λ s. absurd (let never : None ≡ Some task.held.watch = sym none ∙ s.watch in cc)))
+
+-- ---- the check of a window
+
+-- With a monitor of its watch the pass of a window is that of what stands for it.
+pub window_passes : (now : WatchesData) (key : PieceKey) (task : WatchWindowData) (held : Held) (result : Pass Tally (List Row)) → IsWatchTaskFor now key task → held.watch ≡ task.watch
+    → IsWatchPassOf (with_monitor task held) result → IsOfWatch (standing now.spans) key.owner key.window result
+window_passes now key task held result is same pass =
+    subst (λ n. IsOfWatch (standing now.spans) n key.window result) is.number
+    (subst (λ n. IsOfWatch (standing now.spans) task.number n result) is.window (current_passes (standing now.spans) (with_monitor task held) result stands pass))
+  where
+    stands : StandsInWatch (standing now.spans) (with_monitor task held)
+    stands = record {
+      watch = subst (λ n. watch_at n (standing now.spans).monitors ≡ Some held.watch) (sym is.number) (is.watch ∙ ap Some (sym same));
+      beats = subst (λ w. task.beats ≡ beats_in task.window (watched_beats (standing now.spans).topo (standing now.spans).fragments w)) (sym same)
+          (subst (λ n. task.beats ≡ beats_in n (watched_beats (standing now.spans).topo (standing now.spans).fragments task.watch)) (sym is.window) is.beats);
+    }
+
+-- What some first beats of it leave stands amid the window.
+pub left_amid : (now : WatchesData) (key : PieceKey) (task : WatchWindowData) (w : Watch) (tally : ℕ) → IsWatchTaskFor now key task → IsAmid task.number w task.entry task.beats tally → IsAmidWindow now key w tally
+left_amid now key task w tally is amid = record {
+  entry = task.entry;
+  from = is.entry;
+  amid = subst (λ ps. IsAmid key.owner w task.entry ps tally) own (subst (λ n. IsAmid n w task.entry task.beats tally) is.number amid);
+}
+  where
+    own : task.beats ≡ beats_in key.window (beats_for (standing now.spans) key.owner)
+    own = is.beats ∙ ap (beats_in key.window) (sym (beats_are (standing now.spans) key.owner task.watch is.watch))
+
+pub left_so : (now : WatchesData) (key : PieceKey) (task : WatchWindowData) (held : Held) (tally : ℕ) → IsWatchTaskFor now key task → LeavesTally (with_monitor task held) tally
+    → (tally ≡ held.tally) ⊎ IsAmidWindow now key held.watch tally
+left_so now key task held tally is (inl same) = inl same
+left_so now key task held tally is (inr amid) = inr (left_amid now key task held.watch tally is amid)

@@ -17,7 +17,8 @@ use Rattle.tl_plain.specs.Captured.{watched_beats}
 use Rattle.tl_windows.specs.Present.{IsPresent}
 use Rattle.tl_windows.specs.Windows.{beats_in, AreBeatsOf}
 use Rattle.tl_windows.proofs.LawLemmas.{one_link_is_its_own}
-use Rattle.tl_watches.specs.Tasks.{AreWatched}
+use Rattle.tl_monitor.specs.Held.{Held}
+use Rattle.tl_watches.specs.Tasks.{WatchWindowData, AreWatched, IsTallyOf, IsWatchWindow, IsWatchTask, with_monitor, without_monitor}
 use Rattle.tl_watches.proofs.PassLemmas.{window_of_one_link}
 
 -- One link rises, and so does none.
@@ -65,3 +66,19 @@ none_decides (b ∷ beats) rest none = ((λ h. absurd (some h)), (λ h. absurd (
   where
     some : (length (b ∷ beats) == 0) ≡ true → ⊥
     some h = let zero_is : length (b ∷ beats) ≡ 0 = grind (arith, nat_tests) in omega (arith, zero_is)
+
+-- ---- a window and its monitor
+
+pub with_its_monitor : (task : WatchWindowData) (held : Held) → IsWatchWindow task → held.watch ≡ task.watch → IsWatchTask (with_monitor task held) × (held.watch ≡ task.watch)
+with_its_monitor task held is same = (record { beats = is.beats; entry = subst (λ w. IsTallyOf w task.entry) (sym same) is.entry }, same)
+
+-- Its monitor holds the same but for the tally.
+pub still_task : (task : WatchWindowData) (old new : Held) → IsWatchTask (with_monitor task old) → old.watch ≡ task.watch → new ≡ record old { tally = new.tally } → IsWatchTask (with_monitor task new) × (new.watch ≡ task.watch)
+still_task task old new is same held =
+    let watch : new.watch ≡ old.watch = ap (λ (h : Held). h.watch) held in (
+      record { beats = is.beats; entry = subst (λ w. IsTallyOf w task.entry) (sym watch) is.entry },
+      watch ∙ same,
+    )
+
+pub parted : (task : WatchWindowData) (held : Held) → held.watch ≡ task.watch → task ≡ without_monitor (with_monitor task held)
+parted task held same = ap (λ w. record task { watch = w }) (sym same)

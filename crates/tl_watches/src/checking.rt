@@ -3,50 +3,24 @@
 ghost use Rattle.std.specs.Prelude.{◌≡◌, ◌<◌, ◌⊎◌, IfOk, OnOk, OnErr, Some, is_some, length, true};
 ghost use Rattle.std.specs.Arc.{arc_value};
 ghost use Rattle.std.specs.List.{All};
-ghost use Rattle.std.specs.List.Sorted.{IsStrictlySortedBy};
-ghost use Rattle.tl_definitions.specs.Positions.{position_order};
 ghost use Rattle.tl_definitions.specs.Report.{IsReport};
-ghost use Rattle.tl_definitions.specs.Tallies.{AreOfOneLink};
 ghost use Rattle.tl_inputs.specs.Inputs.{watch_at};
 ghost use Rattle.tl_pieces.specs.Marks.{pass_of};
 ghost use Rattle.tl_pieces.specs.Pieces.{piece_at, entry_for, IsSettled};
-ghost use Rattle.tl_plain.specs.Captured.{captures_after, watched_beats};
+ghost use Rattle.tl_plain.specs.Captured.{captures_after};
 ghost use Rattle.tl_span.specs.States.{SameSpan};
 ghost use Rattle.tl_spans.specs.Spans.{standing};
 ghost use Rattle.tl_watches.specs.Tally.{SameTally};
-ghost use Rattle.tl_windows.specs.Windows.{beats_in};
 ghost use Rattle.tl_watches.specs.Watches.{IsOfWatch, IsAmidWindow, ChecksWatch};
 
 use crate::tally::Tally;
 use crate::watches::Watches;
 use std::alloc::{AllocError, Global};
-use std::sync::Arc;
-use tl_beats::{Placed, Row, Watch};
-use tl_inputs::Inputs;
-use tl_monitor::{Monitor, Watched, monitor_check};
+use tl_beats::Row;
+use tl_monitor::{Monitor, Watched};
 use tl_pieces::{PieceKey, Stored};
 use tl_span::sort_rows;
 use tl_spans::{Rows, gathered, keep};
-
-/// The beats of a window of the link that a watch names; none where the topology has no such link.
-fn watched(
-    alloc: Global,
-    inputs: &Inputs,
-    watch: &Watch,
-    window: u64,
-) -> Result<Vec<Placed>, AllocError>
-    ensures exact { IfOk result (λ beats. beats.items ≡ beats_in window (watched_beats inputs.now.topo inputs.now.fragments watch.now)) }
-    ensures link { IfOk result (λ beats. AreOfOneLink beats.items) }
-    ensures rises { IfOk result (λ beats. IsStrictlySortedBy position_order beats.items) }
-{
-    let present = inputs.present();
-    let _ = present.is_empty();
-    let Some(link) = inputs.topo().link_of(&watch.link()) else {
-        return Ok(Vec::new(alloc));
-    };
-    let beats = present.link_beats_in(alloc, window, link)?;
-    Ok(beats)
-}
 
 impl Watches {
     /// Checks a window of a monitor, which is given, from what the windows of the monitor before it leave; the window's ticket
@@ -89,19 +63,9 @@ impl Watches {
         ensures tally { OnOk result (IsAmidWindow self.now key monitor.old.watch monitor.new.tally) }
         ensures left { OnErr result ((monitor.new.tally ≡ monitor.old.tally) ⊎ IsAmidWindow self.now key monitor.old.watch monitor.new.tally) }
     {
-        let _ = self.pieces.len();
-        let entry = Arc::try_clone(self.pieces.entry_for(key).unwrap())?;
-        let watch = monitor.watch();
-        let beats = watched(alloc, self.spans.log().inputs(), &watch, key.window)?;
-        let checked = monitor_check(alloc, key.owner, monitor, entry.count, &beats)?;
-        let exit = Tally {
-            count: checked.tally,
-        };
-        Ok(Stored {
-            entry,
-            exit: Arc::new(alloc, exit)?,
-            rows: Rows::new(checked.rows),
-        })
+        let window = self.watch_window(alloc, key)?;
+        let stored = window.check(alloc, monitor)?;
+        Ok(stored)
     }
 
     /// The report of what stands: the rows of all windows, of managers and of monitors. AllocError where memory is refused.

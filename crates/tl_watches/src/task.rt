@@ -1,11 +1,11 @@
 //! Windows of monitors that are to be checked, apart from the log and the windows that they come from.
 
-ghost use Rattle.std.specs.Prelude.{◌≡◌, IfOk};
+ghost use Rattle.std.specs.Prelude.{◌≡◌, IfOk, OnOk};
 ghost use Rattle.std.specs.Arc.{arc_value};
 ghost use Rattle.std.specs.Bool.{Decides};
 ghost use Rattle.tl_pieces.specs.Marks.{pass_of};
 ghost use Rattle.tl_plain.specs.Captured.{watched_beats};
-ghost use Rattle.tl_watches.specs.Tasks.{AreWatched, IsTallyOf, IsWatchWindow, IsWatchTask, IsWatchPassOf, IsWatchCurrent, SameButTally, LeavesTally, with_monitor, without_monitor};
+ghost use Rattle.tl_watches.specs.Tasks.{AreWatched, IsAmid, IsTallyOf, IsWatchWindow, IsWatchTask, IsWatchPassOf, IsWatchCurrent, SameButTally, LeavesTally, with_monitor, without_monitor};
 ghost use Rattle.tl_windows.specs.Windows.{beats_in};
 
 use crate::same_watch::is_watch;
@@ -101,20 +101,39 @@ impl WatchWindow {
         requires { monitor.watch ≡ self.watch }
         ensures { result ≡ with_monitor self monitor }
     {
-        let WatchWindow {
-            number,
-            window,
-            watch: _,
-            beats,
-            entry,
-        } = self;
+        let _ = &self.beats;
         WatchTask {
-            number,
-            window,
-            beats,
-            entry,
+            window: self,
             monitor,
         }
+    }
+
+    /// The pass of its beats by the watch of a monitor, which has its watch, from its entry. AllocError where memory is refused. In
+    /// both cases the monitor stays the same but for its tally, which is then that behind some first beats of the window (all of
+    /// them where it was checked), or was not touched.
+    pub fn check<M: Monitor>(
+        &self,
+        alloc: Global,
+        monitor: &mut Watched<M>,
+    ) -> Result<Stored<Tally, Rows>, AllocError>
+        requires { monitor.old.watch ≡ self.now.watch }
+        ensures pass { IfOk result (λ stored. IsWatchPassOf (with_monitor self.now monitor.old) (pass_of stored)) }
+        ensures entry { IfOk result (λ stored. arc_value stored.entry ≡ self.now.entry) }
+        ensures held { monitor.new ≡ record monitor.old { tally = monitor.new.tally } }
+        ensures behind { OnOk result (IsAmid self.now.number monitor.old.watch self.now.entry self.now.beats monitor.new.tally) }
+        ensures left { LeavesTally (with_monitor self.now monitor.old) monitor.new.tally }
+    {
+        let beats = self.beats.gathered(alloc)?;
+        let entry = Arc::try_clone(&self.entry)?;
+        let checked = monitor_check(alloc, self.number, monitor, entry.count, &beats)?;
+        let exit = Tally {
+            count: checked.tally,
+        };
+        Ok(Stored {
+            entry,
+            exit: Arc::new(alloc, exit)?,
+            rows: Rows::new(checked.rows),
+        })
     }
 }
 
@@ -122,22 +141,19 @@ impl WatchWindow {
 /// and may go to another thread.
 #[derive(Drop)]
 pub struct WatchTask<M: Monitor> {
-    number: u32,
-    window: u64,
-    beats: WindowBeats,
-    entry: Arc<Tally>,
+    window: WatchWindow,
     monitor: Watched<M>,
 }
 
 impl<M: Monitor> Model for WatchTask<M> {
-    ghost use Rattle.std.specs.Arc.{arc_value};
-    ghost use Rattle.tl_watches.specs.Tasks.{WatchTaskData, IsWatchTask};
+    ghost use Rattle.std.specs.Prelude.{◌≡◌};
+    ghost use Rattle.tl_watches.specs.Tasks.{WatchTaskData, IsWatchTask, with_monitor};
 
     ghost Value = { WatchTaskData };
 
-    ghost view = { λ t. record { number = t.number; window = t.window; beats = t.beats; entry = arc_value t.entry; held = t.monitor } };
+    ghost view = { λ t. with_monitor t.window t.monitor };
 
-    ghost invariant = { λ t. IsWatchTask (record { number = t.number; window = t.window; beats = t.beats; entry = arc_value t.entry; held = t.monitor }) };
+    ghost invariant = { λ t. IsWatchTask (with_monitor t.window t.monitor) × (t.monitor.watch ≡ t.window.watch) };
 }
 
 impl<M: Monitor> WatchTask<M> {
@@ -146,15 +162,14 @@ impl<M: Monitor> WatchTask<M> {
         ensures exact { result ≡ self.now.number }
         ensures kept { IsWatchTask self.now }
     {
-        let _ = &self.beats;
-        self.number
+        self.window.number()
     }
 
     /// The window.
     pub fn window(&self) -> u64
         ensures { result ≡ self.now.window }
     {
-        self.window
+        self.window.window()
     }
 
     /// The watch of its monitor.
@@ -168,13 +183,7 @@ impl<M: Monitor> WatchTask<M> {
     pub fn into_monitor(self) -> Watched<M>
         ensures { result ≡ self.held }
     {
-        let WatchTask {
-            number: _,
-            window: _,
-            beats: _,
-            entry: _,
-            monitor,
-        } = self;
+        let WatchTask { window: _, monitor } = self;
         monitor
     }
 
@@ -183,22 +192,8 @@ impl<M: Monitor> WatchTask<M> {
         ensures window { result.0 ≡ without_monitor self }
         ensures monitor { result.1 ≡ self.held }
     {
-        let WatchTask {
-            number,
-            window,
-            beats,
-            entry,
-            monitor,
-        } = self;
-        let watch = monitor.watch();
-        let task = WatchWindow {
-            number,
-            window,
-            watch,
-            beats,
-            entry,
-        };
-        (task, monitor)
+        let WatchTask { window, monitor } = self;
+        (window, monitor)
     }
 
     /// The pass of its beats by the watch of its monitor, from its entry. AllocError where memory is refused. In both cases the task
@@ -209,17 +204,7 @@ impl<M: Monitor> WatchTask<M> {
         ensures rest { SameButTally self.old self.new }
         ensures left { LeavesTally self.old self.new.held.tally }
     {
-        let beats = self.beats.gathered(alloc)?;
-        let entry = Arc::try_clone(&self.entry)?;
-        let checked = monitor_check(alloc, self.number, &mut self.monitor, entry.count, &beats)?;
-        let exit = Tally {
-            count: checked.tally,
-        };
-        Ok(Stored {
-            entry,
-            exit: Arc::new(alloc, exit)?,
-            rows: Rows::new(checked.rows),
-        })
+        self.window.check(alloc, &mut self.monitor)
     }
 
     /// Whether what it was made of is what stands: this is its monitor's watch, and its beats are those that lie in its window on
@@ -228,7 +213,7 @@ impl<M: Monitor> WatchTask<M> {
         ensures { Decides result (IsWatchCurrent topo.now present.now watch.now self.now) }
     {
         is_watch(&self.monitor.watch(), watch)
-            && has_watched(topo, present, watch, &self.beats, self.window)
+            && has_watched(topo, present, watch, &self.window.beats, self.window.window)
     }
 }
 

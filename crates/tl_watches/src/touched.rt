@@ -3,11 +3,12 @@
 ghost use Rattle.std.specs.Prelude.{◌≡◌, ◌<◌, ◌^◌, ◌↔◌, ℕ, IfOk, None, Some};
 ghost use Rattle.std.specs.List.{Contains};
 ghost use Rattle.tl_definitions.specs.Watching.{IsWatch};
-ghost use Rattle.tl_inputs.specs.Edits.{plain, plain_change};
-ghost use Rattle.tl_inputs.specs.Inputs.{attached};
+ghost use Rattle.tl_inputs.specs.Edits.{AnEdit, plain, plain_change};
+ghost use Rattle.tl_inputs.specs.Inputs.{InputData, attached};
 ghost use Rattle.tl_pieces.specs.declared.key.PieceKey.{PieceKey as AnyKey};
 ghost use Rattle.tl_plain.specs.Captured.{watched_beats};
 ghost use Rattle.tl_spans.specs.Touch.{TouchesLink};
+ghost use Rattle.tl_spans.specs.Touched.{IsTouched};
 ghost use Rattle.tl_windows.specs.Windows.{HasBeat};
 ghost use Rattle.tl_watches.specs.Touch.{edited_link, names_link, watchers};
 
@@ -15,7 +16,7 @@ use std::alloc::{AllocError, Global};
 use tl_beats::Watch;
 use tl_inputs::{Change, Edit, Inputs};
 use tl_pieces::PieceKey;
-use tl_spans::{Touched, keys_of, touches_of};
+use tl_spans::{Touched, keys_of};
 use tl_topology::Topo;
 
 /// The link whose fragments an edit changes.
@@ -37,19 +38,15 @@ pub(crate) fn edited_link(topo: &Topo, edit: &Edit) -> Option<u16>
     }
 }
 
-/// The windows of the link whose fragments an edit changes that it touches. AllocError where memory is refused.
-pub(crate) fn touched_windows(
-    alloc: Global,
-    inputs: &Inputs,
-    edit: &Edit,
-) -> Result<Vec<u64>, AllocError>
-    ensures { IfOk result (λ windows. (link window : ℕ) → edited_link inputs.now.topo (plain edit.now) ≡ Some link
-        → Contains windows.items window ↔ TouchesLink inputs.now (plain edit.now) link window) }
+/// The windows of the link whose fragments an edit changes, of what the edit touches.
+pub(crate) fn windows_in(touched: &Touched) -> &[u64]
+    ensures { (now : InputData) (e : AnEdit) (link window : ℕ) → IsTouched now e touched.now → edited_link now.topo e ≡ Some link
+        → Contains result.now window ↔ TouchesLink now e link window }
 {
-    match touches_of(alloc, inputs, edit)? {
-        Touched::Nothing => Ok(Vec::new(alloc)),
-        Touched::Windows(_, windows) => Ok(windows),
-        Touched::All(_) => Ok(Vec::new(alloc)),
+    match touched {
+        Touched::Nothing => &[],
+        Touched::Windows(_, windows) => windows.as_slice(),
+        Touched::All(_) => &[],
     }
 }
 

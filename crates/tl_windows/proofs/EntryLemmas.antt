@@ -1,9 +1,9 @@
 -- Fragments as entries of a map, by link and end of range.
-use Rattle.std.proofs.Common.{◌≡◌, ℕ, ◌<◌, ◌≤◌, inl, inr, Bool, true, false, cond, not, ◌&&◌, List, [], ◌∷◌, ◌++◌, refl, sym, ap, subst, ◌∙◌, arith}
+use Rattle.std.proofs.Common.{◌≡◌, ℕ, ◌<◌, ◌≤◌, inl, inr, Bool, true, false, cond, not, ◌&&◌, List, [], ◌∷◌, refl, sym, ap, subst, ◌∙◌, arith}
 use Rattle.std.specs.Prelude.{filter, map, ◌==◌, nat_lt, nat_le}
 use Rattle.std.specs.declared.cmp.Ordering.{Ordering}
 use Rattle.std.specs.declared.cmp.Ordering.TheVariants.{Less, Equal, Greater}
-use Rattle.std.specs.Ordering.{nat_cmp, ordering_then, ordering_reverse, match_ordering, is_eq, is_lt, is_le}
+use Rattle.std.specs.Ordering.{nat_cmp, ordering_then, ordering_reverse, match_ordering, is_eq, is_lt}
 use Rattle.std.specs.Cmp.{IsTotalOrder}
 use Rattle.std.specs.FinMap.{nat_cmp-IsAntisymmetric}
 use Rattle.std.specs.BTreeMap.{insert_entry, is_at}
@@ -15,10 +15,10 @@ use Rattle.std.proofs.lemmas.Cmp.{then_total, on_total, nat_cmp_total}
 use Rattle.std.proofs.lemmas.List.Elements.{All-head, All-contains}
 use Rattle.tl_beats.specs.Fragments.{Frag}
 use Rattle.tl_definitions.specs.Positions.{Recorded}
-use Rattle.tl_definitions.proofs.Lists.{contains_here, contains_there, none_kept, kept_from, all_of, all_by}
+use Rattle.tl_definitions.proofs.Lists.{contains_here, contains_there, all_of, all_by}
 use Rattle.tl_definitions.proofs.OrderLaws.{then_less, tied, below}
-use Rattle.tl_windows.specs.Present.{range_order, of_link, put_in, shares, IsCapture}
-use Rattle.tl_windows.specs.Ranges.{Key, key_cmp, AreRanges, ends_at, without_end, shown, AreKeyed, AreEntries, from_key, walked}
+use Rattle.tl_windows.specs.Present.{range_order, put_in, shares, IsCapture}
+use Rattle.tl_windows.specs.Ranges.{Key, key_cmp, ends_at, without_end, shown, AreKeyed, AreEntries}
 use Rattle.tl_windows.proofs.PresentLemmas.{less_cases, less_is, ranges_tail}
 
 -- ---- orders
@@ -226,114 +226,3 @@ module _ {V : Type 0} (value : V → Frag) where
   pub keyed_remove : (test : Key → Bool) (es : List (Key × V)) → AreKeyed value es → AreKeyed value (remove_entry test es)
   keyed_remove test [] keyed = tt
   keyed_remove test (e ∷ es) keyed = elim (test e.0) as (λ t. AreKeyed value (cond t es (e ∷ remove_entry test es))) [ true ↦ keyed.1 | false ↦ (keyed.0, keyed_remove test es keyed.1) ]
-
--- ---- walks
-
--- What is read of each, one behind the other.
-abbrev pub read_all : {X : Type 0} → (Recorded → List X) → List Recorded → List X
-read_all read [] = []
-read_all read (f ∷ fs) = read f ++ read_all read fs
-
-read_none : {X : Type 0} (read : Recorded → List X) (fs : List Recorded) → ((f : Recorded) → Contains fs f → read f ≡ []) → read_all read fs ≡ []
-read_none read [] none = refl
-read_none read (f ∷ fs) none = ap (λ xs. xs ++ read_all read fs) (none f (contains_here f fs)) ∙ read_none read fs (λ g h. none g (contains_there f fs g h))
-
--- A walk that reads `read` tells `all` of the link's fragments: what it skips in front, what it stops at and what comes behind has nothing.
-pub record Tells {X : Type 0} (read all : Recorded → List X) (stop : Recorded → Bool) (link cycle : ℕ) : Type 0 where
-  pub skips : (f : Recorded) → IsCapture f → f.link ≡ link → f.last < cycle → all f ≡ []
-  pub stops : (f g : Recorded) → IsCapture g → f.link ≡ link → g.link ≡ link → stop f ≡ true → f.first ≤ g.first → all g ≡ []
-  pub reads : (f : Recorded) → IsCapture f → f.link ≡ link → cycle ≤ f.last → stop f ≡ false → read f ≡ all f
-
-le_then : (o r : Ordering) → is_le (ordering_then o r) ≡ cond (is_lt o) true (is_eq o && is_le r)
-le_then Less r = refl
-le_then Equal r = refl
-le_then Greater r = refl
-
-lt_test : (m n : ℕ) → is_lt (nat_cmp m n) ≡ nat_lt m n
-lt_test m n = elim (nat_lt m n) as (λ b. nat_lt m n ≡ b → is_lt (nat_cmp m n) ≡ b) [
-  | true ↦ λ e. (let lt : m < n = grind (arith, nat_tests) in ap is_lt (below m n lt))
-  | false ↦ λ e. elim (nat_lt n m) as (λ b. nat_lt n m ≡ b → is_lt (nat_cmp m n) ≡ false) [
-    | true ↦ λ g. (let lt : n < m = grind (arith, nat_tests) in ap is_lt (above m n lt))
-    | false ↦ λ g. (let same : m ≡ n = grind (arith, nat_tests) in ap is_lt (tied m n same))
-  ] refl
-] refl
-
-le_test : (m n : ℕ) → is_le (nat_cmp m n) ≡ nat_le m n
-le_test m n = elim (nat_lt m n) as (λ b. nat_lt m n ≡ b → is_le (nat_cmp m n) ≡ nat_le m n) [
-  | true ↦ λ e. (let lt : m < n = grind (arith, nat_tests) in let yes : nat_le m n ≡ true = grind (arith, nat_tests) in ap is_le (below m n lt) ∙ sym yes)
-  | false ↦ λ e. elim (nat_lt n m) as (λ b. nat_lt n m ≡ b → is_le (nat_cmp m n) ≡ nat_le m n) [
-    | true ↦ λ g. (let lt : n < m = grind (arith, nat_tests) in let no : nat_le m n ≡ false = grind (arith, nat_tests) in ap is_le (above m n lt) ∙ sym no)
-    | false ↦ λ g. (let same : m ≡ n = grind (arith, nat_tests) in let yes : nat_le m n ≡ true = grind (arith, nat_tests) in ap is_le (tied m n same) ∙ sym yes)
-  ] refl
-] refl
-
-from_test : (link cycle : ℕ) (q : Key) → (is_le (key_cmp (link, cycle) q) && not false) ≡ cond (nat_lt link q.0) true ((q.0 == link) && nat_le cycle q.1)
-from_test link cycle q = ap (λ t. t && true) (le_then (nat_cmp link q.0) (nat_cmp cycle q.1) ∙ ap (λ t. cond t true (is_eq (nat_cmp link q.0) && is_le (nat_cmp cycle q.1))) (lt_test link q.0)
-    ∙ ap (λ t. cond (nat_lt link q.0) true (t && is_le (nat_cmp cycle q.1))) (eq_test link q.0) ∙ ap (λ t. cond (nat_lt link q.0) true ((q.0 == link) && t)) (le_test cycle q.1))
-    ∙ and_true (cond (nat_lt link q.0) true ((q.0 == link) && nat_le cycle q.1))
-  where
-    and_true : (t : Bool) → (t && true) ≡ t
-    and_true true = refl
-    and_true false = refl
-
-module _ {V X : Type 0} (value : V → Frag) (read all : Recorded → List X) (stop : Recorded → Bool) (link cycle : ℕ) (tells : Tells read all stop link cycle) where
-  other_links : (f : Recorded) (fs : List Recorded) → link < f.link → AllByRecursion (λ g. range_order f g ≡ Less) fs → of_link link fs ≡ []
-  other_links f fs more behind = none_kept (λ g. g.link == link) fs (λ g h. elim (less_cases (nat_cmp f.link g.link) (nat_cmp f.last g.first) (all_of (λ x. range_order f x ≡ Less) fs behind g h)) [
-    | inl by_link ↦ (let lt = less_is f.link g.link by_link in grind (arith, nat_tests))
-    | inr by_range ↦ (let same = nat_cmp-IsAntisymmetric f.link g.link by_range.0 in grind (arith, nat_tests))
-  ])
-
-  stopped : (f : Recorded) (fs : List Recorded) → AreRanges (f ∷ fs) → f.link ≡ link → stop f ≡ true → read_all all (of_link link fs) ≡ []
-  unfolding IsStrictlySortedBy
-  stopped f fs are same stops = read_none all (of_link link fs) (λ g h.
-      let kept = kept_from (λ (x : Recorded). x.link == link) fs g h in
-      let test : (g.link == link) ≡ true = kept.1 in
-      let there : g.link ≡ link = grind (arith, nat_tests) in
-      let own = All-head IsCapture f fs are.each in
-      let le : f.first ≤ g.first = elim (less_cases (nat_cmp f.link g.link) (nat_cmp f.last g.first) (all_of (λ x. range_order f x ≡ Less) fs are.apart.0 g kept.0)) [
-        | inl by_link ↦ (let lt = less_is f.link g.link by_link in absurd (omega arith))
-        | inr by_range ↦ (let lt = less_is f.last g.first by_range.1 in let order = own.order in omega arith)
-      ] in
-      tells.stops f g (All-contains IsCapture (f ∷ fs) g are.each (contains_there f fs g kept.0)) same there stops le)
-
-  pub walk_tells : (es : List (Key × V)) → AreEntries value es → walked value read stop link (from_key value link cycle es) ≡ read_all all (of_link link (map (shown value) es))
-  unfolding IsStrictlySortedBy
-  walk_tells [] are = refl
-  walk_tells (e ∷ es) are =
-      let f : Recorded = shown value e in
-      let rest = map (shown value) es in
-      let own = All-head IsCapture f rest are.ranges.each in
-      let next = walk_tells es (entries_tail value e es are) in
-      let keyed : e.0.1 ≡ f.last = are.keyed.0 in
-      elim (cond (nat_lt link e.0.0) true ((e.0.0 == link) && nat_le cycle e.0.1)) as (λ t. cond (nat_lt link e.0.0) true ((e.0.0 == link) && nat_le cycle e.0.1) ≡ t
-      → walked value read stop link (cond (is_le (key_cmp (link, cycle) e.0) && not false) (e ∷ from_key value link cycle es) (from_key value link cycle es))
-      ≡ read_all all (cond (e.0.0 == link) (f ∷ of_link link rest) (of_link link rest))) [
-        | true ↦ λ from. ap (λ t. walked value read stop link (cond t (e ∷ from_key value link cycle es) (from_key value link cycle es))) (from_test link cycle e.0 ∙ from)
-            ∙ elim (e.0.0 == link) as (λ t. (e.0.0 == link) ≡ t → cond t (cond (stop f) [] (read f ++ walked value read stop link (from_key value link cycle es))) [] ≡ read_all all (cond t (f ∷ of_link link rest) (of_link link rest))) [
-              | true ↦ λ test. (let same : e.0.0 ≡ link = grind (arith, nat_tests) in
-                  let low : nat_lt link e.0.0 ≡ false = grind (arith, nat_tests) in
-                  let high : ((e.0.0 == link) && nat_le cycle e.0.1) ≡ true = sym (ap (λ t. cond t true ((e.0.0 == link) && nat_le cycle e.0.1)) low) ∙ from in
-                  let after : cycle ≤ f.last = grind (arith, nat_tests) in
-                  elim (stop f) as (λ t. stop f ≡ t → cond t [] (read f ++ walked value read stop link (from_key value link cycle es)) ≡ all f ++ read_all all (of_link link rest)) [
-                    | true ↦ λ halt. sym (ap (λ xs. xs ++ read_all all (of_link link rest)) (tells.stops f f own same same halt (let le : f.first ≤ f.first = omega arith in le)) ∙ stopped f rest are.ranges same halt)
-                    | false ↦ λ on. ap (λ xs. xs ++ walked value read stop link (from_key value link cycle es)) (tells.reads f own same after on) ∙ ap (λ xs. all f ++ xs) next
-                  ] refl)
-              | false ↦ λ test. (let more : link < f.link = past_link link e.0.0 cycle e.0.1 test from in
-                  sym (ap (read_all all) (other_links f rest more are.ranges.apart.0)))
-            ] refl
-        | false ↦ λ from. ap (λ t. walked value read stop link (cond t (e ∷ from_key value link cycle es) (from_key value link cycle es))) (from_test link cycle e.0 ∙ from) ∙ next
-            ∙ elim (e.0.0 == link) as (λ t. (e.0.0 == link) ≡ t → read_all all (of_link link rest) ≡ read_all all (cond t (f ∷ of_link link rest) (of_link link rest))) [
-              | true ↦ λ test. (let same : e.0.0 ≡ link = grind (arith, nat_tests) in
-                  let low : nat_lt link e.0.0 ≡ false = grind (arith, nat_tests) in
-                  let none : ((e.0.0 == link) && nat_le cycle e.0.1) ≡ false = sym (ap (λ t. cond t true ((e.0.0 == link) && nat_le cycle e.0.1)) low) ∙ from in
-                  let before : f.last < cycle = grind (arith, nat_tests) in
-                  sym (ap (λ xs. xs ++ read_all all (of_link link rest)) (tells.skips f own same before)))
-              | false ↦ λ test. refl
-            ] refl
-      ] refl
-    where
-      past_link : (link of cycle last : ℕ) → (of == link) ≡ false → cond (nat_lt link of) true ((of == link) && nat_le cycle last) ≡ true → link < of
-      past_link link of cycle last test from = elim (nat_lt link of) as (λ t. nat_lt link of ≡ t → cond t true ((of == link) && nat_le cycle last) ≡ true → link < of) [
-        | true ↦ λ e h. grind (arith, nat_tests)
-        | false ↦ λ e h. (let no : ((of == link) && nat_le cycle last) ≡ false = ap (λ t. t && nat_le cycle last) test in let wrong : true ≡ false = sym h ∙ no in cc)
-      ] refl from

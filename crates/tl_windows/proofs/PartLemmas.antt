@@ -1,12 +1,11 @@
 -- Beats as they lie in shared fragments, and lists that are put in order.
 use Rattle.std.proofs.Common.{◌≡◌, ℕ, ◌+◌, ◌<◌, ◌≤◌, inl, inr, Bool, true, false, cond, List, [], ◌∷◌, ◌++◌, length, get_or, take, take_all, drop, refl, sym, ap, subst, ◌∙◌, arith, append_assoc, append-nil, length-append}
-use Rattle.std.specs.Prelude.{filter, ◌==◌}
+use Rattle.std.specs.Prelude.{filter}
 use Rattle.std.specs.Ordering.{nat_cmp, is_lt}
 use Rattle.std.specs.List.{All, Contains, AllByRecursion}
 use Rattle.std.specs.List.Sorted.{IsStrictlySortedBy, IsPermutation}
 use Rattle.std.specs.declared.cmp.Ordering.{Ordering}
 use Rattle.std.specs.declared.cmp.Ordering.TheVariants.{Less, Equal, Greater}
-use Rattle.std.proofs.lemmas.Bool.Decides.{nat_tests}
 use Rattle.std.proofs.lemmas.Cmp.{tied_itself}
 use Rattle.std.proofs.lemmas.List.Elements.{All-more, All-contains, Contains-append_left, Contains-append_right, Contains-append_cases}
 use Rattle.std.proofs.lemmas.List.Sorted.{IsPermutation-refl, IsPermutation-cons, IsPermutation-swap, IsPermutation-trans, length_permutation}
@@ -17,11 +16,11 @@ use Rattle.tl_definitions.proofs.Lists.{contains_none, contains_here, contains_t
 use Rattle.tl_definitions.proofs.PositionLaws.{position_total}
 use Rattle.tl_windows.specs.Parts.{spanned, AreAmong}
 use Rattle.tl_windows.specs.Present.{recorded}
-use Rattle.tl_windows.specs.Ranges.{Key, AreRanges, shown, walked, span_beats, begins_after}
+use Rattle.tl_windows.specs.Ranges.{AreRanges, span_beats}
 use Rattle.tl_windows.specs.Windows.{is_within}
 use Rattle.tl_windows.proofs.GatherLemmas.{own, pushed, gathered}
 use Rattle.tl_windows.proofs.SomeLemmas.{next_left}
-use Rattle.tl_windows.proofs.WalkLemmas.{walk_reads}
+use Rattle.tl_windows.proofs.WalkLemmas.{read_all}
 
 -- ---- a list put in order
 
@@ -144,22 +143,12 @@ module _ {V : Type 0} (value : V → Frag) (from to : ℕ) where
 
   -- ---- a walk that keeps them
 
-  module _ (link : ℕ) (e : Key × V) (es : List (Key × V)) where
-    abbrev left : List (Key × V) → List Placed
-    left xs = walked value (span_beats from to) (begins_after to) link xs
-
-    -- A fragment is pushed.
-    pub part_pushed : (e.0.0 == link) ≡ true → begins_after to (shown value e) ≡ false → (ps qs : List (ℕ × V)) (v : V) (all : List Placed) → value v ≡ value e.1 → qs ≡ ps ++ (link, v) ∷ []
-        → spanned value from to ps ++ left (e ∷ es) ≡ all → spanned value from to qs ++ left es ≡ all
-    part_pushed same on ps qs v all copy put known =
-        let of : link ≡ e.0.0 = grind (arith, nat_tests) in
-        let own : part_beats (link, v) ≡ span_beats from to (shown value e) = ap (λ n. span_beats from to (recorded n (value v))) of ∙ ap (λ g. span_beats from to (recorded e.0.0 g)) copy in
-        ap (λ xs. spanned value from to xs ++ left es) put ∙ ap (λ xs. xs ++ left es) (spanned_both ps ((link, v) ∷ []))
-        ∙ append_assoc (spanned value from to ps) (part_beats (link, v) ++ []) (left es)
-        ∙ ap (λ xs. spanned value from to ps ++ (xs ++ left es)) (append-nil (part_beats (link, v)) ∙ own)
-        ∙ ap (λ xs. spanned value from to ps ++ xs) (sym (walk_reads value (span_beats from to) (begins_after to) link e es same on)) ∙ known
-
-    -- How many beats a walk reads more.
-    pub walk_more : (e.0.0 == link) ≡ true → begins_after to (shown value e) ≡ false → (n : ℕ) → length (span_beats from to (shown value e)) ≡ n → length (left (e ∷ es)) ≡ n + length (left es)
-    walk_more same on n many = ap length (walk_reads value (span_beats from to) (begins_after to) link e es same on)
-        ∙ length-append (span_beats from to (shown value e)) (left es) ∙ ap (λ m. m + length (left es)) many
+  -- A fragment is pushed.
+  pub part_pushed : (link : ℕ) (v w : V) (fs : List Recorded) (ps qs : List (ℕ × V)) (all : List Placed) → value w ≡ value v → qs ≡ ps ++ (link, w) ∷ []
+      → spanned value from to ps ++ read_all (span_beats from to) (recorded link (value v) ∷ fs) ≡ all → spanned value from to qs ++ read_all (span_beats from to) fs ≡ all
+  part_pushed link v w fs ps qs all copy put known =
+      let left : List Placed = read_all (span_beats from to) fs in
+      let own : part_beats (link, w) ≡ part_beats (link, v) = ap (λ g. span_beats from to (recorded link g)) copy in
+      ap (λ xs. spanned value from to xs ++ left) put ∙ ap (λ xs. xs ++ left) (spanned_both ps ((link, w) ∷ []))
+      ∙ append_assoc (spanned value from to ps) (part_beats (link, w) ++ []) left
+      ∙ ap (λ xs. spanned value from to ps ++ (xs ++ left)) (append-nil (part_beats (link, w)) ∙ own) ∙ known

@@ -9,14 +9,13 @@ use Rattle.std.proofs.lemmas.List.Folds.{list_any_at, list_any_none}
 use Rattle.tl_beats.specs.Beats.{IsWellFormed}
 use Rattle.tl_beats.specs.declared.Beat.{Beat}
 use Rattle.tl_beats.specs.declared.Placed.{Placed}
-use Rattle.tl_beats.specs.Fragments.{Frag}
 use Rattle.tl_definitions.specs.Positions.{Recorded, placed_from, beats_of_all}
 use Rattle.tl_definitions.proofs.Lists.{contains_none, contains_here, contains_kept, kept_from}
-use Rattle.tl_windows.specs.Ranges.{Key, has_some, shown, walked, span_beats, begins_after}
+use Rattle.tl_windows.specs.Ranges.{has_some, span_beats}
 use Rattle.tl_windows.specs.Spans.{IsSpan, holds}
 use Rattle.tl_windows.specs.Windows.{window_of, is_within, HasBeat}
 use Rattle.tl_windows.proofs.GatherLemmas.{own, pushed, pushed_from, pushed_has, gathered_from, gathered_has}
-use Rattle.tl_windows.proofs.WalkLemmas.{walk_reads}
+use Rattle.tl_windows.proofs.WalkLemmas.{read_all}
 
 -- ---- of one fragment
 
@@ -41,7 +40,7 @@ some_placed_from from to link number line (b ∷ beats) =
 pub some_placed : (from to : ℕ) (f : Recorded) → has_some (span_beats from to f) ≡ list_any (holds from to) f.beats
 some_placed from to f = some_placed_from from to f.link f.number 2 f.beats
 
--- ---- of one link
+-- ---- of fragments
 
 none_is_empty : {X : Type 0} (xs : List X) → has_some xs ≡ false → xs ≡ []
 none_is_empty [] h = refl
@@ -51,19 +50,12 @@ some_in_front : {X : Type 0} (xs ys : List X) → has_some xs ≡ true → has_s
 some_in_front [] ys h = cc
 some_in_front (x ∷ xs) ys h = refl
 
-module _ {V : Type 0} (value : V → Frag) (from to link : ℕ) (e : Key × V) (es all : List (Key × V)) where
-  abbrev whole : List (Key × V) → List Placed
-  whole xs = walked value (span_beats from to) (begins_after to) link xs
+-- What is read of fragments, where the first has no beat there, and where it has.
+pub none_first : (from to : ℕ) (f : Recorded) (fs : List Recorded) → list_any (holds from to) f.beats ≡ false → read_all (span_beats from to) (f ∷ fs) ≡ read_all (span_beats from to) fs
+none_first from to f fs none = ap (λ ps. ps ++ read_all (span_beats from to) fs) (none_is_empty (span_beats from to f) (some_placed from to f ∙ none))
 
-  pub some_next : (e.0.0 == link) ≡ true → begins_after to (shown value e) ≡ false → list_any (holds from to) (value e.1).beats ≡ false → whole (e ∷ es) ≡ whole all → whole es ≡ whole all
-  some_next same on none known =
-      ap (λ ps. ps ++ whole es) (sym (none_is_empty (span_beats from to (shown value e)) (some_placed from to (shown value e) ∙ none)))
-      ∙ sym (walk_reads value (span_beats from to) (begins_after to) link e es same on) ∙ known
-
-  pub some_found : (e.0.0 == link) ≡ true → begins_after to (shown value e) ≡ false → list_any (holds from to) (value e.1).beats ≡ true → whole (e ∷ es) ≡ whole all → true ≡ has_some (whole all)
-  some_found same on some known =
-      sym (some_in_front (span_beats from to (shown value e)) (whole es) (some_placed from to (shown value e) ∙ some))
-      ∙ ap has_some (sym (walk_reads value (span_beats from to) (begins_after to) link e es same on) ∙ known)
+pub some_first : (from to : ℕ) (f : Recorded) (fs : List Recorded) → list_any (holds from to) f.beats ≡ true → has_some (read_all (span_beats from to) (f ∷ fs)) ≡ true
+some_first from to f fs some = some_in_front (span_beats from to f) (read_all (span_beats from to) fs) (some_placed from to f ∙ some)
 
 -- ---- of links
 

@@ -1,26 +1,24 @@
 -- Cursors for the beats of fragments in a span.
 use Rattle.std.proofs.Common.{◌≡◌, ℕ, zero, suc, ◌+◌, ◌-◌, ◌<◌, ◌≤◌, true, false, cond, List, [], ◌∷◌, ◌++◌, Option, Some, None, length, get_or, take, drop, sym, ap, subst, ◌∙◌, refl, arith, append_assoc, append-nil, length-take-le, length-drop}
-use Rattle.std.specs.Prelude.{slice_range, MatchOption, ◌==◌}
-use Rattle.std.proofs.lemmas.Bool.Decides.{nat_tests}
+use Rattle.std.specs.Prelude.{slice_range, MatchOption}
 use Rattle.std.specs.List.{AllWithin}
 use Rattle.std.proofs.lemmas.List.{get_or-take, get_or-drop}
 use Rattle.tl_beats.specs.declared.Beat.{Beat}
 use Rattle.tl_beats.specs.declared.Placed.{Placed}
 use Rattle.tl_beats.specs.Beats.{rises}
 use Rattle.tl_beats.specs.Fragments.{Frag}
-use Rattle.tl_definitions.specs.Positions.{placed_from}
+use Rattle.tl_definitions.specs.Positions.{Recorded, placed_from}
 use Rattle.tl_windows.specs.declared.cursor.Cursor.{Cursor}
 use Rattle.tl_windows.specs.Cursors.{beats_left, all_left}
 use Rattle.tl_windows.specs.Parts.{spanned}
-use Rattle.tl_windows.specs.Present.{recorded}
-use Rattle.tl_windows.specs.Ranges.{Key, shown, walked, span_beats, begins_after}
+use Rattle.tl_windows.specs.Ranges.{span_beats}
 use Rattle.tl_windows.specs.Rising.{AreRising}
 use Rattle.tl_windows.specs.Spans.{holds}
 use Rattle.tl_windows.specs.Windows.{beats_within}
 use Rattle.tl_windows.proofs.CutLemmas.{AreBounds}
 use Rattle.tl_windows.proofs.PartLemmas.{part_beats, spanned_at}
 use Rattle.tl_windows.proofs.PresentLemmas.{placed_at}
-use Rattle.tl_windows.proofs.WalkLemmas.{walk_reads}
+use Rattle.tl_windows.proofs.WalkLemmas.{read_all}
 
 -- ---- what stands between them
 
@@ -98,25 +96,10 @@ module _ {V : Type 0} (value : V → Frag) (from to : ℕ) (parts : List (ℕ ×
       ap (λ xs. all_left xs ++ left (i + 1)) put ∙ ap (λ ps. ps ++ left (i + 1)) (left_both cs (c ∷ []) ∙ ap (λ ps. all_left cs ++ ps) (append-nil (beats_left c) ∙ has))
       ∙ append_assoc (all_left cs) (part_beats value from to e) (left (i + 1)) ∙ ap (λ ps. all_left cs ++ ps) (sym (spanned_at value from to parts i e within is)) ∙ known
 
--- ---- a walk that keeps them
-
-module _ {V : Type 0} (value : V → Frag) (from to link : ℕ) (e : Key × V) (es : List (Key × V)) where
-  abbrev ahead : List (Key × V) → List Placed
-  ahead xs = walked value (span_beats from to) (begins_after to) link xs
-
-  -- What a walk reads of a fragment of the link.
-  reads : (e.0.0 == link) ≡ true → begins_after to (shown value e) ≡ false → ahead (e ∷ es) ≡ span_beats from to (recorded link (value e.1)) ++ ahead es
-  reads same on =
-      let of : e.0.0 ≡ link = grind (arith, nat_tests) in
-      walk_reads value (span_beats from to) (begins_after to) link e es same on ∙ ap (λ n. span_beats from to (recorded n (value e.1)) ++ ahead es) of
-
-  pub cursor_walked : (e.0.0 == link) ≡ true → begins_after to (shown value e) ≡ false → (cs ds : List Cursor) (c : Cursor) (all : List Placed)
-      → beats_left c ≡ span_beats from to (recorded link (value e.1)) → ds ≡ cs ++ c ∷ [] → all_left cs ++ ahead (e ∷ es) ≡ all → all_left ds ++ ahead es ≡ all
-  cursor_walked same on cs ds c all has put known =
-      ap (λ xs. all_left xs ++ ahead es) put ∙ ap (λ ps. ps ++ ahead es) (left_both cs (c ∷ []) ∙ ap (λ ps. all_left cs ++ ps) (append-nil (beats_left c) ∙ has))
-      ∙ append_assoc (all_left cs) (span_beats from to (recorded link (value e.1))) (ahead es) ∙ ap (λ ps. all_left cs ++ ps) (sym (reads same on)) ∙ known
-
-  pub nothing_walked : (e.0.0 == link) ≡ true → begins_after to (shown value e) ≡ false → (cs : List Cursor) (all : List Placed)
-      → span_beats from to (recorded link (value e.1)) ≡ [] → all_left cs ++ ahead (e ∷ es) ≡ all → all_left cs ++ ahead es ≡ all
-  nothing_walked same on cs all none known =
-      ap (λ ps. all_left cs ++ (ps ++ ahead es)) (sym none) ∙ ap (λ ps. all_left cs ++ ps) (sym (reads same on)) ∙ known
+-- A cursor for what is read of a fragment.
+pub cursor_read : (from to : ℕ) (f : Recorded) (fs : List Recorded) (cs ds : List Cursor) (c : Cursor) (all : List Placed) → beats_left c ≡ span_beats from to f → ds ≡ cs ++ c ∷ []
+    → all_left cs ++ read_all (span_beats from to) (f ∷ fs) ≡ all → all_left ds ++ read_all (span_beats from to) fs ≡ all
+cursor_read from to f fs cs ds c all has put known =
+    let left : List Placed = read_all (span_beats from to) fs in
+    ap (λ xs. all_left xs ++ left) put ∙ ap (λ ps. ps ++ left) (left_both cs (c ∷ []) ∙ ap (λ ps. all_left cs ++ ps) (append-nil (beats_left c) ∙ has))
+    ∙ append_assoc (all_left cs) (span_beats from to f) left ∙ known

@@ -26,7 +26,7 @@ use Rattle.tl_definitions.proofs.PositionLaws.{position_total}
 use Rattle.tl_windows.proofs.MatchLemmas.{apart_by_place}
 use Rattle.tl_windows.proofs.OrderLemmas.{AreApart, at_place, one_there}
 use Rattle.tl_windows.proofs.PartLemmas.{order_moves}
-use Rattle.tl_windows.proofs.TurnLemmas.{order_strict, least_first, is_before, other_less, one_order}
+use Rattle.tl_windows.proofs.TurnLemmas.{order_strict, least_first, is_before, other_less}
 use Rattle.tl_windows.proofs.CursorLemmas.{next_first, left_from, left_has, left_apart, left_order}
 
 -- ---- beats at positions of their own
@@ -298,52 +298,3 @@ stacked_from (c ∷ cs) s apart = (
 -- Cursors that have these beats, and are put in order.
 pub asked_for : (cs ds : List Cursor) (ps : List Placed) → all_left cs ≡ ps → IsStrictlySortedBy position_order (in_order ps) → IsPermutation cs ds → in_turn ds ≡ in_order ps
 asked_for cs ds ps has rise moved = sym (left_order cs ds moved (apart_of (all_left cs) (subst (λ qs. IsStrictlySortedBy position_order (in_order qs)) (sym has) rise))) ∙ ap in_order has
-
--- ---- one fragment more
-
-order_apart : (ps qs : List Placed) → IsStrictlySortedBy position_order (in_order (in_order ps ++ qs)) → AreApart (qs ++ ps)
-order_apart ps qs rise p =
-    let most = apart_of (in_order ps ++ qs) rise p in
-    let whole = sum_by-append (at_place p) (in_order ps) qs in
-    let same = sum_by-IsPermutation (at_place p) ps (in_order ps) (order_moves ps) in
-    let other = sum_by-append (at_place p) qs ps in omega arith
-
--- Beats put in order, with others behind them, and those others in front of the beats as they lay, are put in order as one.
-order_again : (ps qs : List Placed) → IsStrictlySortedBy position_order (in_order (in_order ps ++ qs)) → in_order (qs ++ ps) ≡ in_order (in_order ps ++ qs)
-order_again ps qs rise = one_order (qs ++ ps) (in_order ps ++ qs) (order_apart ps qs rise) (apart_of (in_order ps ++ qs) rise)
-    (λ p. (
-      (λ h. elim (Contains-append_cases qs ps p h) [
-        | inl own ↦ Contains-append_right (in_order ps) qs p own
-        | inr other ↦ Contains-append_left (in_order ps) qs p (Contains-permutation ps (in_order ps) p (order_moves ps) other)
-      ]),
-      (λ h. elim (Contains-append_cases (in_order ps) qs p h) [
-        | inl other ↦ Contains-append_right qs ps p (Contains-permutation (in_order ps) ps p (IsPermutation-sym ps (in_order ps) (order_moves ps)) other)
-        | inr own ↦ Contains-append_left qs ps p own
-      ]),
-    ))
-
-nothing_added : (cs : List Cursor) (qs : List Placed) → IsStrictlySortedBy position_order (in_order (in_turn cs ++ qs)) → qs ≡ [] → in_turn cs ≡ in_order (in_turn cs ++ qs)
-nothing_added cs qs rise none = ap (λ ps. in_order (ps ++ all_left cs)) (sym none) ∙ order_again (all_left cs) qs rise
-
-cursor_added : (c : Cursor) (cs ds : List Cursor) (qs : List Placed) → IsStrictlySortedBy position_order (in_order (in_turn cs ++ qs)) → beats_left c ≡ qs → IsPermutation (c ∷ cs) ds
-    → in_turn ds ≡ in_order (in_turn cs ++ qs)
-cursor_added c cs ds qs rise has moved =
-    let own : AreApart (all_left (c ∷ cs)) = subst (λ ps. AreApart (ps ++ all_left cs)) (sym has) (order_apart (all_left cs) qs rise) in
-    sym (left_order (c ∷ cs) ds moved own) ∙ ap (λ ps. in_order (ps ++ all_left cs)) has ∙ order_again (all_left cs) qs rise
-
-added_untied : (c : Cursor) (cs : List Cursor) (qs : List Placed) → IsStrictlySortedBy position_order (in_order (in_turn cs ++ qs)) → beats_left c ≡ qs → AreUntied c cs
-added_untied c cs qs rise has = untied c cs (subst (λ ps. AreApart (ps ++ all_left cs)) (sym has) (order_apart (all_left cs) qs rise))
-
--- The same of a walk that is seen as these beats.
-module _ (cs : List Cursor) (all qs : List Placed) (shown : in_turn cs ≡ all) (rise : IsStrictlySortedBy position_order (in_order (all ++ qs))) where
-  rises : IsStrictlySortedBy position_order (in_order (in_turn cs ++ qs))
-  rises = subst (λ ps. IsStrictlySortedBy position_order (in_order (ps ++ qs))) (sym shown) rise
-
-  pub none_added : qs ≡ [] → all ≡ in_order (all ++ qs)
-  none_added none = sym shown ∙ nothing_added cs qs rises none ∙ ap (λ ps. in_order (ps ++ qs)) shown
-
-  pub one_untied : (c : Cursor) (es : List Cursor) → es ≡ cs → beats_left c ≡ qs → AreUntied c es
-  one_untied c es same has = subst (AreUntied c) (sym same) (added_untied c cs qs rises has)
-
-  pub one_added : (c : Cursor) (es ds : List Cursor) → es ≡ cs → beats_left c ≡ qs → IsPermutation (c ∷ es) ds → in_turn ds ≡ in_order (all ++ qs)
-  one_added c es ds same has moved = cursor_added c cs ds qs rises has (subst (λ xs. IsPermutation (c ∷ xs) ds) same moved) ∙ ap (λ ps. in_order (ps ++ qs)) shown

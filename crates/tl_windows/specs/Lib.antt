@@ -8,3 +8,4 @@ pub mod Parts
 pub mod Rising
 pub mod Cursors
 pub mod Waiting
+pub mod Walk

@@ -1,5 +1,5 @@
 -- The fragments as a map by link and end of range.
-use Rattle.std.specs.Prelude.{ℕ, ◌≡◌, ◌==◌, ◌&&◌, not, nat_lt, Bool, List, [], ◌∷◌, ◌++◌, if◌then◌else◌, map, filter, true, false}
+use Rattle.std.specs.Prelude.{ℕ, ◌≡◌, ◌==◌, ◌&&◌, not, nat_le, Bool, List, [], ◌∷◌, Option, None, Some, if◌then◌else◌, map, filter, true, false}
 use Rattle.std.specs.Option.{option_map}
 use Rattle.std.specs.List.{All, AllByRecursion}
 use Rattle.std.specs.List.Sorted.{IsStrictlySortedBy}
@@ -14,7 +14,6 @@ use Rattle.tl_beats.specs.declared.Placed.{Placed}
 use Rattle.tl_definitions.specs.Positions.{Recorded, placed_beats}
 use Rattle.tl_windows.specs.Present.{recorded, range_order, numbered, IsCapture}
 use Rattle.tl_windows.specs.Windows.{beats_within}
-use Rattle.tl_windows.specs.Shares.{windows_from}
 
 -- a link, and a number or the last cycle of a range there
 abbrev pub Key : Type 0
@@ -40,6 +39,19 @@ ends_at link last f = f.link == link && f.last == last
 abbrev pub without_end : ℕ → ℕ → List Recorded → List Recorded
 without_end link last fs = filter (λ f. not (ends_at link last f)) fs
 
+-- A cycle isn't after an end, if there is one.
+abbrev pub is_by : Option ℕ → ℕ → Bool
+is_by None cycle = true
+is_by (Some last) cycle = nat_le cycle last
+
+-- A fragment of the link ends with this cycle or after it, and doesn't begin after an end.
+abbrev pub meets : ℕ → ℕ → Option ℕ → Recorded → Bool
+meets link first last f = f.link == link && nat_le first f.last && is_by last f.first
+
+-- the beats of a fragment in a span
+abbrev pub span_beats : ℕ → ℕ → Recorded → List Placed
+span_beats from to f = beats_within from to (placed_beats f)
+
 module _ {V : Type 0} (value : V → Frag) where
   abbrev pub shown : Key × V → Recorded
   shown e = recorded e.0.0 (value e.1)
@@ -56,31 +68,10 @@ module _ {V : Type 0} (value : V → Frag) where
   abbrev pub from_key : ℕ → ℕ → List (Key × V) → List (Key × V)
   from_key link cycle es = entries_between key_cmp (Included (link, cycle)) Unbounded es
 
-  -- What is read of the fragments of a link, one behind the other, up to one at which to stop.
-  abbrev pub walked : {X : Type 0} → (Recorded → List X) → (Recorded → Bool) → ℕ → List (Key × V) → List X
-  walked read stop link [] = []
-  walked read stop link (e ∷ es) =
-      if e.0.0 == link then (if stop (shown e) then [] else read (shown e) ++ walked read stop link es) else []
-
--- what is read of a fragment: its beats of a span, its windows, itself, its number if it isn't this one
-abbrev pub span_beats : ℕ → ℕ → Recorded → List Placed
-span_beats from to f = beats_within from to (placed_beats f)
-
-abbrev pub own_windows : Recorded → List ℕ
-own_windows f = windows_from 0 f.beats
-
-abbrev pub itself : Recorded → List Recorded
-itself f = f ∷ []
-
-abbrev pub other_number : ℕ → Recorded → List ℕ
-other_number number f = if f.number == number then [] else f.number ∷ []
-
--- where to stop: nowhere, or where a range begins after a cycle
-abbrev pub nowhere : Recorded → Bool
-nowhere f = false
-
-abbrev pub begins_after : ℕ → Recorded → Bool
-begins_after cycle f = nat_lt cycle f.first
+  -- The fragments of a link that a walk over entries gives, up to the first that begins after an end, if there is one.
+  abbrev pub met : Option ℕ → ℕ → List (Key × V) → List Recorded
+  met last link [] = []
+  met last link (e ∷ es) = if e.0.0 == link && is_by last (value e.1).first then shown e ∷ met last link es else []
 
 -- Each number leads to the end of its fragment's range.
 abbrev pub AreEnds : List (Key × ℕ) → List Recorded → Type 0

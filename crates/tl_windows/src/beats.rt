@@ -5,7 +5,7 @@ ghost use Rattle.std.specs.Bool.{Decides};
 ghost use Rattle.std.specs.List.Sorted.{IsStrictlySortedBy};
 ghost use Rattle.std.specs.Ordering.{nat_cmp};
 ghost use Rattle.tl_definitions.specs.Positions.{beats_of, beats_of_all};
-ghost use Rattle.tl_windows.specs.Windows.{beats_in, beats_within, AreBeatsOf, AreWindows, HasBeat};
+ghost use Rattle.tl_windows.specs.Windows.{beats_within, AreBeatsOf, AreWindows, HasBeat};
 
 use crate::merged::Merged;
 use crate::order::{in_order, sort_once};
@@ -25,24 +25,6 @@ impl Present {
         Ok(beats)
     }
 
-    /// The beats of a link in a window. AllocError where memory is refused.
-    pub fn link_beats_in(
-        &self,
-        alloc: Global,
-        window: u64,
-        link: u16,
-    ) -> Result<Vec<Placed>, AllocError>
-        ensures { IfOk result (λ beats. beats.items ≡ beats_in window (beats_of link self.now)) }
-    {
-        let _ = &self.ranges;
-        let mut beats = Vec::new(alloc);
-        let Some((from, to)) = span_of(window) else {
-            return Ok(beats);
-        };
-        self.ranges.push_link(from, to, link, &mut beats)?;
-        Ok(beats)
-    }
-
     /// The beats of these links, whose numbers rise, in the order of positions. AllocError where memory is refused.
     pub fn beats(&self, alloc: Global, links: &[u16]) -> Result<Vec<Placed>, AllocError>
         requires { IsStrictlySortedBy nat_cmp links.now }
@@ -51,24 +33,6 @@ impl Present {
     {
         let _ = &self.ranges;
         self.gather(alloc, 0, u64::MAX, links)
-    }
-
-    /// The beats of these links, whose numbers rise, in a window, in the order of positions. AllocError where memory is refused.
-    pub fn beats_in(
-        &self,
-        alloc: Global,
-        window: u64,
-        links: &[u16],
-    ) -> Result<Vec<Placed>, AllocError>
-        requires { IsStrictlySortedBy nat_cmp links.now }
-        ensures exact { IfOk result (λ beats. beats.items ≡ beats_in window (beats_of_all links.now self.now)) }
-        ensures kept { IfOk result (λ beats. AreBeatsOf links.now beats.items) }
-    {
-        let _ = &self.ranges;
-        match span_of(window) {
-            Some((from, to)) => self.gather(alloc, from, to, links),
-            None => Ok(Vec::new(alloc)),
-        }
     }
 
     /// Whether one of these links has a beat in a window.

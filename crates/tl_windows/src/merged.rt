@@ -1,19 +1,15 @@
 //! A walk over the beats of several fragments.
 
-ghost use Rattle.std.specs.Prelude.{◌≡◌, ◌≤◌, ◌++◌, OnOk, OnErr};
+ghost use Rattle.std.specs.Prelude.{◌≡◌};
 ghost use Rattle.std.specs.Iterator.{YieldsFirst, item_count};
 ghost use Rattle.std.specs.List.Sorted.{IsStrictlySortedBy};
-ghost use Rattle.tl_definitions.specs.Positions.{position_order, in_order};
-ghost use Rattle.tl_windows.specs.Present.{recorded};
-ghost use Rattle.tl_windows.specs.Ranges.{span_beats};
+ghost use Rattle.tl_definitions.specs.Positions.{position_order};
 ghost use Rattle.tl_windows.specs.Waiting.{in_turn};
 
 use crate::cursor::Cursor;
-use crate::cut::cursor_in;
-use crate::waiting::{go_on, put_far, stacked};
-use std::alloc::AllocError;
+use crate::waiting::{go_on, stacked};
 use std::marker::Model;
-use tl_beats::{Fragment, Placed};
+use tl_beats::Placed;
 
 /// What is left of the beats of several fragments, in the order of positions: none is copied before it is next.
 #[derive(Drop)]
@@ -43,29 +39,6 @@ impl<'a> Merged<'a> {
         Merged {
             cursors: stacked(cursors),
         }
-    }
-
-    /// Puts the beats of a span of one more fragment on this link among those that are left. Each has a position of its own
-    /// then. AllocError where memory is refused: then nothing has changed.
-    pub fn add(
-        &mut self,
-        link: u16,
-        fragment: &'a Fragment,
-        from: u64,
-        to: u64,
-    ) -> Result<(), AllocError>
-        requires span { from ≤ to }
-        requires apart { IsStrictlySortedBy position_order (in_order (self.old ++ span_beats from to (recorded link fragment.now))) }
-        ensures ok { OnOk result (self.new ≡ in_order (self.old ++ span_beats from to (recorded link fragment.now))) }
-        ensures err { OnErr result (self.new ≡ self.old) }
-    {
-        let Some(cursor) = cursor_in(link, fragment, from, to) else {
-            let _ = &self.cursors;
-            return Ok(());
-        };
-        self.cursors.reserve(1)?;
-        put_far(&mut self.cursors, cursor);
-        Ok(())
     }
 }
 

@@ -1,9 +1,9 @@
 //! The fragments that are present on links at one moment.
 
-ghost use Rattle.std.specs.Prelude.{◌≡◌, ◌==◌, length, [], IfOk, map};
+ghost use Rattle.std.specs.Prelude.{◌≡◌, ◌==◌, length, [], IfOk};
 ghost use Rattle.std.specs.Arc.{arc_value};
 ghost use Rattle.std.specs.Option.{option_map};
-ghost use Rattle.tl_windows.specs.Present.{recorded, numbered, of_link, overlapped, IsPresent};
+ghost use Rattle.tl_windows.specs.Present.{recorded, numbered, overlapped, IsPresent};
 
 use crate::ranges::Ranges;
 use std::alloc::{AllocError, Global};
@@ -70,13 +70,6 @@ impl Present {
         ensures { result ≡ overlapped (recorded link fragment.now) self.now }
     {
         self.ranges.overlapped(link, fragment)
-    }
-
-    /// The fragments of a link, in the order of their ranges. AllocError where memory is refused.
-    pub fn fragments(&self, alloc: Global, link: u16) -> Result<Vec<Arc<Fragment>>, AllocError>
-        ensures { IfOk result (λ fragments. map (λ f. recorded link (arc_value f)) fragments.items ≡ of_link link self.now) }
-    {
-        self.ranges.fragments(alloc, link)
     }
 
     /// The same fragments, shared and not copied. AllocError where memory is refused.

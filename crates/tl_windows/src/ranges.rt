@@ -1,22 +1,22 @@
 //! Fragments by link and range.
 
-ghost use Rattle.std.specs.Prelude.{◌≡◌, ◌≤◌, ◌<◌, ◌+◌, ◌++◌, ◌==◌, length, [], IfOk, OnOk, OnErr, MatchOption, false, map, slice_get};
+ghost use Rattle.std.specs.Prelude.{◌≡◌, ◌≤◌, ◌<◌, ◌+◌, ◌++◌, ◌==◌, length, [], Some, IfOk, OnOk, OnErr, MatchOption, false, filter, min, slice_get};
 ghost use Rattle.std.specs.Arc.{arc_value};
 ghost use Rattle.std.specs.List.{AllByRecursion, find};
-ghost use Rattle.std.specs.Option.{option_map};
+ghost use Rattle.std.specs.Option.{option_map, option_map_or};
 ghost use Rattle.tl_definitions.specs.Positions.{all_placed};
 ghost use Rattle.tl_windows.specs.Cursors.{all_left};
 ghost use Rattle.tl_windows.specs.Parts.{spanned};
 ghost use Rattle.tl_windows.specs.Present.{recorded, of_link, overlapped, put_in, shares};
-ghost use Rattle.tl_windows.specs.Ranges.{has_some, ends_at, without_end};
+ghost use Rattle.tl_windows.specs.Ranges.{has_some, ends_at, without_end, meets, AreRanges};
 ghost use Rattle.tl_windows.specs.Shares.{windows_of_all};
+ghost use Rattle.tl_windows.specs.Walk.{fragments_left};
 ghost use Rattle.tl_windows.specs.Windows.{beats_within};
 
 use crate::cursor::Cursor;
-use crate::walks::{
-    Part, all_of_link, any_in_span, first_number, lowest_other, push_all_windows, push_cursors,
-    push_parts, push_span, span_count, span_less,
-};
+use crate::cut::{bounds, cursor_in, has_some, push_beats};
+use crate::shares::push_windows;
+use crate::walks::{OnLink, Part};
 use std::alloc::{AllocError, Global};
 use std::collections::BTreeMap;
 use std::marker::Model;
@@ -40,6 +40,16 @@ impl Model for Ranges {
     ghost view = { λ r. map (shown arc_value) r.ends.entries };
 
     ghost invariant = { λ r. AreEntries arc_value r.ends.entries };
+}
+
+/// The lower of a number and the lowest so far.
+fn lower(lowest: Option<u32>, number: u32) -> Option<u32>
+    ensures { result ≡ Some (option_map_or (min number) lowest number) }
+{
+    match lowest {
+        Some(lowest) => Some(number.min(lowest)),
+        None => Some(number),
+    }
 }
 
 impl Ranges {
@@ -107,24 +117,43 @@ impl Ranges {
         Ok(())
     }
 
+    /// The fragments of a link that end with a cycle or after it, up to the first that begins after an end, if there is one.
+    fn on_link(&self, link: u16, first: u64, last: Option<u64>) -> OnLink<'_>
+        ensures exact { fragments_left result ≡ filter (meets link first last) self.now }
+        ensures kept { AreRanges self.now }
+    {
+        OnLink {
+            entries: self.ends.range((link, first)..),
+            link,
+            last,
+            has_ended: false,
+        }
+    }
+
     /// The lowest number of another fragment of the link that shares a cycle with this one.
     pub(crate) fn overlapped(&self, link: u16, fragment: &Fragment) -> Option<u32>
         ensures { result ≡ overlapped (recorded link fragment.now) self.now }
     {
-        lowest_other(
-            &self.ends,
-            link,
-            fragment.first(),
-            fragment.last(),
-            fragment.number(),
-        )
+        let number = fragment.number();
+        let mut lowest = None;
+        for (_, other) in self.on_link(link, fragment.first(), Some(fragment.last())) {
+            if other.number() != number {
+                lowest = lower(lowest, other.number());
+            }
+        }
+        lowest
     }
 
     /// How many beats of a span a link has: what room `push_link` asks.
     pub(crate) fn count(&self, from: u64, to: u64, link: u16) -> usize
         requires { from ≤ to }
     {
-        span_count(&self.ends, from, to, link)
+        let mut count = 0usize;
+        for (_, fragment) in self.on_link(link, from, Some(to)) {
+            let (start, end) = bounds(fragment, from, to);
+            count = count.saturating_add(end - start);
+        }
+        count
     }
 
     /// Whether a link has a beat in a span.
@@ -132,7 +161,12 @@ impl Ranges {
         requires { from ≤ to }
         ensures { result ≡ has_some (beats_within from to (all_placed (of_link link self.now))) }
     {
-        any_in_span(&self.ends, from, to, link)
+        for (_, fragment) in self.on_link(link, from, Some(to)) {
+            if has_some(fragment, from, to) {
+                return true;
+            }
+        }
+        false
     }
 
     /// Puts the beats of a span of a link behind others. AllocError where memory is refused.
@@ -146,7 +180,10 @@ impl Ranges {
         requires { from ≤ to }
         ensures { OnOk result (beats.new.items ≡ beats.old.items ++ beats_within from to (all_placed (of_link link self.now))) }
     {
-        push_span(&self.ends, from, to, link, beats)
+        for (of, fragment) in self.on_link(link, from, Some(to)) {
+            push_beats(from, to, of, fragment, beats)?;
+        }
+        Ok(())
     }
 
     /// Puts the fragments of a link that have a beat in a span behind others, shared and not copied. AllocError where memory is
@@ -161,7 +198,12 @@ impl Ranges {
         requires { from ≤ to }
         ensures { OnOk result (spanned arc_value from to parts.new.items ≡ spanned arc_value from to parts.old.items ++ beats_within from to (all_placed (of_link link self.now))) }
     {
-        push_parts(&self.ends, from, to, link, parts)
+        for (of, fragment) in self.on_link(link, from, Some(to)) {
+            if has_some(fragment, from, to) {
+                parts.push((of, fragment.clone()?))?;
+            }
+        }
+        Ok(())
     }
 
     /// Puts what the fragments of a link have in a span behind others. AllocError where memory is refused.
@@ -175,7 +217,13 @@ impl Ranges {
         requires { from ≤ to }
         ensures { OnOk result (all_left cursors.new.items ≡ all_left cursors.old.items ++ beats_within from to (all_placed (of_link link self.now))) }
     {
-        push_cursors(&self.ends, from, to, link, cursors)
+        for (of, fragment) in self.on_link(link, from, Some(to)) {
+            match cursor_in(of, fragment, from, to) {
+                Some(cursor) => cursors.push(cursor)?,
+                None => continue,
+            }
+        }
+        Ok(())
     }
 
     /// What is left of a count after the beats of a span of a link; None where they are more.
@@ -184,32 +232,34 @@ impl Ranges {
         ensures { MatchOption result (count < length (beats_within from to (all_placed (of_link link self.now))))
             (λ left. left + length (beats_within from to (all_placed (of_link link self.now))) ≡ count) }
     {
-        span_less(&self.ends, from, to, link, count)
+        let mut left = count;
+        for (_, fragment) in self.on_link(link, from, Some(to)) {
+            let (start, end) = bounds(fragment, from, to);
+            let own = (end - start) as u128;
+            if left < own {
+                return None;
+            }
+            left -= own;
+        }
+        Some(left)
     }
 
     /// Puts the windows in which a fragment of a link has a beat behind others. AllocError where memory is refused.
     pub(crate) fn push_windows(&self, link: u16, windows: &mut Vec<u64>) -> Result<(), AllocError>
         ensures { OnOk result (windows.new.items ≡ windows.old.items ++ windows_of_all (of_link link self.now)) }
     {
-        push_all_windows(&self.ends, link, windows)
-    }
-
-    /// The fragments of a link, in the order of their ranges, shared and not copied. AllocError where memory is refused.
-    pub(crate) fn fragments(
-        &self,
-        alloc: Global,
-        link: u16,
-    ) -> Result<Vec<Arc<Fragment>>, AllocError>
-        ensures { IfOk result (λ fragments. map (λ f. recorded link (arc_value f)) fragments.items ≡ of_link link self.now) }
-    {
-        all_of_link(alloc, &self.ends, link)
+        for (_, fragment) in self.on_link(link, 0, None) {
+            push_windows(fragment.beats(), windows)?;
+        }
+        Ok(())
     }
 
     /// The number of the first fragment of a link.
     pub(crate) fn first(&self, link: u16) -> Option<u32>
         ensures { result ≡ option_map (λ f. f.number) (slice_get (of_link link self.now) 0) }
     {
-        first_number(&self.ends, link)
+        let (_, fragment) = self.on_link(link, 0, None).next()?;
+        Some(fragment.number())
     }
 
     /// The same fragments, shared and not copied. AllocError where memory is refused.

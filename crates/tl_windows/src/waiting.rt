@@ -23,7 +23,7 @@ pub(crate) fn stacked<'a>(cursors: Vec<Cursor<'a>>) -> Vec<Cursor<'a>>
 }
 
 /// Puts a cursor in its place among others, where there is room for it: the place is sought in halves.
-pub(crate) fn put_far<'a>(cursors: &mut Vec<Cursor<'a>>, cursor: Cursor<'a>)
+fn put_far<'a>(cursors: &mut Vec<Cursor<'a>>, cursor: Cursor<'a>)
     requires room { vec_len cursors.old < vec_capacity cursors.old }
     requires stacked { AreStacked cursors.old.items }
     requires untied { AreUntied cursor cursors.old.items }

@@ -20,10 +20,10 @@ invariant_of-self-2 c =
     let topo : now.topo ≡ inside.log.topo = ap (λ (i : InputData). i.topo) (sym c.inputs.ensures.exact) ∙ c.inputs.ensures.topo in
     let before : IsPresent now.fragments = subst IsPresent (c.present.ensures ∙ ap (λ (i : InputData). i.fragments) c.inputs.ensures.exact) c.is_empty.ensures.kept in
     let after : IsPresent (changed now e).fragments =
-    subst IsPresent (c.present-2.ensures ∙ ap (λ (i : InputData). i.fragments) (c.inputs-2.ensures.exact ∙ stands inside e c.push.new.self inside.board c.in_ok-number.ensures.ok)) c.is_empty-2.ensures.kept in
+    subst IsPresent (c.present-2.ensures ∙ ap (λ (i : InputData). i.fragments) (c.inputs-2.ensures.exact ∙ stands inside e c.accept.new.self inside.board c.in_ok-number.ensures.ok)) c.is_empty-2.ensures.kept in
     let owner : c.from.result ≡ c.args.manager = c.from.ensures in
     let all = c.touch_all.ensures in
-    sound_after inside c.self.invariant e topo before (names (touched.All c.args.manager)) is.exact c.push.new.self c.in_ok-number.ensures.ok c.touch_all.new.self (all_openings c.from.result inside.board c.touch_all.new.self all)
+    sound_after inside c.self.invariant e topo before (names (touched.All c.args.manager)) is.exact c.accept.new.self c.in_ok-number.ensures.ok c.touch_all.new.self (all_openings c.from.result inside.board c.touch_all.new.self all)
     (all_touched c.args.manager)
     (λ key not. all_stay c.from.result inside.board c.touch_all.new.self all key (λ same. not (same ∙ owner)))
     (λ key named. ap result_of (all_blank c.from.result inside.board c.touch_all.new.self all key (named ∙ sym owner)) ∙ blank_result (piece_at key inside.board))
@@ -45,8 +45,8 @@ returns-clause-ok c =
     let before : IsPresent now.fragments = subst IsPresent (c.present.ensures ∙ ap (λ (i : InputData). i.fragments) c.inputs.ensures.exact) c.is_empty.ensures.kept in
     let owner : c.from.result ≡ c.args.manager = c.from.ensures in
     let all = c.touch_all.ensures in
-    subst (λ (s : SpansData). EditsTo s e (record { log = c.push.new.self; board = c.touch_all.new.self })) c.self.view_is
-    (edits_to inside c.self.invariant e topo before (names (touched.All c.args.manager)) is.exact c.push.new.self c.in_ok-number.ensures.ok c.touch_all.new.self (all_openings c.from.result inside.board c.touch_all.new.self all)
+    subst (λ (s : SpansData). EditsTo s e (record { log = c.accept.new.self; board = c.touch_all.new.self })) c.self.view_is
+    (edits_to inside c.self.invariant e topo before (names (touched.All c.args.manager)) is.exact c.accept.new.self c.in_ok-number.ensures.ok c.touch_all.new.self (all_openings c.from.result inside.board c.touch_all.new.self all)
     (all_touched c.args.manager)
     (λ key not. all_stay c.from.result inside.board c.touch_all.new.self all key (λ same. not (same ∙ owner)))
     (λ key named. ap result_of (all_blank c.from.result inside.board c.touch_all.new.self all key (named ∙ sym owner)) ∙ blank_result (piece_at key inside.board))

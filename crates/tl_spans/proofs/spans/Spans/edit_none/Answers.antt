@@ -17,5 +17,5 @@ invariant_of-self-2 c =
     let topo : now.topo ≡ inside.log.topo = ap (λ (i : InputData). i.topo) (sym c.inputs.ensures.exact) ∙ c.inputs.ensures.topo in
     let before : IsPresent now.fragments = subst IsPresent (c.present.ensures ∙ ap (λ (i : InputData). i.fragments) c.inputs.ensures.exact) c.is_empty.ensures.kept in
     let after : IsPresent (changed now e).fragments =
-    subst IsPresent (c.present-2.ensures ∙ ap (λ (i : InputData). i.fragments) (c.inputs-2.ensures.exact ∙ stands inside e c.push.new.self inside.board c.in_ok-number.ensures.ok)) c.is_empty-2.ensures.kept in
-    sound_after inside c.self.invariant e topo before (names touched.Nothing) is.exact c.push.new.self c.in_ok-number.ensures.ok inside.board refl none_touched (λ key not. refl) (λ key named. absurd named) after (λ key named owner. absurd named)
+    subst IsPresent (c.present-2.ensures ∙ ap (λ (i : InputData). i.fragments) (c.inputs-2.ensures.exact ∙ stands inside e c.accept.new.self inside.board c.in_ok-number.ensures.ok)) c.is_empty-2.ensures.kept in
+    sound_after inside c.self.invariant e topo before (names touched.Nothing) is.exact c.accept.new.self c.in_ok-number.ensures.ok inside.board refl none_touched (λ key not. refl) (λ key named. absurd named) after (λ key named owner. absurd named)

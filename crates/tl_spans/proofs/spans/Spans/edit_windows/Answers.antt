@@ -68,12 +68,12 @@ invariant_of-self-in-Ok c =
     subst (λ o. Touches now e number window ↔ ((number ≡ o) × Contains windows window)) (sym own)
     (subst (λ (s : SpansData). Touches (standing s) e number window ↔ ((number ≡ c.args.manager) × Contains windows window)) (sym c.self.view_is) (c.requires.touched number window)) in
     let before : IsPresent now.fragments = subst IsPresent (c.present.ensures ∙ ap (λ (i : InputData). i.fragments) c.inputs-2.ensures.exact) c.is_empty.ensures.kept in
-    let told : standing (record { log = c.push.new.self; board = inside.board }) ≡ changed now e = stands inside e c.push.new.self inside.board c.in-Ok.ensures.ok in
+    let told : standing (record { log = c.accept.new.self; board = inside.board }) ≡ changed now e = stands inside e c.accept.new.self inside.board c.in-Ok.ensures.ok in
     let after : IsPresent (changed now e).fragments = subst IsPresent (c.present-in-Ok.ensures ∙ ap (λ (i : InputData). i.fragments) (c.inputs-in-Ok.ensures.exact ∙ told)) c.is_empty-in-Ok.ensures.kept in
     let beats : beats_of_all c.deref-in-Ok.result.now c.present-in-Ok-2.result.now ≡ manager_beats (changed now e).topo (changed now e).fragments owner =
     read_beats (changed now e).topo c.topo.result.now c.args.manager owner c.deref-in-Ok.result.now c.present-in-Ok-2.result.now (changed now e).fragments (c.topo.ensures ∙ ap (λ (i : InputData). i.topo) c.inputs.ensures.exact ∙ sym (same_topology now e)) own
     (c.deref-in-Ok.ensures.value ∙ c.in_ok-links.ensures) (c.present-in-Ok-2.ensures ∙ ap (λ (i : InputData). i.fragments) (c.inputs-in-Ok-2.ensures.exact ∙ told)) in
-    windows_sound inside c.self.invariant e topo before owner windows keys are is c.push.new.self c.in-Ok.ensures.ok (beats_of_all c.deref-in-Ok.result.now c.present-in-Ok-2.result.now) c.grow.new.pieces c.prune-in-Ok.new.pieces c.touch_each.new.pieces
+    windows_sound inside c.self.invariant e topo before owner windows keys are is c.accept.new.self c.in-Ok.ensures.ok (beats_of_all c.deref-in-Ok.result.now c.present-in-Ok-2.result.now) c.grow.new.pieces c.prune-in-Ok.new.pieces c.touch_each.new.pieces
     c.grow.ensures.grown c.prune-in-Ok.ensures c.touch_each.ensures after beats (on_ok c.grow.result _ c.grow.ensures.all (sym c.is_err.ensures.value ∙ c.if-is_err.false))
 
 pub returns-in-Ok-clause-ok : goal.returns-in-Ok-clause-ok
@@ -90,8 +90,8 @@ returns-in-Ok-clause-ok c =
     subst (λ o. Touches now e number window ↔ ((number ≡ o) × Contains windows window)) (sym c.from-owner.ensures)
     (subst (λ (s : SpansData). Touches (standing s) e number window ↔ ((number ≡ c.args.manager) × Contains windows window)) (sym c.self.view_is) (c.requires.touched number window)) in
     let before : IsPresent now.fragments = subst IsPresent (c.present.ensures ∙ ap (λ (i : InputData). i.fragments) c.inputs-2.ensures.exact) c.is_empty.ensures.kept in
-    subst (λ (s : SpansData). EditsTo s e (record { log = c.push.new.self; board = c.touch_each.new.pieces })) c.self.view_is
-    (windows_edited inside c.self.invariant e topo before owner windows keys are is c.push.new.self c.in-Ok.ensures.ok (beats_of_all c.deref-in-Ok.result.now c.present-in-Ok-2.result.now) c.grow.new.pieces c.prune-in-Ok.new.pieces c.touch_each.new.pieces
+    subst (λ (s : SpansData). EditsTo s e (record { log = c.accept.new.self; board = c.touch_each.new.pieces })) c.self.view_is
+    (windows_edited inside c.self.invariant e topo before owner windows keys are is c.accept.new.self c.in-Ok.ensures.ok (beats_of_all c.deref-in-Ok.result.now c.present-in-Ok-2.result.now) c.grow.new.pieces c.prune-in-Ok.new.pieces c.touch_each.new.pieces
     c.grow.ensures.grown c.prune-in-Ok.ensures c.touch_each.ensures)
 
 pub invariant_of-self-in-Err : goal.invariant_of-self-in-Err
@@ -106,7 +106,7 @@ invariant_of-self-in-Err c =
     (c.topo.ensures ∙ ap (λ (i : InputData). i.topo) c.inputs.ensures.exact) (c.deref-in-Err.ensures.value ∙ c.in_ok-links.ensures)
     (c.present-in-Err.ensures ∙ ap (λ (i : InputData). i.fragments) (c.inputs-in-Err.ensures.exact ∙ ap (λ (l : LogData). inputs_after l.topo l.edits) c.in-Err.ensures.err))
     c.args.windows.now keys are c.grow.new.pieces c.prune-in-Err.new.pieces c.grow.ensures.grown c.prune-in-Err.ensures c.len.ensures.kept.keys c.len-in-Err.ensures.kept.keys in
-    subst (λ (b : Board SpanState (List Row)). IsSound (record { log = c.push.new.self; board = b })) (sym back)
+    subst (λ (b : Board SpanState (List Row)). IsSound (record { log = c.accept.new.self; board = b })) (sym back)
     (subst (λ (l : LogData). IsSound (record { log = l; board = inside.board })) (sym c.in-Err.ensures.err) c.self.invariant)
 
 pub returns-clause-err : goal.returns-clause-err
@@ -121,4 +121,4 @@ returns-clause-err c =
     (c.topo.ensures ∙ ap (λ (i : InputData). i.topo) c.inputs.ensures.exact) (c.deref-in-Err.ensures.value ∙ c.in_ok-links.ensures)
     (c.present-in-Err.ensures ∙ ap (λ (i : InputData). i.fragments) (c.inputs-in-Err.ensures.exact ∙ ap (λ (l : LogData). inputs_after l.topo l.edits) c.in-Err.ensures.err))
     c.args.windows.now keys are c.grow.new.pieces c.prune-in-Err.new.pieces c.grow.ensures.grown c.prune-in-Err.ensures c.len.ensures.kept.keys c.len-in-Err.ensures.kept.keys in
-    ap (λ (b : Board SpanState (List Row)). record { log = c.push.new.self; board = b }) back ∙ ap (λ (l : LogData). record { log = l; board = inside.board }) c.in-Err.ensures.err ∙ c.self.view_is
+    ap (λ (b : Board SpanState (List Row)). record { log = c.accept.new.self; board = b }) back ∙ ap (λ (l : LogData). record { log = l; board = inside.board }) c.in-Err.ensures.err ∙ c.self.view_is

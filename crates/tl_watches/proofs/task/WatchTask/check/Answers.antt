@@ -1,6 +1,5 @@
-use Rattle.std.proofs.Common.{sym, subst, ◌∙◌}
-use Rattle.tl_definitions.specs.Tallies.{AreOfOneLink}
+use Rattle.tl_watches.proofs.TaskLemmas.{still_task}
 use Rattle.tl_watches.proofs.task.WatchTask.check.Goals as goal
 
-pub monitor_check-requires-clause-link : goal.monitor_check-requires-clause-link
-monitor_check-requires-clause-link g c = subst AreOfOneLink (sym (c.deref-2.ensures.value ∙ c.in_ok-beats.ensures)) c.self.invariant.beats.link
+pub invariant_of-self : goal.invariant_of-self
+invariant_of-self g c = still_task c.self.inside.window c.self.inside.monitor c.check.new.monitor c.self.invariant.0 c.self.invariant.1 c.check.ensures.held

@@ -92,7 +92,7 @@ invariant_of-self-in-Ok c =
     subst (λ (ks : List PieceKey). Contains ks key ↔ ((key.owner ≡ monitor) × HasBeat (watched_beats now.topo now.fragments w) key.window)) (sym c.as_slice-keys.ensures.value)
     (subst (λ (i : InputData). Contains c.in_ok-keys.keys.items key ↔ ((key.owner ≡ monitor) × HasBeat (watched_beats i.topo i.fragments w) key.window)) read (c.in_ok-keys.ensures key)) in
     let e : AnEdit = attach monitor w in
-    let spans : SpansData = c.edit.new.self in
+    let spans : SpansData = c.accept.new.self in
     let edits = c.in-Ok.ensures.ok in
     let before : IsPresent now.fragments = subst IsPresent (read_fragments old.spans c.log.result.now c.inputs-inputs.result.now c.present.result.now c.log.ensures.exact c.inputs-inputs.ensures.exact c.present.ensures) c.is_empty.ensures.kept in
     let after : IsPresent (changed now e).fragments =
@@ -117,7 +117,7 @@ returns-in-Ok-clause-ok c =
     subst (λ (ks : List PieceKey). Contains ks key ↔ ((key.owner ≡ monitor) × HasBeat (watched_beats now.topo now.fragments w) key.window)) (sym c.as_slice-keys.ensures.value)
     (subst (λ (i : InputData). Contains c.in_ok-keys.keys.items key ↔ ((key.owner ≡ monitor) × HasBeat (watched_beats i.topo i.fragments w) key.window)) read (c.in_ok-keys.ensures key)) in
     let e : AnEdit = attach monitor w in
-    let spans : SpansData = c.edit.new.self in
+    let spans : SpansData = c.accept.new.self in
     let edits = c.in-Ok.ensures.ok in
     let before : IsPresent now.fragments = subst IsPresent (read_fragments old.spans c.log.result.now c.inputs-inputs.result.now c.present.result.now c.log.ensures.exact c.inputs-inputs.ensures.exact c.present.ensures) c.is_empty.ensures.kept in
     let after : IsPresent (changed now e).fragments =
@@ -160,4 +160,4 @@ returns-clause-err c =
     subst (λ (ks : List PieceKey). Contains ks key ↔ ((key.owner ≡ monitor) × HasBeat (watched_beats now.topo now.fragments w) key.window)) (sym c.as_slice-keys.ensures.value)
     (subst (λ (i : InputData). Contains c.in_ok-keys.keys.items key ↔ ((key.owner ≡ monitor) × HasBeat (watched_beats i.topo i.fragments w) key.window)) read (c.in_ok-keys.ensures key)) in
     let back : c.remove_owner-in-Err.new.self ≡ old.board = goes_again now monitor w c.known.ensures old.board c.add_owner.new.self c.grow.new.pieces c.len.ensures.kept none opens keys exact c.grow.ensures.grown c.remove_owner-in-Err.new.self c.remove_owner-in-Err.ensures c.len-in-Err.ensures.kept.keys in
-    ap (λ (b : Board Tally (List Row)). record { spans = c.edit.new.self; board = b }) back ∙ ap (λ (s : SpansData). record { spans = s; board = old.board }) c.in-Err.ensures.err ∙ c.self.view_is
+    ap (λ (b : Board Tally (List Row)). record { spans = c.accept.new.self; board = b }) back ∙ ap (λ (s : SpansData). record { spans = s; board = old.board }) c.in-Err.ensures.err ∙ c.self.view_is

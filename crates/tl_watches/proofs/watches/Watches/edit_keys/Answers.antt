@@ -52,7 +52,7 @@ invariant_of-self-in-Ok c =
     let old : WatchesData = record { spans = c.self.inside.spans; board = c.self.inside.pieces } in
     let now : InputData = standing old.spans in
     let e : AnEdit = plain c.args.edit in
-    let spans : SpansData = c.edit.new.self in
+    let spans : SpansData = c.accept.new.self in
     let edits = c.in-Ok.ensures.ok in
     let before : IsPresent now.fragments = subst IsPresent (read_fragments old.spans c.log.result.now c.inputs.result.now c.present.result.now c.log.ensures.exact c.inputs.ensures.exact c.present.ensures) c.is_empty.ensures.kept in
     let touched : AreTouched now e c.args.link c.args.keys.now = subst (λ (d : WatchesData). AreTouched (standing d.spans) e c.args.link c.args.keys.now) (sym c.self.view_is) c.requires.touched in
@@ -68,7 +68,7 @@ returns-in-Ok-clause-ok c =
     let old : WatchesData = record { spans = c.self.inside.spans; board = c.self.inside.pieces } in
     let now : InputData = standing old.spans in
     let e : AnEdit = plain c.args.edit in
-    let spans : SpansData = c.edit.new.self in
+    let spans : SpansData = c.accept.new.self in
     let edits = c.in-Ok.ensures.ok in
     let before : IsPresent now.fragments = subst IsPresent (read_fragments old.spans c.log.result.now c.inputs.result.now c.present.result.now c.log.ensures.exact c.inputs.ensures.exact c.present.ensures) c.is_empty.ensures.kept in
     let touched : AreTouched now e c.args.link c.args.keys.now = subst (λ (d : WatchesData). AreTouched (standing d.spans) e c.args.link c.args.keys.now) (sym c.self.view_is) c.requires.touched in
@@ -85,11 +85,11 @@ invariant_of-self-in-Err c =
     let old : WatchesData = record { spans = c.self.inside.spans; board = c.self.inside.pieces } in
     let now : InputData = standing old.spans in
     let e : AnEdit = plain c.args.edit in
-    let left : c.edit.new.self ≡ old.spans = c.in-Err.ensures.err in
+    let left : c.accept.new.self ≡ old.spans = c.in-Err.ensures.err in
     let before : IsPresent now.fragments = subst IsPresent (read_fragments old.spans c.log.result.now c.inputs.result.now c.present.result.now c.log.ensures.exact c.inputs.ensures.exact c.present.ensures) c.is_empty.ensures.kept in
     let touched : AreTouched now e c.args.link c.args.keys.now = subst (λ (d : WatchesData). AreTouched (standing d.spans) e c.args.link c.args.keys.now) (sym c.self.view_is) c.requires.touched in
     let back : c.prune-in-Err.new.pieces ≡ old.board = keys_restored now e before old.board c.self.invariant c.requires.links c.args.link c.args.keys.now touched c.present-present-in-Err.result.now
-    (read_fragments c.edit.new.self c.log-in-Err.result.now c.inputs-in-Err.result.now c.present-present-in-Err.result.now c.log-in-Err.ensures.exact c.inputs-in-Err.ensures.exact c.present-present-in-Err.ensures ∙ ap (λ (s : SpansData). (standing s).fragments) left)
+    (read_fragments c.accept.new.self c.log-in-Err.result.now c.inputs-in-Err.result.now c.present-present-in-Err.result.now c.log-in-Err.ensures.exact c.inputs-in-Err.ensures.exact c.present-present-in-Err.ensures ∙ ap (λ (s : SpansData). (standing s).fragments) left)
     c.grow.new.pieces c.prune-in-Err.new.pieces c.grow.ensures.grown c.prune-in-Err.ensures c.len.ensures.kept.keys c.len-in-Err.ensures.kept.keys in
     subst (λ (s : SpansData). AreWatches (standing s) c.prune-in-Err.new.pieces) (sym left) (subst (AreWatches now) (sym back) c.self.invariant)
 
@@ -98,10 +98,10 @@ returns-in-Err-clause-err c =
     let old : WatchesData = record { spans = c.self.inside.spans; board = c.self.inside.pieces } in
     let now : InputData = standing old.spans in
     let e : AnEdit = plain c.args.edit in
-    let left : c.edit.new.self ≡ old.spans = c.in-Err.ensures.err in
+    let left : c.accept.new.self ≡ old.spans = c.in-Err.ensures.err in
     let before : IsPresent now.fragments = subst IsPresent (read_fragments old.spans c.log.result.now c.inputs.result.now c.present.result.now c.log.ensures.exact c.inputs.ensures.exact c.present.ensures) c.is_empty.ensures.kept in
     let touched : AreTouched now e c.args.link c.args.keys.now = subst (λ (d : WatchesData). AreTouched (standing d.spans) e c.args.link c.args.keys.now) (sym c.self.view_is) c.requires.touched in
     let back : c.prune-in-Err.new.pieces ≡ old.board = keys_restored now e before old.board c.self.invariant c.requires.links c.args.link c.args.keys.now touched c.present-present-in-Err.result.now
-    (read_fragments c.edit.new.self c.log-in-Err.result.now c.inputs-in-Err.result.now c.present-present-in-Err.result.now c.log-in-Err.ensures.exact c.inputs-in-Err.ensures.exact c.present-present-in-Err.ensures ∙ ap (λ (s : SpansData). (standing s).fragments) left)
+    (read_fragments c.accept.new.self c.log-in-Err.result.now c.inputs-in-Err.result.now c.present-present-in-Err.result.now c.log-in-Err.ensures.exact c.inputs-in-Err.ensures.exact c.present-present-in-Err.ensures ∙ ap (λ (s : SpansData). (standing s).fragments) left)
     c.grow.new.pieces c.prune-in-Err.new.pieces c.grow.ensures.grown c.prune-in-Err.ensures c.len.ensures.kept.keys c.len-in-Err.ensures.kept.keys in
-    ap (λ (b : Board Tally (List Row)). record { spans = c.edit.new.self; board = b }) back ∙ ap (λ (s : SpansData). record { spans = s; board = old.board }) left ∙ c.self.view_is
+    ap (λ (b : Board Tally (List Row)). record { spans = c.accept.new.self; board = b }) back ∙ ap (λ (s : SpansData). record { spans = s; board = old.board }) left ∙ c.self.view_is

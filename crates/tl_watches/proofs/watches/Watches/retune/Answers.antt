@@ -14,7 +14,7 @@ invariant_of-self-2 c =
     let old : WatchesData = record { spans = c.self.inside.spans; board = c.self.inside.pieces } in
     let now : InputData = standing old.spans in
     let e : AnEdit = retune c.args.monitor c.args.limit in
-    let spans : SpansData = c.edit.new.self in
+    let spans : SpansData = c.accept.new.self in
     let edits = c.in_ok-number.ensures.ok in
     let before : IsPresent now.fragments = subst IsPresent (read_fragments old.spans c.log.result.now c.inputs.result.now c.present.result.now c.log.ensures.exact c.inputs.ensures.exact c.present.ensures) c.is_empty.ensures.kept in
     let after : IsPresent (changed now e).fragments =
@@ -27,7 +27,7 @@ returns-clause-ok c =
     let old : WatchesData = record { spans = c.self.inside.spans; board = c.self.inside.pieces } in
     let now : InputData = standing old.spans in
     let e : AnEdit = retune c.args.monitor c.args.limit in
-    let spans : SpansData = c.edit.new.self in
+    let spans : SpansData = c.accept.new.self in
     let edits = c.in_ok-number.ensures.ok in
     let before : IsPresent now.fragments = subst IsPresent (read_fragments old.spans c.log.result.now c.inputs.result.now c.present.result.now c.log.ensures.exact c.inputs.ensures.exact c.present.ensures) c.is_empty.ensures.kept in
     let after : IsPresent (changed now e).fragments =

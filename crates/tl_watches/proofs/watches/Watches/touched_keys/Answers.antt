@@ -6,6 +6,7 @@ use Rattle.tl_inputs.specs.Inputs.{InputData, attached}
 use Rattle.tl_inputs.specs.Log.{LogData, inputs_after}
 use Rattle.tl_spans.specs.Spans.{SpansData, standing}
 use Rattle.tl_spans.specs.Touch.{TouchesLink}
+use Rattle.tl_spans.specs.Touched.{IsTouched}
 use Rattle.tl_spans.specs.Windows.{AreKeysOf}
 use Rattle.tl_watches.specs.Touch.{edited_link, OnWatch, watchers, AreTouched}
 use Rattle.tl_watches.specs.Watches.{WatchesData}
@@ -24,9 +25,9 @@ returns c =
     let watch : (number : ℕ) → Contains c.in_ok-owners.owners.items number ↔ OnWatch now number (λ l. l ≡ link) = λ number.
     subst (λ (os : List ℕ). Contains os number ↔ OnWatch now number (λ l. l ≡ link)) (sym (c.in_ok-owners.ensures ∙ ap (λ (i : InputData). watchers i.topo link (attached i.monitors)) read))
     (watchers_are now (monitors_rise spans.log.topo spans.log.edits) link number) in
-    let on : (window : ℕ) → Contains c.in_ok-windows.windows.items window ↔ TouchesLink now e link window = λ window.
-    subst (λ (i : InputData). edited_link i.topo e ≡ Some link → Contains c.in_ok-windows.windows.items window ↔ TouchesLink i e link window) read (c.in_ok-windows.ensures link window) edited in
-    let are : AreKeysOf c.in_ok-owners.owners.items c.in_ok-windows.windows.items c.in_ok-keys.keys.items =
-    subst (λ os. AreKeysOf os c.in_ok-windows.windows.items c.in_ok-keys.keys.items) c.deref.ensures.value (subst (λ ws. AreKeysOf c.deref.result.now ws c.in_ok-keys.keys.items) c.deref-2.ensures.value c.in_ok-keys.ensures) in
+    let is : IsTouched now e c.args.touched.now = subst (λ (d : WatchesData). IsTouched (standing d.spans) e c.args.touched.now) (sym c.self.view_is) c.requires in
+    let on : (window : ℕ) → Contains c.windows_in.result.now window ↔ TouchesLink now e link window = λ window. c.windows_in.ensures now e link window is edited in
+    let are : AreKeysOf c.in_ok-owners.owners.items c.windows_in.result.now c.in_ok-keys.keys.items =
+    subst (λ os. AreKeysOf os c.windows_in.result.now c.in_ok-keys.keys.items) c.deref.ensures.value c.in_ok-keys.ensures in
     subst (λ (d : WatchesData). AreTouched (standing d.spans) e link c.in_ok-keys.keys.items) c.self.view_is
-    (touched_keys now e link edited c.in_ok-owners.owners.items c.in_ok-windows.windows.items c.in_ok-keys.keys.items watch on are)
+    (touched_keys now e link edited c.in_ok-owners.owners.items c.windows_in.result.now c.in_ok-keys.keys.items watch on are)

@@ -1,20 +1,23 @@
-use Rattle.std.proofs.Common.{ℕ, not, ◌&&◌, List, ap, ◌∙◌}
+use Rattle.std.proofs.Common.{◌≡◌, ℕ, not, ◌&&◌, List, Some, ap, ◌∙◌, rules}
 use Rattle.std.specs.Prelude.{map, filter, ◌==◌}
-use Rattle.std.specs.Arc.{arc_value}
 use Rattle.tl_definitions.specs.Positions.{Recorded}
 use Rattle.tl_windows.specs.Present.{shares, least}
-use Rattle.tl_windows.proofs.WalkLemmas.{numbers_walked}
+use Rattle.tl_windows.specs.Ranges.{meets}
+use Rattle.tl_windows.specs.Walk.{fragments_left}
+use Rattle.tl_windows.proofs.WalkLemmas.{lower_least, read_all, other_number, numbers_read}
 use Rattle.tl_windows.proofs.ranges.Ranges.overlapped.Goals as goal
 
 asked : ℕ → ℕ → ℕ → ℕ → List Recorded → List ℕ
 asked link first last number fs = map (λ (g : Recorded). g.number) (filter (λ g. not (g.number == number) && shares link first last g) fs)
 
-pub returns : goal.returns
+pub loop-other-init : goal.loop-other-init
 unfolding asked
-returns c =
+loop-other-init c =
     let fs : List Recorded = c.args.self.now in
-    c.lowest_other.ensures ∙ ap least (numbers_walked arc_value c.self.inside.ends.entries c.self.invariant c.args.link c.first.result c.last.result c.number.result
-    ∙ ap (asked c.args.link c.first.result c.last.result c.number.result) c.self.view_is
-    ∙ ap (λ n. asked c.args.link n c.last.result c.number.result fs) c.first.ensures.exact
-    ∙ ap (λ n. asked c.args.link c.args.fragment.now.first n c.number.result fs) c.last.ensures.exact
-    ∙ ap (λ n. asked c.args.link c.args.fragment.now.first c.args.fragment.now.last n fs) c.number.ensures)
+    let number : ℕ = c.number-number.result in
+    let left : fragments_left c.into_iter-other-iterator.result ≡ filter (meets c.args.link c.first.result (Some c.last.result)) fs = search rules in
+    lower_least (read_all (other_number number) (fragments_left c.into_iter-other-iterator.result))
+    ∙ ap least (ap (read_all (other_number number)) left ∙ numbers_read c.args.link c.first.result c.last.result number fs
+    ∙ ap (λ n. asked c.args.link n c.last.result number fs) c.first.ensures.exact
+    ∙ ap (λ n. asked c.args.link c.args.fragment.now.first n number fs) c.last.ensures.exact
+    ∙ ap (λ n. asked c.args.link c.args.fragment.now.first c.args.fragment.now.last n fs) c.number-number.ensures)

@@ -1,12 +1,11 @@
-use Rattle.std.proofs.Common.{◌≡◌, ◌++◌, ap, subst, ◌∙◌}
-use Rattle.std.specs.Prelude.{OnOk}
-use Rattle.std.specs.Arc.{arc_value}
-use Rattle.tl_definitions.specs.Positions.{all_placed}
-use Rattle.tl_windows.specs.Present.{of_link}
-use Rattle.tl_windows.specs.Windows.{beats_within}
-use Rattle.tl_windows.proofs.WalkLemmas.{span_walked}
+use Rattle.std.proofs.Common.{◌≡◌, ◌++◌, Some, ap, ◌∙◌, rules}
+use Rattle.std.specs.Prelude.{filter}
+use Rattle.tl_windows.specs.Ranges.{meets, span_beats}
+use Rattle.tl_windows.specs.Walk.{fragments_left}
+use Rattle.tl_windows.proofs.WalkLemmas.{read_all, span_read}
 use Rattle.tl_windows.proofs.ranges.Ranges.push_link.Goals as goal
 
-pub returns : goal.returns
-returns c = subst (λ ps. OnOk c.push_span.result (c.push_span.new.beats.items ≡ c.args.beats.now.items ++ ps))
-    (span_walked arc_value c.self.inside.ends.entries c.self.invariant c.args.from c.args.to c.args.link ∙ ap (λ fs. beats_within c.args.from c.args.to (all_placed (of_link c.args.link fs))) c.self.view_is) c.push_span.ensures
+pub loop-of-init : goal.loop-of-init
+loop-of-init c =
+    let left : fragments_left c.into_iter-of-iterator.result ≡ filter (meets c.args.link c.args.from (Some c.args.to)) c.args.self.now = search rules in
+    ap (λ ps. c.args.beats.now.items ++ ps) (ap (read_all (span_beats c.args.from c.args.to)) left ∙ span_read c.args.from c.args.to c.args.link c.args.self.now c.on_link-of-items.ensures.kept)

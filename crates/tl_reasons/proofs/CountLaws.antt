@@ -14,7 +14,7 @@ use Rattle.tl_definitions.specs.Messages.{Message, Links, at_head}
 use Rattle.tl_reasons.specs.declared.origin.Origin.{Origin}
 use Rattle.tl_reasons.specs.Origins.{placed}
 use Rattle.tl_reasons.specs.Counts.{IsCount, IsTotal, heads_after}
-use Rattle.tl_reasons.proofs.AnswerLaws.{next_left}
+use Rattle.tl_reasons.proofs.PassedLaws.{next_left}
 
 -- A map has so many keys as it has entries, and these are the keys on which something is open.
 pub counted : (table : Table Message) (before : List Origin) (m : BTreeMap ℕ Origin) (count : ℕ) → count ≡ btree_map_len m → IsOrdered nat_cmp m

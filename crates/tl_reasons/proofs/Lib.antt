@@ -3,7 +3,7 @@ pub mod FirstLaws
 pub mod StepLaws
 pub mod LinkLaws
 pub mod ManagerLaws
-pub mod AnswerLaws
+pub mod PassedLaws
 pub mod MeaningLaws
 pub mod NamingLaws
 pub mod HeadMeanings

@@ -19,7 +19,7 @@ use Rattle.tl_definitions.specs.Breaks.{row_of}
 use Rattle.tl_definitions.proofs.Lists.{contains_here, contains_there, contains_cases, contains_none, contains_kept, onto, onto_reverse}
 use Rattle.tl_reasons.specs.declared.telling.Told.{Told}
 use Rattle.tl_reasons.specs.Telling.{is_of, told_of, told_after, BrokenRowsAreTold}
-use Rattle.tl_reasons.proofs.AnswerLaws.{take_next}
+use Rattle.tl_reasons.proofs.PassedLaws.{take_next}
 
 -- ---- one row more
 

@@ -1,5 +1,5 @@
 -- The earlier beat that makes a beat break a rule, by all beats of its manager before it, the newest first.
-use Rattle.std.specs.Prelude.{ℕ, ◌<◌, ◌≤◌, ◌==◌, ◌&&◌, not, Bool, List, [], ◌∷◌, Option, Some, None, if◌then◌else◌, reverse, take, slice_get}
+use Rattle.std.specs.Prelude.{ℕ, ◌==◌, ◌&&◌, not, Bool, List, [], ◌∷◌, Option, Some, None, if◌then◌else◌}
 use Rattle.std.specs.Option.{option_map, option_map_or, option_and_then}
 use Rattle.tl_tables.specs.declared.Chan.TheVariants as chan
 use Rattle.tl_tables.specs.declared.Op.{Op}
@@ -20,7 +20,6 @@ use Rattle.tl_definitions.specs.Rules.{Manager}
 use Rattle.tl_reasons.specs.declared.origin.Origin.{Origin}
 use Rattle.tl_reasons.specs.declared.reason.Reason.{Reason}
 use Rattle.tl_reasons.specs.declared.reason.Reason.TheVariants as why
-use Rattle.tl_reasons.specs.declared.reason.Question.{Question}
 use Rattle.tl_reasons.specs.Origins.{message, origins_on, head_before, placed, first_open, last_setter}
 
 -- What the messages of a link leave for reasons: the openers that are open on each source, sink and block, and the last
@@ -140,13 +139,3 @@ abbrev pub reason_at : Manager → List Placed → Placed → Rule → Reason
 reason_at m before p broken =
     if at_head m.links before p then option_map_or (λ o. head_reason m.clients m.exponent (trails_of m.links m.exponent before) p o broken) (message_of (m.links p.link) p.beat) why.ByItself
     else later_reason (head_before m.links p.link p.beat.chan before) broken
-
--- The answer to a question about beats in their order.
-abbrev pub answer : Manager → List Placed → Question → Reason
-answer m beats question =
-    option_map_or (λ p. reason_at m (reverse (take question.index beats)) p question.rule) (slice_get beats question.index) why.NoneBefore
-
--- Questions about so many beats, none of a beat before that of the one before it.
-abbrev pub AreInOrder : ℕ → ℕ → List Question → Type 0
-AreInOrder from count [] = Unit {0}
-AreInOrder from count (question ∷ questions) = (from ≤ question.index) × (question.index < count) × AreInOrder question.index count questions

@@ -2,7 +2,6 @@
 //! burst; or that there is none.
 #![tactic(auto)]
 
-mod answers;
 mod counts;
 pub mod laws;
 mod link;
@@ -12,8 +11,7 @@ mod origin;
 mod reason;
 mod telling;
 
-pub use answers::reasons;
 pub use counts::{OpenCounts, Opened};
 pub use origin::Origin;
-pub use reason::{Question, Reason};
+pub use reason::Reason;
 pub use telling::{Telling, Told, tell};

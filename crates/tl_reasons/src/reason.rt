@@ -103,12 +103,3 @@ impl Reason {
         }
     }
 }
-
-/// A beat, by its index among those of its manager, and a rule.
-#[derive(Clone, Copy, Debug, PartialEq)]
-pub struct Question {
-    /// From 0.
-    pub index: usize,
-    /// The rule.
-    pub rule: Rule,
-}

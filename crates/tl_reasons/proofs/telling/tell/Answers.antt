@@ -8,7 +8,7 @@ use Rattle.tl_reasons.specs.Counts.{heads_after}
 use Rattle.tl_reasons.proofs.CountLaws.{heads_next}
 use Rattle.tl_reasons.specs.States.{StandsFor, manager_with}
 use Rattle.tl_reasons.specs.Telling.{told_after}
-use Rattle.tl_reasons.proofs.AnswerLaws.{passed_more, next_left}
+use Rattle.tl_reasons.proofs.PassedLaws.{passed_more, next_left}
 use Rattle.tl_reasons.proofs.TellingLaws.{told_next, untold, take_all}
 use Rattle.tl_reasons.proofs.telling.tell.Goals as goal
 use Rattle.tl_reasons.proofs.telling.tell.Goals.{then-contains+in_ok-tell_beat, else-contains}

@@ -124,6 +124,7 @@ fn take_back<T>(x: &mut T)
 {}
 
 /// A script, the topology that it runs on, and the monitors that its commands attach, in their order.
+#[derive(Drop)]
 pub struct Script<'a, M: Monitor> {
     /// The topology.
     pub topo: &'a Topo,
@@ -134,6 +135,7 @@ pub struct Script<'a, M: Monitor> {
 }
 
 /// How a script is run beside workers.
+#[derive(Drop)]
 struct Way<'x, G: Gate> {
     /// How many workers.
     workers: u8,
@@ -153,7 +155,7 @@ fn run_on_hall<'x, R: Threads + Wait + Sync, M: Monitor + Send, G: Gate + Sync, 
 ) -> Result<Outcome, WriteFault>
     requires workers { way.workers ≤ 16 }
     requires out { O.failure_count out.old < 2 ^ 63 }
-    ensures { IsCarriedOut (is_some way.log) (beginning script.topo.now (watches_in M.held script.boxes.items)) script.text.now
+    ensures { IsCarriedOut (is_some way.entry.log) (beginning script.entry.topo.now (watches_in M.held script.entry.boxes.items)) script.entry.text.now
         (O.contents out.old) (O.contents out.new) (O.failure_count out.old) (O.failure_count out.new) result }
 {
     let Script { topo, text, boxes } = script;
@@ -261,7 +263,7 @@ fn show_alone<M: Monitor, O: ByteOut>(
     out: &mut O,
 ) -> Result<Outcome, WriteFault>
     requires { O.failure_count out.old < 2 ^ 63 }
-    ensures { IsCarriedOut true (beginning script.topo.now (watches_in M.held script.boxes.items)) script.text.now
+    ensures { IsCarriedOut true (beginning script.entry.topo.now (watches_in M.held script.entry.boxes.items)) script.entry.text.now
         (O.contents out.old) (O.contents out.new) (O.failure_count out.old) (O.failure_count out.new) result }
 {
     let Script { topo, text, boxes } = script;
@@ -285,10 +287,10 @@ pub fn show_with<R: Threads + Wait + Sync, M: Monitor + Send, O: ByteOut>(
 ) -> Result<Outcome, WriteFault>
     requires workers { workers ≤ 16 }
     requires out { O.failure_count out.old < 2 ^ 63 }
-    ensures written { IfOk result (λ outcome. IsWrittenAs true script.topo.now script.text.now (watches_in M.held script.boxes.items) outcome (O.contents out.old) (O.contents out.new)) }
+    ensures written { IfOk result (λ outcome. IsWrittenAs true script.entry.topo.now script.entry.text.now (watches_in M.held script.entry.boxes.items) outcome (O.contents out.old) (O.contents out.new)) }
     ensures quiet { OnOk result (O.failure_count out.new ≡ O.failure_count out.old) }
     ensures failed { OnErr result ((O.failure_count out.new ≡ O.failure_count out.old + 1)
-        × IsCutAs true script.topo.now (commands_of script.text.now) (watches_in M.held script.boxes.items) (O.contents out.old) (O.contents out.new)) }
+        × IsCutAs true script.entry.topo.now (commands_of script.entry.text.now) (watches_in M.held script.entry.boxes.items) (O.contents out.old) (O.contents out.new)) }
 {
     let Ok(log) = log_on(alloc, script.topo) else {
         return run_nothing(alloc, out);

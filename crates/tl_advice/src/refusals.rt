@@ -229,7 +229,9 @@ impl<'a, 's> Visitor<'s> for Refusals<'a> {
             }
         }
         self.before = before_next(command);
-        self.number = self.number.saturating_add(line_count(&spot.rest[..spot.taken]));
+        self.number = self
+            .number
+            .saturating_add(line_count(&spot.rest[..spot.taken]));
         Ok(())
     }
 }

@@ -38,7 +38,12 @@ pub struct Plain;
 impl Form for Plain {
     ghost noted = { false };
 
-    fn report(&self, alloc: Global, inputs: &Inputs, report: &Report) -> Result<String, AllocError> {
+    fn report(
+        &self,
+        alloc: Global,
+        inputs: &Inputs,
+        report: &Report,
+    ) -> Result<String, AllocError> {
         report_text(alloc, inputs.topo(), report)
     }
 

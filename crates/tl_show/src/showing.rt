@@ -23,7 +23,12 @@ pub struct Shown;
 impl Form for Shown {
     ghost noted = { true };
 
-    fn report(&self, alloc: Global, inputs: &Inputs, report: &Report) -> Result<String, AllocError> {
+    fn report(
+        &self,
+        alloc: Global,
+        inputs: &Inputs,
+        report: &Report,
+    ) -> Result<String, AllocError> {
         shown_report(alloc, inputs.topo(), inputs.present(), report)
     }
 

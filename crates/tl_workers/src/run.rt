@@ -180,9 +180,27 @@ fn run_on_hall<'x, R: Threads + Wait + Sync, M: Monitor + Send, G: Gate + Sync, 
     let (back, told) = match way.log {
         Some(log) => {
             let runner = Showing::new(runner, log);
-            run_beside(rt, alloc, seats, Errand { runner, script: text, out })
+            run_beside(
+                rt,
+                alloc,
+                seats,
+                Errand {
+                    runner,
+                    script: text,
+                    out,
+                },
+            )
         }
-        None => run_beside(rt, alloc, seats, Errand { runner, script: text, out }),
+        None => run_beside(
+            rt,
+            alloc,
+            seats,
+            Errand {
+                runner,
+                script: text,
+                out,
+            },
+        ),
     };
     take_back(back);
     close(rt, hall, spare);

@@ -3,6 +3,7 @@
 ghost use Rattle.std.specs.Prelude.{◌≡◌, ◌+◌, ◌<◌, ◌≤◌, ◌^◌, List, ℕ, IfOk, OnOk, OnErr, [], true, is_some};
 ghost use Rattle.tl_script.specs.Scripts.{commands_of};
 ghost use Rattle.tl_run.specs.Boxes.{watches_in};
+ghost use Rattle.tl_run.specs.Output.{start};
 ghost use Rattle.tl_run.specs.Stops.{IsWritten, IsWrittenAs, IsCut, IsCutAs};
 ghost use Rattle.tl_workers.specs.Crew.{IsCarriedOut, beginning};
 
@@ -123,6 +124,35 @@ fn take_back<T>(x: &mut T)
     ensures { x.new ≡ x.old }
 {}
 
+/// Has a script carried out while workers check windows, then sends them away, and waits for all of them.
+fn run_errand<
+    R: Threads + Wait + Sync,
+    M: Monitor + Send,
+    G: Gate + Sync,
+    S: Runner + Drop,
+    O: ByteOut,
+>(
+    rt: &R,
+    alloc: Global,
+    seats: Seats<'_, '_, '_, '_, M, G>,
+    runner: S,
+    script: &[u8],
+    out: &mut O,
+) -> Result<Outcome, WriteFault>
+    requires out { O.failure_count out.old < 2 ^ 63 }
+    requires new { (S.so_far runner).now ≡ start }
+    ensures { IsCarriedOut S.noted (S.so_far runner) script.now (O.contents out.old) (O.contents out.new) (O.failure_count out.old) (O.failure_count out.new) result }
+{
+    let errand = Errand {
+        runner,
+        script,
+        out,
+    };
+    let (back, told) = run_beside(rt, alloc, seats, errand);
+    take_back(back);
+    told
+}
+
 /// A script, the topology that it runs on, and the monitors that its commands attach, in their order.
 #[derive(Drop)]
 pub struct Script<'a, M: Monitor> {
@@ -177,34 +207,18 @@ fn run_on_hall<'x, R: Threads + Wait + Sync, M: Monitor + Send, G: Gate + Sync, 
         boxes: Boxes::new(boxes),
         last: None,
     };
-    let (back, told) = match way.log {
+    match way.log {
         Some(log) => {
-            let runner = Showing::new(runner, log);
-            run_beside(
-                rt,
-                alloc,
-                seats,
-                Errand {
-                    runner,
-                    script: text,
-                    out,
-                },
-            )
+            let told = run_errand(rt, alloc, seats, Showing::new(runner, log), text, out);
+            close(rt, hall, spare);
+            told
         }
-        None => run_beside(
-            rt,
-            alloc,
-            seats,
-            Errand {
-                runner,
-                script: text,
-                out,
-            },
-        ),
-    };
-    take_back(back);
-    close(rt, hall, spare);
-    told
+        None => {
+            let told = run_errand(rt, alloc, seats, runner, text, out);
+            close(rt, hall, spare);
+            told
+        }
+    }
 }
 
 /// Does as `run_with`, and calls a gate: the script's thread and each worker tell it which tickets they took and handed in, and

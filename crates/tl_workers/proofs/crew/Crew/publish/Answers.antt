@@ -3,10 +3,10 @@ use Rattle.std.specs.Prelude.{IfOk, IfErr}
 use Rattle.tl_topology.specs.Topology.{Topology}
 use Rattle.tl_desk.specs.Core.{AreLinked}
 use Rattle.tl_desk.specs.declared.fault.PublishFault.TheVariants as fault
-use Rattle.tl_report.specs.Output.{report_bytes}
+use Rattle.tl_report.specs.Output.{ReportData, report_bytes}
 use Rattle.tl_hall.specs.Passes.{Looked, IsLatest}
 use Rattle.tl_run.specs.Commands.{a_report}
-use Rattle.tl_run.specs.Output.{RunData, refused_text}
+use Rattle.tl_run.specs.Output.{RunData, IsStep, refused_text}
 use Rattle.tl_workers.specs.Crew.{HasPublished, IsUnpublished, progress_in, rows_in}
 use Rattle.tl_workers.proofs.Knowing.{linked, publish_made, publish_full, read_finds, run_sole, run_topo, run_step}
 use Rattle.tl_workers.proofs.crew.Crew.publish.Goals as goal
@@ -51,8 +51,9 @@ returns-in_ok-copy-in-Ok-Some-clause-step g c =
     let view : s.topo.now ≡ c.args.self.now.topo = ap (λ (r : RunData). r.topo) c.self.view_is in
     let said : line ≡ report_bytes p.topo report = ap (λ t. report_bytes t report) (sym view ∙ sym topo) in
     let same = c.in_ok-copy-in-Ok-Some.ensures in
-    run_step s.hall.now s.topo.now s.pass (rows_in s.last) s.boxes c.args.self.now c.self.view_is c.self.invariant p is a_report line (progress_in c.read-pass.result.0.seen report.rows)
-    (publish_made p q c.read-pass.result.0 (rows_in s.last) c.in-Ok.field-0 report line sole has look said)
+    subst (λ (r : ReportData). IsStep c.args.self.now.topo c.args.self.now.now a_report line (progress_in c.read-pass.result.0.seen r.rows)) (sym same)
+    (run_step s.hall.now s.topo.now s.pass (rows_in s.last) s.boxes c.args.self.now c.self.view_is c.self.invariant p is a_report line (progress_in c.read-pass.result.0.seen report.rows)
+    (publish_made p q c.read-pass.result.0 (rows_in s.last) c.in-Ok.field-0 report line sole has look said))
 
 pub returns-in-Err-VersionFull-clause-step : goal.returns-in-Err-VersionFull-clause-step
 returns-in-Err-VersionFull-clause-step g c =

@@ -16,6 +16,6 @@ returns-in-Nothing c now e link window is edited =
 pub returns-in-Windows : goal.returns-in-Windows
 returns-in-Windows c now e link window is edited =
     let both = named_windows now e _ (subst (IsTouched now e) c.in-Windows.is is) link window edited in (
-      (λ h. both.1 c.in-Windows.field-0.now (refl, subst (λ ws. Contains ws window) c.as_slice.ensures.value h)),
+      (λ h. both.1 c.in-Windows.field-0 (refl, subst (λ ws. Contains ws window) c.as_slice.ensures.value h)),
       (λ touches. subst (λ ws. Contains ws window) (sym c.as_slice.ensures.value) (both.0 touches).1.1),
     )

@@ -102,14 +102,14 @@ impl<M: Monitor> Desk<M> {
         if let Err(watched) = self.boxes.attach(number, watched) {
             return Err((EditFault::Memory, watched.into_inner()));
         }
-        match self.windows.accept(alloc, edit) {
+        match self.windows.edit(alloc, edit) {
             Ok(number) => {
                 let _ = self.windows.present();
                 Ok(number)
             }
-            Err(_) => {
+            Err(fault) => {
                 let watched = self.boxes.give_back(number).unwrap();
-                Err((EditFault::Memory, watched.into_inner()))
+                Err((fault, watched.into_inner()))
             }
         }
     }

@@ -28,7 +28,7 @@ fn unmark(windows: &mut Watches, key: PieceKey, ticket: u64) -> bool
     ensures made { Unmarks windows.old.spans key ticket windows.new.spans }
     ensures rest { windows.new.board ≡ windows.old.board }
 {
-    let Some(live) = windows.spans().live(key) else {
+    let Some(live) = windows.live_span(key) else {
         return false;
     };
     if live != ticket {
@@ -69,10 +69,9 @@ impl<M: Monitor> Desk<M> {
         if self.tickets.are_spent() {
             return Err(TakeFault::TicketsSpent);
         }
-        let spans = self.windows.spans();
-        let task = spans.task(alloc, key)?;
+        let task = self.windows.span_task(alloc, key)?;
         let piece = Piece::Manager(task.manager(), task.window());
-        let edits = spans.log().len();
+        let edits = self.windows.spans().log().len();
         let ticket = self.tickets.give(Taken { piece, edits })?;
         self.windows.set_live_span(key, Some(ticket));
         let _ = self.tickets.are_spent();
@@ -136,14 +135,13 @@ impl<M: Monitor> Desk<M> {
         let _ = &self.boxes;
         let _ = &self.reports;
         let _ = &self.tickets;
-        let spans = self.windows.spans();
-        let Some(live) = spans.live(window_key(job.task())) else {
+        let Some(live) = self.windows.live_span(window_key(job.task())) else {
             return false;
         };
         if live != job.ticket() {
             return false;
         }
-        spans.is_current(job.task())
+        self.windows.is_current(job.task())
     }
 
     /// Takes the result of a window whose ticket is live.

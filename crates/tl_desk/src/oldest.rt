@@ -15,7 +15,7 @@ use tl_watches::Watches;
 fn is_live_at(windows: &Watches, key: PieceKey, ticket: u64) -> bool
     ensures { Decides result (IsLiveAt windows.now.spans key ticket) }
 {
-    match windows.spans().live(key) {
+    match windows.live_span(key) {
         Some(live) => live == ticket,
         None => false,
     }

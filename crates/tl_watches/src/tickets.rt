@@ -1,17 +1,18 @@
-//! Windows of managers that go out to be checked, and come back. The windows of monitors stay as they are. What is only read of
-//! windows of managers is read of `spans`.
+//! Windows of managers that go out to be checked, and come back. The windows of monitors stay as they are.
 
-ghost use Rattle.std.specs.Prelude.{◌≡◌, IfSome, is_some, true};
+ghost use Rattle.std.specs.Prelude.{◌≡◌, IfOk, IfSome, is_some, true};
+ghost use Rattle.std.specs.Bool.{Decides};
 ghost use Rattle.tl_pieces.specs.Keys.{change};
 ghost use Rattle.tl_pieces.specs.Marks.{pass_of};
-ghost use Rattle.tl_pieces.specs.Pieces.{piece_at, with_live, with_pieces, IsFirstFree};
+ghost use Rattle.tl_pieces.specs.Pieces.{piece_at, live_of, with_live, with_pieces, IsFirstFree};
 ghost use Rattle.tl_span.specs.States.{SameSpan};
 ghost use Rattle.tl_spans.specs.Spans.{standing};
-ghost use Rattle.tl_spans.specs.Tickets.{StandsIn, HandsIn};
+ghost use Rattle.tl_spans.specs.Tickets.{IsTaskFor, StandsIn, HandsIn};
 ghost use Rattle.tl_spans.specs.Windows.{key_of};
 ghost use Rattle.tl_tasks.specs.Tasks.{IsPassOf};
 
 use crate::watches::Watches;
+use std::alloc::{AllocError, Global};
 use tl_pieces::{PieceKey, Stored};
 use tl_span::SpanState;
 use tl_spans::Rows;
@@ -28,6 +29,24 @@ impl Watches {
         self.spans.first_free()
     }
 
+    /// A window of a manager with all that its check asks: its present beats, the present regions of its manager, and what it is
+    /// to start from. AllocError where memory is refused.
+    pub fn span_task(&self, alloc: Global, key: PieceKey) -> Result<SpanTask, AllocError>
+        requires { is_some (piece_at key self.now.spans.board) ≡ true }
+        ensures { IfOk result (IsTaskFor self.now.spans key) }
+    {
+        let _ = &self.pieces;
+        self.spans.task(alloc, key)
+    }
+
+    /// The live ticket of a window of a manager.
+    pub fn live_span(&self, key: PieceKey) -> Option<u64>
+        ensures { result ≡ live_of (piece_at key self.now.spans.board) }
+    {
+        let _ = &self.pieces;
+        self.spans.live(key)
+    }
+
     /// A window of a manager gets a live ticket, or loses the one that it has.
     pub fn set_live_span(&mut self, key: PieceKey, live: Option<u64>)
         ensures { self.new ≡ record self.old {
@@ -38,6 +57,16 @@ impl Watches {
     {
         let _ = &self.pieces;
         self.spans.set_live(key, live);
+    }
+
+    /// Whether what a window's task was made of is what stands: the links and the block, the regions of its manager, and the beats
+    /// of the window. It takes no memory.
+    pub fn is_current(&self, task: &SpanTask) -> bool
+        requires { is_some (piece_at (key_of task.now.owner task.now.window) self.now.spans.board) ≡ true }
+        ensures { Decides result (StandsIn (standing self.now.spans) task.now) }
+    {
+        let _ = &self.pieces;
+        self.spans.is_current(task)
     }
 
     /// A window of a manager that was out comes back with the pass of its task, and what that was made of stands: where the window

@@ -27,7 +27,7 @@ invariant_of-self-2 g c =
     c.set_live_span.ensures ∙ ap (λ n. record inside.windows { spans = marked key (Some n) inside.windows.spans }) c.in_ok-ticket.ensures.number in
     let window : taken.piece ≡ window_of key =
     ap (λ n. piece.Manager n c.window.result) (c.manager.ensures.exact ∙ c.in_ok-task.ensures.owner) ∙ ap (λ n. piece.Manager key.owner n) (c.window.ensures ∙ c.in_ok-task.ensures.window) in
-    let edits : taken.edits ≡ length (log_of inside).edits = c.len-edits.ensures.count ∙ ap (λ (l : LogData). length l.edits) (c.log.ensures.exact ∙ ap (λ (s : SpansData). s.log) c.spans-spans.ensures.exact) in
+    let edits : taken.edits ≡ length (log_of inside).edits = c.len-edits.ensures.count ∙ ap (λ (l : LogData). length l.edits) (c.log.ensures.exact ∙ ap (λ (s : SpansData). s.log) c.spans.ensures.exact) in
     sound_taken inside c.self.invariant key taken c.set_live_span.new.self c.give.new.self window edits c.in_ok-ticket.ensures.ok c.are_spent-2.ensures.kept made
 
 pub returns-clause-step : goal.returns-clause-step
@@ -38,7 +38,7 @@ returns-clause-step g c =
     let new : Core = record { windows = c.set_live_span.new.self; boxes = inside.boxes; reports = inside.reports; tickets = c.give.new.self } in
     let window : piece.Manager c.manager.result c.window.result ≡ window_of key =
     ap (λ n. piece.Manager n c.window.result) (c.manager.ensures.exact ∙ c.in_ok-task.ensures.owner) ∙ ap (λ n. piece.Manager key.owner n) (c.window.ensures ∙ c.in_ok-task.ensures.window) in
-    let edits : c.len-edits.result ≡ length (log_of inside).edits = c.len-edits.ensures.count ∙ ap (λ (l : LogData). length l.edits) (c.log.ensures.exact ∙ ap (λ (s : SpansData). s.log) c.spans-spans.ensures.exact) in
+    let edits : c.len-edits.result ≡ length (log_of inside).edits = c.len-edits.ensures.count ∙ ap (λ (l : LogData). length l.edits) (c.log.ensures.exact ∙ ap (λ (s : SpansData). s.log) c.spans.ensures.exact) in
     let tickets : c.give.new.self ≡ given (window_of key) (length (log_of inside).edits) inside.tickets =
     c.in_ok-ticket.ensures.ok ∙ ap (λ p. given p c.len-edits.result inside.tickets) window ∙ ap (λ n. given (window_of key) n inside.tickets) edits in
     let left : nat_le most_tickets inside.tickets.last ≡ false = sym c.are_spent.ensures.exact ∙ c.if-are_spent.false in

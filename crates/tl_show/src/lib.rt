@@ -6,5 +6,5 @@ mod lines;
 mod shown;
 mod survey;
 
-pub use shown::{shown_audit, shown_report};
+pub use shown::{shown_audit, shown_report, shown_row};
 pub use survey::{Counts, Survey, survey_beats};

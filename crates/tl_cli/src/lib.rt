@@ -14,14 +14,17 @@ mod forms;
 mod kinds;
 mod monitors;
 mod permission_entries;
+mod picking;
 mod places;
 mod refusal_entries;
 mod refusals;
+mod reports;
 mod run;
 mod screen;
 mod sentences;
 mod showing;
 mod telling;
+mod view;
 mod words;
 
 pub use fault::Fault;

@@ -2,55 +2,12 @@
 
 use crate::{flow_entries, format_entries, permission_entries, refusal_entries};
 use std::alloc::{AllocError, Global};
-use tl_tables::{Rule, rule_text};
+use tl_pick::{RULES, rule_named};
+use tl_tables::Rule;
 use tl_text::decimal;
 
 /// The greatest number that a word of a refusal's code may spell.
 const MOST_CODE: u64 = 255;
-
-/// The rules, in the order of reports.
-const RULES: [Rule; 32] = [
-    Rule::F1,
-    Rule::F2,
-    Rule::F3,
-    Rule::F4,
-    Rule::F5,
-    Rule::F6,
-    Rule::F7,
-    Rule::F8,
-    Rule::F9,
-    Rule::F10,
-    Rule::U1,
-    Rule::S1,
-    Rule::S2,
-    Rule::S3,
-    Rule::S4,
-    Rule::S5,
-    Rule::S6,
-    Rule::S7,
-    Rule::S8,
-    Rule::S9,
-    Rule::P1,
-    Rule::P2,
-    Rule::P3,
-    Rule::P4,
-    Rule::P5,
-    Rule::P6,
-    Rule::P7,
-    Rule::P8,
-    Rule::M1,
-    Rule::M2,
-    Rule::M3,
-    Rule::X1,
-];
-
-/// The rule that a report calls so, in any case of its letters.
-fn rule_named(name: &str) -> Option<Rule> {
-    RULES
-        .iter()
-        .copied()
-        .find(|rule| rule_text(*rule).eq_ignore_ascii_case(name))
-}
 
 /// The entry of a rule.
 fn rule_entry(rule: Rule) -> &'static str {
@@ -142,7 +99,7 @@ fn refusal_entry(code: u64) -> Option<&'static str> {
 
 /// The entry of the rule with this name in any case, or of the refusal with this code in decimal; None for any other word.
 pub(crate) fn entry_of(word: &str) -> Option<&'static str> {
-    match rule_named(word) {
+    match rule_named(word.as_bytes()) {
         Some(rule) => Some(rule_entry(rule)),
         None => refusal_entry(decimal(word.as_bytes(), MOST_CODE)?),
     }

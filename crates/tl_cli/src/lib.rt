@@ -9,10 +9,13 @@ mod flow_entries;
 mod format_entries;
 mod monitors;
 mod permission_entries;
+mod picking;
 mod refusal_entries;
+mod reports;
 mod run;
 mod screen;
 mod telling;
+mod view;
 mod words;
 
 pub use fault::Fault;

@@ -6,8 +6,10 @@ ghost use Rattle.tl_cli.specs.Status.{status_of};
 use crate::denial::Denial;
 use crate::explain::titles;
 use crate::fault::Fault;
-use crate::files::{fragments_of, script_of, topology_of};
+use crate::files::{script_of, topology_of};
 use crate::monitors::{attached_in, settlement_lines};
+use crate::picking::Written;
+use crate::reports::{Ending, Past, audit_of_files, ending_of, once_of_files, report_of};
 use crate::screen::Screen;
 use crate::telling::{
     Suspect, input_sentence, input_sentences, once_sentence, run_sentences, script_sentence,
@@ -22,9 +24,7 @@ use std::thread::Threads;
 use tl_advice::More;
 use tl_beats::Watch;
 use tl_monitor::{After, Budget, Monitor};
-use tl_report::{run_once, run_once_as};
-use tl_run::{Outcome, audit_script, audit_script_as};
-use tl_show::Shown;
+use tl_run::Outcome;
 use tl_text::{ByteIn, ByteOut, read_text, write_all};
 use tl_topology::{Topo, read_topo};
 use tl_workers::{Script, run_with, show_with};
@@ -51,51 +51,6 @@ fn status_of(outcome: Outcome) -> u8
         None if outcome.last_rows == 0 => NO_ROWS,
         None => SOME_ROWS,
     }
-}
-
-/// What one report with so many rows comes to.
-fn report_of(rows: u64) -> Outcome {
-    Outcome {
-        last_rows: rows,
-        stop: None,
-    }
-}
-
-/// How a command ends that has no fault.
-enum Ending {
-    /// As its run came out.
-    Came(Outcome),
-    /// It is denied.
-    Denied(Denial),
-}
-
-/// How a run ends that came to this, and that is denied or not.
-fn ending_of(outcome: Outcome, denial: Option<Denial>) -> Ending {
-    match denial {
-        Some(denial) => Ending::Denied(denial),
-        None => Ending::Came(outcome),
-    }
-}
-
-/// The report of files' fragments.
-fn once_of_files<R: Files + AllocGlobal, O: ByteOut>(
-    rt: &R,
-    topology: &str,
-    fragments: &[&str],
-    how: How,
-    out: &mut O,
-) -> Result<Ending, Fault>
-    requires { O.failure_count out.old < 2 ^ 63 }
-{
-    let topo = topology_of(rt, topology)?;
-    let fragments = fragments_of(rt, fragments)?;
-    let rows = if how.show {
-        run_once_as(rt.alloc(), &topo, &fragments, &Shown, out)?
-    } else {
-        run_once(rt.alloc(), &topo, &fragments, out)?
-    };
-    let denial = how.deny.of_fragments(&fragments);
-    Ok(ending_of(report_of(rows), denial))
 }
 
 /// The run of a script with the monitors that it attaches, and after a run that did not stop what each of them told. So many
@@ -165,28 +120,6 @@ fn run_of_files<R: Files + Threads + Wait + Sync + AllocGlobal, O: ByteOut>(
     }
     let denial = how.deny.of_run(rt.alloc(), &topo, &script)?;
     Ok(ending_of(outcome, denial))
-}
-
-/// What checking everything anew finds behind so many accepted edits of a file's script.
-fn audit_of_files<R: Files + AllocGlobal, O: ByteOut>(
-    rt: &R,
-    topology: &str,
-    script: &str,
-    edit: u64,
-    how: How,
-    out: &mut O,
-) -> Result<Ending, Fault>
-    requires { O.failure_count out.old < 2 ^ 63 }
-{
-    let topo = topology_of(rt, topology)?;
-    let script = script_of(rt, script)?;
-    let rows = if how.show {
-        audit_script_as(rt.alloc(), &topo, &script, edit, &Shown, out)?
-    } else {
-        audit_script(rt.alloc(), &topo, &script, edit, out)?
-    };
-    let denial = how.deny.of_audit(rt.alloc(), &topo, &script, edit)?;
-    Ok(ending_of(report_of(rows), denial))
 }
 
 /// The run of a script behind its topology's text.
@@ -326,6 +259,35 @@ fn tell_denial<R: Files + AllocGlobal, E: ByteOut>(
     if let Ok(()) = write_all(err, line.as_bytes()) {
         tell_refusals(rt, err, command, screen);
     }
+    FAULT
+}
+
+/// Tells what became of waivers, and then why a run is denied, if it is; that this can't be written changes nothing.
+fn tell_picked<R: Files + AllocGlobal, E: ByteOut>(
+    rt: &R,
+    err: &mut E,
+    written: &Written,
+    denial: Option<Denial>,
+    command: &Command<'_>,
+    screen: Screen,
+) -> u8
+    requires { E.failure_count err.old < 2 ^ 63 }
+    ensures { result ≤ 2 }
+{
+    let told = write_all(err, written.notes.as_bytes());
+    match (denial, told) {
+        (Some(denial), Ok(())) => tell_denial(rt, err, denial, command, screen),
+        (Some(_), Err(_)) => FAULT,
+        (None, _) => status_of(report_of(written.rows)),
+    }
+}
+
+/// Tells in a sentence what can't be had; that this can't be written changes nothing.
+fn tell_objection<E: ByteOut>(err: &mut E, text: &str) -> u8
+    requires { E.failure_count err.old < 2 ^ 63 }
+    ensures { result ≡ 2 }
+{
+    let _ = write_all(err, text.as_bytes());
     FAULT
 }
 
@@ -526,7 +488,8 @@ pub fn run_words_at<
             topology,
             fragments,
             how,
-        } => once_of_files(rt, *topology, fragments, *how, out),
+            view,
+        } => once_of_files(rt, *topology, fragments, *how, view, out),
         Command::Run {
             topology,
             script,
@@ -545,7 +508,15 @@ pub fn run_words_at<
             script,
             edit,
             how,
-        } => audit_of_files(rt, *topology, *script, *edit, *how, out),
+            view,
+        } => {
+            let past = Past {
+                topology: *topology,
+                script: *script,
+                edit: *edit,
+            };
+            audit_of_files(rt, past, *how, view, out)
+        }
         Command::Explain { entry } => return tell_entry(rt.alloc(), out, err, *entry),
     };
     match ending {
@@ -554,6 +525,10 @@ pub fn run_words_at<
             status_of(outcome)
         }
         Ok(Ending::Denied(denial)) => tell_denial(rt, err, denial, &command, screen),
+        Ok(Ending::Picked(written, denial)) => {
+            tell_picked(rt, err, &written, denial, &command, screen)
+        }
+        Ok(Ending::Objected(text)) => tell_objection(err, text.as_str()),
         Err(fault) => tell_fault(rt, err, fault, &command, screen),
     }
 }

@@ -2,6 +2,7 @@
 
 use crate::denial::Deny;
 use crate::explain::entry_of;
+use crate::view::{View, view_asked, with_view};
 use clap::builder::ValueParser;
 use clap::error::ErrorKind;
 use clap::{Arg, ArgAction, ArgMatches, Error};
@@ -28,6 +29,7 @@ pub(crate) enum Command<'a> {
         topology: &'a str,
         fragments: Vec<&'a str>,
         how: How,
+        view: View<'a>,
     },
     /// The run of a script, from files.
     Run {
@@ -42,6 +44,7 @@ pub(crate) enum Command<'a> {
         script: &'a str,
         edit: u64,
         how: How,
+        view: View<'a>,
     },
     /// The entry of a rule or of a refusal, or without one the first line of each.
     Explain {
@@ -137,7 +140,7 @@ fn once<'a>(alloc: Global) -> Result<clap::Command<'a>, Error> {
         .arg(show(alloc))?
         .arg(explain_faults(alloc))?
         .arg(deny(alloc))?;
-    Ok(once)
+    with_view(alloc, once)
 }
 
 fn run<'a>(alloc: Global) -> Result<clap::Command<'a>, Error> {
@@ -175,7 +178,7 @@ fn audit<'a>(alloc: Global) -> Result<clap::Command<'a>, Error> {
         .arg(show(alloc))?
         .arg(explain_faults(alloc))?
         .arg(deny(alloc))?;
-    Ok(audit)
+    with_view(alloc, audit)
 }
 
 fn explain<'a>(alloc: Global) -> Result<clap::Command<'a>, Error> {
@@ -247,15 +250,27 @@ fn how_asked(found: &ArgMatches<'_>) -> How {
 }
 
 /// The fragments that the words of `once` name.
-fn once_asked<'a>(alloc: Global, found: &ArgMatches<'a>) -> Result<Command<'a>, Error> {
+fn fragments_asked<'a>(alloc: Global, found: &ArgMatches<'a>) -> Result<Vec<&'a str>, Error> {
     let mut fragments = Vec::new(alloc);
     if let Some(paths) = found.get_strs("FRAGMENT") {
         fragments.extend_from_slice(paths)?;
     }
+    Ok(fragments)
+}
+
+/// What the words of `once` ask for.
+fn once_asked<'a>(
+    alloc: Global,
+    program: &mut clap::Command<'a>,
+    found: &ArgMatches<'a>,
+) -> Result<Command<'a>, Error> {
+    let view = view_asked(alloc, program, found)?;
+    let fragments = fragments_asked(alloc, found)?;
     Ok(Command::Once {
         topology: found.get_str("TOPO").unwrap_or(""),
         fragments,
         how: how_asked(found),
+        view,
     })
 }
 
@@ -270,14 +285,20 @@ fn run_asked<'a>(found: &ArgMatches<'a>) -> Command<'a> {
     }
 }
 
-/// The script and the edit that the words of `audit` name.
-fn audit_asked<'a>(found: &ArgMatches<'a>) -> Command<'a> {
-    Command::Audit {
+/// What the words of `audit` ask for.
+fn audit_asked<'a>(
+    alloc: Global,
+    program: &mut clap::Command<'a>,
+    found: &ArgMatches<'a>,
+) -> Result<Command<'a>, Error> {
+    let view = view_asked(alloc, program, found)?;
+    Ok(Command::Audit {
         topology: found.get_str("TOPO").unwrap_or(""),
         script: found.get_str("SCRIPT").unwrap_or(""),
         edit: found.get_one("EDIT").unwrap_or(0),
         how: how_asked(found),
-    }
+        view,
+    })
 }
 
 /// The entry that the words of `explain` name, or none; another word is refused.
@@ -308,9 +329,9 @@ pub(crate) fn read_words<'a>(alloc: Global, words: &'a [String]) -> Result<Comma
     };
     match name.as_bytes() {
         b"run" => Ok(run_asked(found)),
-        b"audit" => Ok(audit_asked(found)),
+        b"audit" => audit_asked(alloc, &mut program, found),
         b"explain" => explain_asked(alloc, &mut program, found),
-        _ => once_asked(alloc, found),
+        _ => once_asked(alloc, &mut program, found),
     }
 }
 

@@ -11,5 +11,5 @@ mod survey;
 
 pub use quote::first_line;
 pub use showing::{Showing, Shown};
-pub use shown::{shown_audit, shown_report};
+pub use shown::{shown_audit, shown_report, shown_row};
 pub use survey::{Counts, Survey, survey_beats};

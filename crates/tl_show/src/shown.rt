@@ -77,8 +77,8 @@ fn lines(alloc: Global, topo: &Topo, told: &[Told], row: &Row) -> Result<String,
     }
 }
 
-/// A row with its lines.
-fn shown_row(alloc: Global, topo: &Topo, told: &[Told], row: &Row) -> Result<String, AllocError>
+/// A row with its lines, where it is one of those that are told. AllocError where memory is refused.
+pub fn shown_row(alloc: Global, topo: &Topo, told: &[Told], row: &Row) -> Result<String, AllocError>
     requires link { row.now.link < length topo.now.links }
     requires told { All (IsSoundTold topo.now) told.now }
     ensures { IfOk result (λ text. string_bytes text ≡ shown_row topo.now told.now row.now) }

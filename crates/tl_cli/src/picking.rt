@@ -1,0 +1,254 @@
+//! Runs of which the words choose the rows that are written.
+
+ghost use Rattle.std.specs.Prelude.{◌<◌, ◌^◌};
+
+use crate::fault::Fault;
+use crate::view::View;
+use std::alloc::{AllocError, AllocFailed, Global};
+use std::fs;
+use std::rt::Files;
+use std::sync::Arc;
+use tl_beats::{Fragment, Row};
+use tl_formats::{Format, Title, print_rows};
+use tl_inputs::Inputs;
+use tl_pick::{Pick, Waiver, WaiverFault, read_waivers};
+use tl_plain::scratch;
+use tl_report::all_added;
+use tl_run::{AuditFault, log_of};
+use tl_text::{ByteOut, CountedReader, TextFault, read_text, write_all};
+use tl_topology::{Name, Topo};
+
+/// The most bytes of a text of waivers.
+const MOST_WAIVERS: u64 = 1_048_576;
+
+/// Why what the words want of rows can't be had.
+#[derive(Drop)]
+pub(crate) enum Trouble {
+    /// A fault.
+    Fault(Fault),
+    /// What is wrong, in a sentence.
+    Objection(String),
+}
+
+impl From<AllocError> for Trouble {
+    fn from(_error: AllocError) -> Trouble {
+        Trouble::Fault(Fault::MEMORY)
+    }
+}
+
+impl<T: Drop> From<AllocFailed<T>> for Trouble {
+    fn from(_error: AllocFailed<T>) -> Trouble {
+        Trouble::Fault(Fault::MEMORY)
+    }
+}
+
+/// What is to be written.
+#[derive(Drop)]
+pub(crate) struct Order<'a> {
+    /// In this format.
+    format: Format,
+    /// Which rows.
+    pick: Pick,
+    /// The path of the text of waivers.
+    waive: Option<&'a str>,
+}
+
+/// What was written.
+#[derive(Drop)]
+pub(crate) struct Written {
+    /// How many rows.
+    pub(crate) rows: u64,
+    /// What is told of waivers.
+    pub(crate) notes: String,
+}
+
+/// The number of the link with this name, if there is one.
+fn number_of(topo: &Topo, name: &str) -> Option<u16> {
+    let name = Name::new(name.as_bytes())?;
+    topo.link_of(&name)
+}
+
+/// The number of the link with this name.
+fn link_of(alloc: Global, topo: &Topo, name: &str) -> Result<u16, Trouble> {
+    match number_of(topo, name) {
+        Some(number) => Ok(number),
+        None => Err(Trouble::Objection(format!(in alloc;
+            "tlcheck: no link of the topology is called '{name}'\n"
+        )?)),
+    }
+}
+
+/// The numbers of the links with these names.
+fn links_of(alloc: Global, topo: &Topo, names: &[&str]) -> Result<Vec<u16>, Trouble> {
+    let mut links = Vec::new(alloc);
+    for name in names {
+        links.push(link_of(alloc, topo, *name)?)?;
+    }
+    Ok(links)
+}
+
+/// The text of a file of waivers.
+fn file_text<R: Files + AllocGlobal>(rt: &R, path: &str) -> Result<Vec<u8>, TextFault> {
+    let Ok(file) = fs::open(rt, path) else {
+        return Err(TextFault::ReadFault);
+    };
+    read_text(rt.alloc(), &mut CountedReader::new(file), MOST_WAIVERS)
+}
+
+/// The text of a file of waivers, with a newline behind it, which its last line may lack.
+fn waiver_text<R: Files + AllocGlobal>(rt: &R, path: &str) -> Result<Vec<u8>, Trouble> {
+    let alloc = rt.alloc();
+    match file_text(rt, path) {
+        Ok(mut text) => {
+            text.push(b'\n')?;
+            Ok(text)
+        }
+        Err(TextFault::Memory) => Err(Trouble::Fault(Fault::MEMORY)),
+        Err(TextFault::ReadFault) => Err(Trouble::Objection(format!(in alloc;
+            "tlcheck: {path} can't be read\n"
+        )?)),
+        Err(TextFault::TooLong) => Err(Trouble::Objection(format!(in alloc;
+            "tlcheck: {path} has more than 1,048,576 bytes\n"
+        )?)),
+    }
+}
+
+/// The waivers of a text.
+fn text_waivers(
+    alloc: Global,
+    topo: &Topo,
+    path: &str,
+    text: &[u8],
+) -> Result<Vec<Waiver>, Trouble> {
+    match read_waivers(alloc, topo, text) {
+        Ok(waivers) => Ok(waivers),
+        Err(WaiverFault::Memory) => Err(Trouble::Fault(Fault::MEMORY)),
+        Err(fault) => Err(Trouble::Objection(format!(in alloc; "tlcheck: {path}: {fault}\n")?)),
+    }
+}
+
+/// The waivers of a file, if one is named.
+fn waivers_of<R: Files + AllocGlobal>(
+    rt: &R,
+    topo: &Topo,
+    path: Option<&str>,
+) -> Result<Vec<Waiver>, Trouble> {
+    let Some(path) = path else {
+        return Ok(Vec::new(rt.alloc()));
+    };
+    let text = waiver_text(rt, path)?;
+    text_waivers(rt.alloc(), topo, path, &text)
+}
+
+/// What the words want to be written of rows of this topology.
+pub(crate) fn order_of<'a, R: Files + AllocGlobal>(
+    rt: &R,
+    topo: &Topo,
+    view: &View<'a>,
+) -> Result<Order<'a>, Trouble> {
+    let links = links_of(rt.alloc(), topo, &view.links)?;
+    let waivers = waivers_of(rt, topo, view.waive)?;
+    let rules = Vec::from_slice(rt.alloc(), &view.rules)?;
+    Ok(Order {
+        format: view.format,
+        pick: Pick {
+            rules,
+            links,
+            cycles: view.cycles,
+            waivers,
+        },
+        waive: view.waive,
+    })
+}
+
+/// Puts a line for each waiver that accepts none of the rows behind a text.
+fn push_unused(
+    alloc: Global,
+    path: &str,
+    unused: &[Waiver],
+    notes: &mut String,
+) -> Result<(), AllocError> {
+    for waiver in unused {
+        let number = waiver.line;
+        let line = format!(in alloc; "tlcheck: {path} line {number} fits no row\n")?;
+        notes.push_str(line.as_str())?;
+    }
+    Ok(())
+}
+
+/// How many rows are waived, and which waivers accept none.
+fn notes_of(
+    alloc: Global,
+    path: Option<&str>,
+    pick: &Pick,
+    rows: &[Row],
+) -> Result<String, AllocError> {
+    let Some(path) = path else {
+        return Ok(String::new(alloc));
+    };
+    let waived = pick.waived(alloc, rows)?.len();
+    let found = rows.len();
+    let mut notes = format!(in alloc; "tlcheck: {path} waives {waived} of {found} rows\n")?;
+    let unused = pick.unused(alloc, rows)?;
+    push_unused(alloc, path, &unused, &mut notes)?;
+    Ok(notes)
+}
+
+/// Writes those rows of what stands that are wanted.
+fn write_found<O: ByteOut>(
+    alloc: Global,
+    title: Title,
+    inputs: &Inputs,
+    order: &Order<'_>,
+    out: &mut O,
+) -> Result<Written, Fault>
+    requires { O.failure_count out.old < 2 ^ 63 }
+{
+    let rows = scratch(alloc, inputs)?;
+    let notes = notes_of(alloc, order.waive, &order.pick, &rows)?;
+    let printed = print_rows(alloc, order.format, title, &order.pick, inputs, &rows)?;
+    write_all(out, printed.text.as_bytes())?;
+    Ok(Written {
+        rows: printed.rows,
+        notes,
+    })
+}
+
+/// Writes those rows of the report of fragments that are wanted.
+pub(crate) fn write_once<O: ByteOut>(
+    alloc: Global,
+    topo: &Topo,
+    fragments: &[Arc<Fragment>],
+    order: &Order<'_>,
+    out: &mut O,
+) -> Result<Written, Fault>
+    requires { O.failure_count out.old < 2 ^ 63 }
+{
+    let log = all_added(alloc, topo, fragments)?;
+    let title = Title::Report {
+        version: 1,
+        edit: fragments.len() as u64,
+    };
+    write_found(alloc, title, log.inputs(), order, out)
+}
+
+/// What the first so many accepted edits of a script leave.
+fn past_of(alloc: Global, topo: &Topo, script: &[u8], edit: u64) -> Result<Inputs, AuditFault> {
+    let log = log_of(alloc, topo, script)?;
+    Ok(log.inputs_at(alloc, edit)?)
+}
+
+/// Writes those rows that are wanted of what checking everything anew after so many accepted edits of a script finds.
+pub(crate) fn write_audit<O: ByteOut>(
+    alloc: Global,
+    topo: &Topo,
+    script: &[u8],
+    edit: u64,
+    order: &Order<'_>,
+    out: &mut O,
+) -> Result<Written, Fault>
+    requires { O.failure_count out.old < 2 ^ 63 }
+{
+    let inputs = past_of(alloc, topo, script, edit)?;
+    write_found(alloc, Title::Audit { edit }, &inputs, order, out)
+}

@@ -1,0 +1,189 @@
+//! Which rows the words want to be written, and how.
+
+use clap::builder::ValueParser;
+use clap::error::ErrorKind;
+use clap::{Arg, ArgAction, ArgMatches, Error};
+use std::alloc::Global;
+use tl_formats::Format;
+use tl_pick::{Cycles, rule_named};
+use tl_tables::Rule;
+
+/// Which rows are to be written, and how.
+#[derive(Debug, Drop)]
+pub(crate) struct View<'a> {
+    /// The format.
+    pub(crate) format: Format,
+    /// The rules; none are all.
+    pub(crate) rules: Vec<Rule>,
+    /// The names of the links; none are all.
+    pub(crate) links: Vec<&'a str>,
+    /// The cycles.
+    pub(crate) cycles: Cycles,
+    /// The path of a text of waivers.
+    pub(crate) waive: Option<&'a str>,
+}
+
+impl View<'_> {
+    /// Whether all rows are to be written, as text.
+    pub(crate) fn is_whole(&self) -> bool {
+        matches!(self.format, Format::Text | Format::Shown)
+            && self.rules.is_empty()
+            && self.links.is_empty()
+            && self.cycles == Cycles::ALL
+            && self.waive.is_none()
+    }
+}
+
+/// The formats of rows.
+const FORMATS: &[&str] = &["text", "json", "junit"];
+
+fn format_option<'a>(alloc: Global) -> Arg<'a> {
+    Arg::new(alloc, "format")
+        .long("format")
+        .value_name("FORMAT")
+        .action(ArgAction::Set)
+        .value_parser(FORMATS)
+        .hide_possible_values(true)
+        .help(
+            "Writes rows as text, as JSON, a line for each (json), or as a JUnit report (junit); text without this option",
+        )
+}
+
+fn rule_option<'a>(alloc: Global) -> Arg<'a> {
+    Arg::new(alloc, "rule")
+        .long("rule")
+        .value_name("RULE")
+        .action(ArgAction::Append)
+        .help("Writes only rows of this rule, named in any case, or of one of several")
+}
+
+fn link_option<'a>(alloc: Global) -> Arg<'a> {
+    Arg::new(alloc, "link")
+        .long("link")
+        .value_name("NAME")
+        .action(ArgAction::Append)
+        .help("Writes only rows of this link, or of one of several")
+}
+
+fn from_option<'a>(alloc: Global) -> Arg<'a> {
+    Arg::new(alloc, "from")
+        .long("from")
+        .value_name("CYCLE")
+        .action(ArgAction::Set)
+        .value_parser(ValueParser::unsigned(0, u64::MAX))
+        .help("Writes only rows of this cycle and those after it")
+}
+
+fn to_option<'a>(alloc: Global) -> Arg<'a> {
+    Arg::new(alloc, "to")
+        .long("to")
+        .value_name("CYCLE")
+        .action(ArgAction::Set)
+        .value_parser(ValueParser::unsigned(0, u64::MAX))
+        .help("Writes only rows of this cycle and those before it")
+}
+
+fn waive_option<'a>(alloc: Global) -> Arg<'a> {
+    Arg::new(alloc, "waive")
+        .long("waive")
+        .value_name("FILE")
+        .action(ArgAction::Set)
+        .help("Leaves out rows that a line of this file accepts: RULE LINK FROM TO and a reason")
+}
+
+/// A command with what chooses the rows that are written, and how.
+pub(crate) fn with_view<'a>(
+    alloc: Global,
+    command: clap::Command<'a>,
+) -> Result<clap::Command<'a>, Error> {
+    let command = command
+        .arg(format_option(alloc))?
+        .arg(rule_option(alloc))?
+        .arg(link_option(alloc))?
+        .arg(from_option(alloc))?
+        .arg(to_option(alloc))?
+        .arg(waive_option(alloc))?;
+    Ok(command)
+}
+
+/// The format that the words want.
+fn format_asked(found: &ArgMatches<'_>) -> Format {
+    match found.get_str("format").unwrap_or("").as_bytes() {
+        b"json" => Format::Json,
+        b"junit" => Format::Junit,
+        _ if found.get_flag("show") => Format::Shown,
+        _ => Format::Text,
+    }
+}
+
+/// The rule of a word; another word is refused.
+fn rule_asked<'a>(
+    alloc: Global,
+    program: &mut clap::Command<'a>,
+    word: &str,
+) -> Result<Rule, Error> {
+    if let Some(rule) = rule_named(word.as_bytes()) {
+        return Ok(rule);
+    }
+    let text = format!(in alloc; "'{word}' is no rule: tlcheck explain lists them")?;
+    Err(program.error(ErrorKind::InvalidValue, text.as_str())?)
+}
+
+/// The rules that the words name.
+fn rules_asked<'a>(
+    alloc: Global,
+    program: &mut clap::Command<'a>,
+    found: &ArgMatches<'a>,
+) -> Result<Vec<Rule>, Error> {
+    let mut rules = Vec::new(alloc);
+    let Some(names) = found.get_strs("rule") else {
+        return Ok(rules);
+    };
+    for name in names {
+        rules.push(rule_asked(alloc, program, *name)?)?;
+    }
+    Ok(rules)
+}
+
+/// The links that the words name.
+fn links_asked<'a>(alloc: Global, found: &ArgMatches<'a>) -> Result<Vec<&'a str>, Error> {
+    let mut links = Vec::new(alloc);
+    if let Some(names) = found.get_strs("link") {
+        links.extend_from_slice(names)?;
+    }
+    Ok(links)
+}
+
+/// The cycles that the words name; where the first is above the last, they are refused.
+fn cycles_asked<'a>(
+    program: &mut clap::Command<'a>,
+    found: &ArgMatches<'a>,
+) -> Result<Cycles, Error> {
+    let first = found.get_one("from").unwrap_or(Cycles::ALL.first);
+    let last = found.get_one("to").unwrap_or(Cycles::ALL.last);
+    if last < first {
+        return Err(program.error(
+            ErrorKind::InvalidValue,
+            "the cycle of --from is after that of --to",
+        )?);
+    }
+    Ok(Cycles { first, last })
+}
+
+/// Which rows the words want, and how.
+pub(crate) fn view_asked<'a>(
+    alloc: Global,
+    program: &mut clap::Command<'a>,
+    found: &ArgMatches<'a>,
+) -> Result<View<'a>, Error> {
+    let cycles = cycles_asked(program, found)?;
+    let rules = rules_asked(alloc, program, found)?;
+    let links = links_asked(alloc, found)?;
+    Ok(View {
+        format: format_asked(found),
+        rules,
+        links,
+        cycles,
+        waive: found.get_str("waive"),
+    })
+}

@@ -229,9 +229,8 @@ impl<'a, 's> Visitor<'s> for Refusals<'a> {
             }
         }
         self.before = before_next(command);
-        self.number = self
-            .number
-            .saturating_add(line_count(&spot.rest[..spot.taken]));
+        let own = spot.rest.get(..spot.taken).unwrap_or(spot.rest);
+        self.number = self.number.saturating_add(line_count(own));
         Ok(())
     }
 }

@@ -10,7 +10,7 @@ use tl_hall::Gate;
 use tl_monitor::Budget;
 use tl_text::CountedWriter;
 use tl_topology::Topo;
-use tl_workers::run_gated;
+use tl_workers::{Script, run_gated};
 
 /// Adds a Get with its reply in the windows 0 and 1 each, and publishes.
 const SCRIPT: &str = "add 69\n\
@@ -75,8 +75,9 @@ fn run_two<R: Threads + Wait + Sync>(
     gate: &SecondFirst,
 ) -> bool {
     let boxes: Vec<Budget> = Vec::new(alloc);
+    let script = Script::new(topo, SCRIPT.as_bytes(), boxes);
     let mut out = CountedWriter::new(written);
-    match run_gated(rt, alloc, topo, SCRIPT.as_bytes(), boxes, &mut out, 2, gate) {
+    match run_gated(rt, alloc, script, &mut out, 2, gate) {
         Ok(outcome) => outcome.stop.is_none() && outcome.last_rows == 0,
         Err(_) => false,
     }

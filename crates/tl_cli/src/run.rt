@@ -83,15 +83,11 @@ fn run_of_script<R: Threads + Wait + Sync + AllocGlobal, O: ByteOut>(
         };
         boxes.push(boxed)?;
     }
+    let run = Script::new(topo, script, boxes);
     let outcome = if show {
-        let script = Script {
-            topo,
-            text: script,
-            boxes,
-        };
-        show_with(rt, alloc, script, out, workers)?
+        show_with(rt, alloc, run, out, workers)?
     } else {
-        run_with(rt, alloc, topo, script, boxes, out, workers)?
+        run_with(rt, alloc, run, out, workers)?
     };
     if outcome.stop.is_none() {
         let lines = settlement_lines(alloc, &attached)?;

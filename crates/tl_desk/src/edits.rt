@@ -99,18 +99,36 @@ impl<M: Monitor> Desk<M> {
         if let Some(fault) = self.windows.spans().log().refusal(&edit) {
             return Err((fault, watched.into_inner()));
         }
-        if let Err(watched) = self.boxes.attach(number, watched) {
-            return Err((EditFault::Memory, watched.into_inner()));
+        match self.attach_watched(alloc, number, watched) {
+            Ok(edit) => Ok(edit),
+            Err(watched) => Err((EditFault::Memory, watched.into_inner())),
         }
-        match self.windows.edit(alloc, edit) {
+    }
+
+    /// Attaches a monitor that no cause refuses and answers the number of the edit. Where memory is refused the same monitor comes
+    /// back, and nothing has changed.
+    fn attach_watched(
+        &mut self,
+        alloc: Global,
+        number: u32,
+        watched: Watched<M>,
+    ) -> Result<u64, Watched<M>>
+        requires { refusal (length (log_of self.old).edits) (standing self.old) (attach number watched.watch) ≡ None }
+        ensures step { IfOk result (λ edit. Step self.old (call.Attach number watched.watch edit) self.new) }
+        ensures back { IfErr result (λ back. back ≡ watched) }
+        ensures err { OnErr result (self.new ≡ self.old) }
+    {
+        let _ = &self.reports;
+        let _ = &self.tickets;
+        let _ = self.windows.present();
+        let edit = Edit::Attach(number, watched.watch());
+        self.boxes.attach(number, watched)?;
+        match self.windows.accept(alloc, edit) {
             Ok(number) => {
                 let _ = self.windows.present();
                 Ok(number)
             }
-            Err(fault) => {
-                let watched = self.boxes.give_back(number).unwrap();
-                Err((fault, watched.into_inner()))
-            }
+            Err(_) => Err(self.boxes.give_back(number).unwrap()),
         }
     }
 }

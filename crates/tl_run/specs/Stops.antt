@@ -20,7 +20,7 @@ use Rattle.tl_run.specs.declared.stop.Stop.{Stop}
 use Rattle.tl_run.specs.declared.stop.StopCause.{StopCause}
 use Rattle.tl_run.specs.declared.stop.StopCause.TheVariants as cause
 use Rattle.tl_run.specs.Commands.{asked, watches_of}
-use Rattle.tl_run.specs.Output.{Progress, start, IsOutput, LacksBox}
+use Rattle.tl_run.specs.Output.{Progress, RunData, start, IsOutput, LacksBox}
 
 abbrev pub code_of : StopCause → ℕ
 code_of cause.Memory = 20
@@ -115,6 +115,10 @@ pub record HasCome (noted : Bool) (topo : Topology) (script : Script) (boxes : L
   pub output : IsOutput topo start (commands_before script outcome.stop) lines next
   pub rows : outcome.last_rows ≡ length next.rows
   pub said : AreSaid noted old now gathered lines
+
+-- A run that began so did.
+abbrev pub HasRun : Bool → RunData → List ℕ → Option (List ℕ) → Option (List ℕ) → List ℕ → Outcome → Type 0
+HasRun noted run script old now gathered outcome = HasCome noted run.topo (commands_of script) run.boxes old now gathered outcome
 
 -- A front of these lines was written.
 abbrev pub IsFront : Option (List ℕ) → Option (List ℕ) → List ℕ → Type 0

@@ -10,7 +10,7 @@ ghost use Rattle.tl_script.specs.Text.{IsCommand};
 ghost use Rattle.tl_run.specs.Boxes.{watches_in};
 ghost use Rattle.tl_run.specs.Commands.{asked};
 ghost use Rattle.tl_run.specs.Output.{start, Advances, LacksBox};
-ghost use Rattle.tl_run.specs.Stops.{AreSaid, IsFrontOf, HasCome, IsWritten, IsWrittenAs, IsCut, IsCutAs};
+ghost use Rattle.tl_run.specs.Stops.{AreSaid, IsFrontOf, HasRun, IsWritten, IsWrittenAs, IsCut, IsCutAs};
 
 use crate::lines::{LineFault, put_lines, write_end};
 use crate::runner::Runner;
@@ -111,7 +111,7 @@ fn run_commands<'s, S: Runner, O: ByteOut>(
     requires new { (S.so_far runner.old).now ≡ start }
     requires empty { string_bytes gathered.old ≡ [] }
     ensures quiet { OnOk result (O.failure_count out.new ≡ O.failure_count out.old) }
-    ensures come { IfOk result (λ end. HasCome S.noted (S.so_far runner.old).topo (commands_of script.now) (S.so_far runner.old).boxes (O.contents out.old) (O.contents out.new) (string_bytes gathered.new) end.outcome) }
+    ensures come { IfOk result (λ end. HasRun S.noted (S.so_far runner.old) script.now (O.contents out.old) (O.contents out.new) (string_bytes gathered.new) end.outcome) }
     ensures failed { OnErr result ((O.failure_count out.new ≡ O.failure_count out.old + 1)
         × IsCutAs S.noted (S.so_far runner.old).topo (commands_of script.now) (S.so_far runner.old).boxes (O.contents out.old) (O.contents out.new)) }
 {

@@ -41,8 +41,9 @@ impl Watches {
         Ok(number)
     }
 
-    /// Accepts an edit that no cause refuses.
-    fn accept(&mut self, alloc: Global, edit: Edit) -> Result<u64, AllocError>
+    /// Accepts an edit that no cause refuses, and answers its number; it does all that `edit` does. AllocError where memory is
+    /// refused: then the edit is dropped, and nothing has changed.
+    pub fn accept(&mut self, alloc: Global, edit: Edit) -> Result<u64, AllocError>
         requires { refusal (length self.old.spans.log.edits) (standing self.old.spans) (plain edit) ≡ None }
         ensures number { IfOk result (λ number. number ≡ length self.new.spans.log.edits) }
         ensures ok { OnOk result (EditsBoth self.old (plain edit) self.new) }

@@ -52,6 +52,12 @@ IsUnpublished p fault.Memory q = GoesOn p q
 IsUnpublished p fault.VersionFull q = (r : PassData) × GoesOn p r × Looked r (IsUnready fault.VersionFull) q
 IsUnpublished p fault.NotReady q = ⊥
 
+-- A script, the topology that it runs on, and what its monitors watch, in the order in which its commands attach them.
+pub record ScriptData : Type 0 where
+  pub topo : Topology
+  pub text : List ℕ
+  pub boxes : List Watch
+
 -- A script was carried out from its first command on: what was written, how often a write failed before and after, and what is told.
 pub record IsCarriedOut {E : Type 0} (noted : Bool) (run : RunData) (script : List ℕ) (old new : Option (List ℕ)) (failed fails : ℕ) (told : Result Outcome E) : Type 0 where
   pub written : IfOk told (λ outcome. IsWrittenAs noted run.topo script run.boxes outcome old new)

@@ -12,6 +12,7 @@ use crate::seat::{Seats, seats_beside, serve_all};
 use crate::shift::Shift;
 use crate::texts::FragmentTexts;
 use std::alloc::{AllocError, Global};
+use std::marker::Model;
 use std::sync::Wait;
 use std::thread::{Threads, join};
 use tl_hall::{Gate, Hall, Helper, Pass};
@@ -156,12 +157,27 @@ fn run_errand<
 /// A script, the topology that it runs on, and the monitors that its commands attach, in their order.
 #[derive(Drop)]
 pub struct Script<'a, M: Monitor> {
-    /// The topology.
-    pub topo: &'a Topo,
-    /// The script's text.
-    pub text: &'a [u8],
-    /// The monitors.
-    pub boxes: Vec<M>,
+    topo: &'a Topo,
+    text: &'a [u8],
+    boxes: Vec<M>,
+}
+
+impl<'a, M: Monitor> Model for Script<'a, M> {
+    ghost use Rattle.tl_run.specs.Boxes.{watches_in};
+    ghost use Rattle.tl_workers.specs.Crew.{ScriptData};
+
+    ghost Value = { ScriptData };
+
+    ghost view = { λ s. record { topo = s.topo.now; text = s.text.now; boxes = watches_in M.held s.boxes.items } };
+}
+
+impl<'a, M: Monitor> Script<'a, M> {
+    /// The script of a text on a topology, with the monitors that its commands attach, in their order.
+    pub fn new(topo: &'a Topo, text: &'a [u8], boxes: Vec<M>) -> Script<'a, M>
+        ensures { result ≡ record { topo = topo.now; text = text.now; boxes = watches_in M.held boxes.entry.items } }
+    {
+        Script { topo, text, boxes }
+    }
 }
 
 /// How a script is run beside workers.
@@ -185,8 +201,7 @@ fn run_on_hall<'x, R: Threads + Wait + Sync, M: Monitor + Send, G: Gate + Sync, 
 ) -> Result<Outcome, WriteFault>
     requires workers { way.workers ≤ 16 }
     requires out { O.failure_count out.old < 2 ^ 63 }
-    ensures { IsCarriedOut (is_some way.entry.log) (beginning script.entry.topo.now (watches_in M.held script.entry.boxes.items)) script.entry.text.now
-        (O.contents out.old) (O.contents out.new) (O.failure_count out.old) (O.failure_count out.new) result }
+    ensures { IsCarriedOut (is_some way.entry.log) (beginning script.topo script.boxes) script.text (O.contents out.old) (O.contents out.new) (O.failure_count out.old) (O.failure_count out.new) result }
 {
     let Script { topo, text, boxes } = script;
     let Ok((hall, pass)) = hall_of(alloc, topo) else {
@@ -226,28 +241,22 @@ fn run_on_hall<'x, R: Threads + Wait + Sync, M: Monitor + Send, G: Gate + Sync, 
 pub fn run_gated<'x, R: Threads + Wait + Sync, M: Monitor + Send, G: Gate + Sync, O: ByteOut>(
     rt: &'x R,
     alloc: Global,
-    topo: &'x Topo,
-    script: &'x [u8],
-    boxes: Vec<M>,
+    script: Script<'x, M>,
     out: &mut O,
     workers: u8,
     gate: &'x G,
 ) -> Result<Outcome, WriteFault>
     requires workers { workers ≤ 16 }
     requires out { O.failure_count out.old < 2 ^ 63 }
-    ensures written { IfOk result (λ outcome. IsWritten topo.now script.now (watches_in M.held boxes.items) outcome (O.contents out.old) (O.contents out.new)) }
+    ensures written { IfOk result (λ outcome. IsWritten script.topo script.text script.boxes outcome (O.contents out.old) (O.contents out.new)) }
     ensures quiet { OnOk result (O.failure_count out.new ≡ O.failure_count out.old) }
     ensures failed { OnErr result ((O.failure_count out.new ≡ O.failure_count out.old + 1)
-        × IsCut topo.now (commands_of script.now) (watches_in M.held boxes.items) (O.contents out.old) (O.contents out.new)) }
+        × IsCut script.topo (commands_of script.text) script.boxes (O.contents out.old) (O.contents out.new)) }
 {
     if workers == 0 {
-        return run_script(alloc, topo, script, boxes, out);
+        let Script { topo, text, boxes } = script;
+        return run_script(alloc, topo, text, boxes, out);
     }
-    let script = Script {
-        topo,
-        text: script,
-        boxes,
-    };
     let log = None;
     run_on_hall(rt, alloc, script, Way { workers, gate, log }, out)
 }
@@ -271,20 +280,18 @@ impl Gate for NoGate {
 pub fn run_with<R: Threads + Wait + Sync, M: Monitor + Send, O: ByteOut>(
     rt: &R,
     alloc: Global,
-    topo: &Topo,
-    script: &[u8],
-    boxes: Vec<M>,
+    script: Script<'_, M>,
     out: &mut O,
     workers: u8,
 ) -> Result<Outcome, WriteFault>
     requires workers { workers ≤ 16 }
     requires out { O.failure_count out.old < 2 ^ 63 }
-    ensures written { IfOk result (λ outcome. IsWritten topo.now script.now (watches_in M.held boxes.items) outcome (O.contents out.old) (O.contents out.new)) }
+    ensures written { IfOk result (λ outcome. IsWritten script.topo script.text script.boxes outcome (O.contents out.old) (O.contents out.new)) }
     ensures quiet { OnOk result (O.failure_count out.new ≡ O.failure_count out.old) }
     ensures failed { OnErr result ((O.failure_count out.new ≡ O.failure_count out.old + 1)
-        × IsCut topo.now (commands_of script.now) (watches_in M.held boxes.items) (O.contents out.old) (O.contents out.new)) }
+        × IsCut script.topo (commands_of script.text) script.boxes (O.contents out.old) (O.contents out.new)) }
 {
-    run_gated(rt, alloc, topo, script, boxes, out, workers, &NoGate)
+    run_gated(rt, alloc, script, out, workers, &NoGate)
 }
 
 /// Runs a script whose reports are shown, without workers.
@@ -295,8 +302,7 @@ fn show_alone<M: Monitor, O: ByteOut>(
     out: &mut O,
 ) -> Result<Outcome, WriteFault>
     requires { O.failure_count out.old < 2 ^ 63 }
-    ensures { IsCarriedOut true (beginning script.entry.topo.now (watches_in M.held script.entry.boxes.items)) script.entry.text.now
-        (O.contents out.old) (O.contents out.new) (O.failure_count out.old) (O.failure_count out.new) result }
+    ensures { IsCarriedOut true (beginning script.topo script.boxes) script.text (O.contents out.old) (O.contents out.new) (O.failure_count out.old) (O.failure_count out.new) result }
 {
     let Script { topo, text, boxes } = script;
     let Ok(session) = Session::new(alloc, topo, boxes) else {
@@ -319,10 +325,10 @@ pub fn show_with<R: Threads + Wait + Sync, M: Monitor + Send, O: ByteOut>(
 ) -> Result<Outcome, WriteFault>
     requires workers { workers ≤ 16 }
     requires out { O.failure_count out.old < 2 ^ 63 }
-    ensures written { IfOk result (λ outcome. IsWrittenAs true script.entry.topo.now script.entry.text.now (watches_in M.held script.entry.boxes.items) outcome (O.contents out.old) (O.contents out.new)) }
+    ensures written { IfOk result (λ outcome. IsWrittenAs true script.topo script.text script.boxes outcome (O.contents out.old) (O.contents out.new)) }
     ensures quiet { OnOk result (O.failure_count out.new ≡ O.failure_count out.old) }
     ensures failed { OnErr result ((O.failure_count out.new ≡ O.failure_count out.old + 1)
-        × IsCutAs true script.entry.topo.now (commands_of script.entry.text.now) (watches_in M.held script.entry.boxes.items) (O.contents out.old) (O.contents out.new)) }
+        × IsCutAs true script.topo (commands_of script.text) script.boxes (O.contents out.old) (O.contents out.new)) }
 {
     let Ok(log) = log_on(alloc, script.topo) else {
         return run_nothing(alloc, out);

@@ -6,9 +6,9 @@ use Rattle.tl_workers.proofs.run.run_on_hall.Goals as goal
 
 pub returns-in_default : goal.returns-in_default
 returns-in_default g c =
-    let topo = c.args.script.topo.now in
-    let text = c.args.script.text.now in
-    let boxes = watches_in g.M.Monitor.held c.args.script.boxes.items in
+    let topo = c.args.script.topo in
+    let text = c.args.script.text in
+    let boxes = c.args.script.boxes in
     record {
       written = ok_map _ _ c.run_nothing.result (λ outcome written. written (is_some c.args.way.log) topo text boxes) c.run_nothing.ensures.written;
       quiet = c.run_nothing.ensures.quiet;

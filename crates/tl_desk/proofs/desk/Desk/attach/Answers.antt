@@ -1,73 +1,9 @@
-use Rattle.std.proofs.Common.{◌≡◌, ◌<◌, ◌++◌, ◌∷◌, [], Some, None, length, refl, sym, ap, subst, ◌∙◌, rules}
-use Rattle.std.specs.Option.{IsSome}
-use Rattle.tl_boxes.specs.Boxes.{BoxesData, place_at}
-use Rattle.tl_inputs.specs.Edits.{AnEdit, attach}
-use Rattle.tl_inputs.specs.Inputs.{changed, refusal}
+use Rattle.std.proofs.Common.{◌≡◌, None, length, sym, ap, ◌∙◌}
+use Rattle.tl_inputs.specs.Edits.{attach}
+use Rattle.tl_inputs.specs.Inputs.{refusal}
 use Rattle.tl_inputs.specs.Log.{LogData, inputs_after}
 use Rattle.tl_spans.specs.Spans.{SpansData}
-use Rattle.tl_watches.specs.Watches.{WatchesData}
-use Rattle.tl_spans.proofs.EditLemmas.{stands}
-use Rattle.tl_desk.specs.Core.{Core, IsSound, log_of, standing}
-use Rattle.tl_desk.specs.Ends.{HaveEnded}
-use Rattle.tl_desk.proofs.AttachedLemmas.{Keeps, attached_more, not_held, given_back, put_found, was_attached_more}
-use Rattle.tl_desk.proofs.EndLemmas.{Goes, goes_on, ends_attached}
-use Rattle.tl_desk.proofs.ReportLemmas.{sound_edited}
 use Rattle.tl_desk.proofs.desk.Desk.attach.Goals as goal
 
-pub attach-requires : goal.attach-requires
-attach-requires g c =
-    let old : Core = record { windows = c.self.inside.windows; boxes = c.self.inside.boxes; reports = c.self.inside.reports.items; tickets = c.self.inside.tickets } in
-    let none : place_at c.args.number c.self.inside.boxes.slots ≡ None = not_held _ (standing old) old.boxes c.args.number c.watch.result c.self.invariant.known
-    (sym (c.refusal.ensures ∙ ap (λ (l : LogData). refusal (length l.edits) (inputs_after l.topo l.edits) (attach c.args.number c.watch.result)) c.log.ensures.exact
-    ∙ ap (λ (s : SpansData). refusal (length s.log.edits) (inputs_after s.log.topo s.log.edits) (attach c.args.number c.watch.result)) c.spans.ensures.exact) ∙ c.in_default.is) in
-    none
-
-pub invariant_of-self-in-Ok : goal.invariant_of-self-in-Ok
-invariant_of-self-in-Ok g c =
-    let old : Core = record { windows = c.self.inside.windows; boxes = c.self.inside.boxes; reports = c.self.inside.reports.items; tickets = c.self.inside.tickets } in
-    let e : AnEdit = attach c.args.number c.watch.result in
-    let accepted : refusal (length (log_of old).edits) (standing old) e ≡ None =
-    sym (c.refusal.ensures ∙ ap (λ (l : LogData). refusal (length l.edits) (inputs_after l.topo l.edits) (attach c.args.number c.watch.result)) c.log.ensures.exact
-    ∙ ap (λ (s : SpansData). refusal (length s.log.edits) (inputs_after s.log.topo s.log.edits) (attach c.args.number c.watch.result)) c.spans.ensures.exact) ∙ c.in_default.is in
-    let none : place_at c.args.number c.self.inside.boxes.slots ≡ None = not_held _ (standing old) old.boxes c.args.number c.watch.result c.self.invariant.known accepted in
-    let few : c.args.number < 4294967296 = search rules in
-    let kept : Keeps (changed (standing old) e) old.boxes c.attach.new.self =
-    attached_more (standing old) old.boxes c.attach.new.self c.args.number c.new-watched.result c.watch.result (sym c.watch.ensures.watch) few none c.in_default-attach.ensures.ok c.self.invariant.attached c.self.invariant.known in
-    let log : c.edit.new.self.spans.log ≡ record (log_of old) { edits = (log_of old).edits ++ e ∷ [] } = c.in-Ok.ensures.ok.spans.log in
-    let goes : Goes (log_of old) c.edit.new.self.spans.log =
-    goes_on (log_of old) c.edit.new.self.spans.log e log (stands old.windows.spans e c.edit.new.self.spans.log c.edit.new.self.spans.board log) (was_attached_more (standing old) c.args.number c.watch.result) in
-    let ends : HaveEnded c.edit.new.self.spans.log c.attach.new.self =
-    ends_attached (log_of old) c.edit.new.self.spans.log c.args.number c.watch.result c.new-watched.result old.boxes c.attach.new.self c.self.invariant.ends accepted goes c.in_default-attach.ensures.ok in
-    sound_edited old e c.edit.new.self c.attach.new.self c.self.invariant c.in-Ok.ensures.ok c.present.ensures.kept c.present-in-Ok.ensures.kept kept ends
-
-pub unwrap-watched-requires : goal.unwrap-watched-requires
-unwrap-watched-requires g c =
-    subst IsSome (sym (c.give_back.ensures.monitor ∙ put_found c.self.inside.boxes c.attach.new.self c.args.number c.new-watched.result c.in_default-attach.ensures.ok)) refl
-
-pub invariant_of-self-in-Err-edit : goal.invariant_of-self-in-Err-edit
-invariant_of-self-in-Err-edit g c =
-    let old : Core = record { windows = c.self.inside.windows; boxes = c.self.inside.boxes; reports = c.self.inside.reports.items; tickets = c.self.inside.tickets } in
-    let none : place_at c.args.number c.self.inside.boxes.slots ≡ None = not_held _ (standing old) old.boxes c.args.number c.watch.result c.self.invariant.known
-    (sym (c.refusal.ensures ∙ ap (λ (l : LogData). refusal (length l.edits) (inputs_after l.topo l.edits) (attach c.args.number c.watch.result)) c.log.ensures.exact
-    ∙ ap (λ (s : SpansData). refusal (length s.log.edits) (inputs_after s.log.topo s.log.edits) (attach c.args.number c.watch.result)) c.spans.ensures.exact) ∙ c.in_default.is) in
-    let back : c.give_back.new.self ≡ old.boxes = given_back old.boxes c.attach.new.self c.give_back.new.self c.args.number c.new-watched.result none c.in_default-attach.ensures.ok c.give_back.ensures.rest in
-    subst (λ (s : WatchesData). IsSound (record { windows = s; boxes = c.give_back.new.self; reports = old.reports; tickets = old.tickets })) (sym c.in-Err-edit.ensures.err)
-    (subst (λ (b : BoxesData). IsSound (record { windows = old.windows; boxes = b; reports = old.reports; tickets = old.tickets })) (sym back) c.self.invariant)
-
-pub returns-in-Err-edit-clause-back : goal.returns-in-Err-edit-clause-back
-returns-in-Err-edit-clause-back g c =
-    let found : Some c.unwrap-watched.result ≡ Some c.new-watched.result = sym c.unwrap-watched.ensures ∙ c.give_back.ensures.monitor
-    ∙ put_found c.self.inside.boxes c.attach.new.self c.args.number c.new-watched.result c.in_default-attach.ensures.ok in
-    let same : c.unwrap-watched.result ≡ c.new-watched.result = cc in
-    c.into_inner-in-Err-edit.ensures ∙ same ∙ c.new-watched.ensures
-
-pub returns-in-Err-edit-clause-err : goal.returns-in-Err-edit-clause-err
-returns-in-Err-edit-clause-err g c =
-    let old : Core = record { windows = c.self.inside.windows; boxes = c.self.inside.boxes; reports = c.self.inside.reports.items; tickets = c.self.inside.tickets } in
-    let none : place_at c.args.number c.self.inside.boxes.slots ≡ None = not_held _ (standing old) old.boxes c.args.number c.watch.result c.self.invariant.known
-    (sym (c.refusal.ensures ∙ ap (λ (l : LogData). refusal (length l.edits) (inputs_after l.topo l.edits) (attach c.args.number c.watch.result)) c.log.ensures.exact
-    ∙ ap (λ (s : SpansData). refusal (length s.log.edits) (inputs_after s.log.topo s.log.edits) (attach c.args.number c.watch.result)) c.spans.ensures.exact) ∙ c.in_default.is) in
-    let back : c.give_back.new.self ≡ old.boxes = given_back old.boxes c.attach.new.self c.give_back.new.self c.args.number c.new-watched.result none c.in_default-attach.ensures.ok c.give_back.ensures.rest in
-    ap (λ (s : WatchesData). record { windows = s; boxes = c.give_back.new.self; reports = old.reports; tickets = old.tickets }) c.in-Err-edit.ensures.err
-    ∙ ap (λ (b : BoxesData). record { windows = old.windows; boxes = b; reports = old.reports; tickets = old.tickets }) back
-    ∙ c.self.view_is
+pub attach_watched-requires : goal.attach_watched-requires
+attach_watched-requires g c = search rules

@@ -3,7 +3,7 @@ use Rattle.std.proofs.Common.{◌≡◌, ℕ, ◌==◌, ◌⊎◌, inl, inr, Boo
 use Rattle.std.specs.Prelude.{OnOk, OnErr}
 use Rattle.std.specs.BTreeMap.{is_at}
 use Rattle.std.specs.Option.{option_map, option_or, option_and_then}
-use Rattle.std.specs.Ordering.{is_eq, is_le}
+use Rattle.std.specs.Ordering.{is_le}
 use Rattle.std.proofs.lemmas.Bool.Decides.{nat_tests}
 use Rattle.tl_beats.specs.declared.watch.Watch.{Watch}
 use Rattle.tl_boxes.specs.Boxes.{BoxesData, place_at, held_at}
@@ -11,8 +11,8 @@ use Rattle.tl_boxes.specs.Places.{Place, Here, Out, held_of}
 use Rattle.tl_monitor.specs.Held.{Held}
 use Rattle.tl_pieces.proofs.OrderLemmas.{key_exact, key_self}
 use Rattle.tl_pieces.specs.declared.key.PieceKey.{PieceKey}
-use Rattle.tl_pieces.specs.Keys.{key_cmp, change, before, IsNotBefore}
-use Rattle.tl_pieces.specs.Pieces.{Piece, Pass, opening_of, exit_of, last_exit, entry_for}
+use Rattle.tl_pieces.specs.Keys.{key_cmp, change, before}
+use Rattle.tl_pieces.specs.Pieces.{Piece, opening_of, exit_of, last_exit, entry_for}
 use Rattle.tl_spans.proofs.RecheckLemmas.{before_changed}
 use Rattle.tl_spans.specs.Spans.{SpansData, standing}
 use Rattle.tl_spans.specs.Windows.{key_of, with_checked}

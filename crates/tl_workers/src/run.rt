@@ -201,7 +201,8 @@ fn run_on_hall<'x, R: Threads + Wait + Sync, M: Monitor + Send, G: Gate + Sync, 
 ) -> Result<Outcome, WriteFault>
     requires workers { way.workers ≤ 16 }
     requires out { O.failure_count out.old < 2 ^ 63 }
-    ensures { IsCarriedOut (is_some way.entry.log) (beginning script.topo script.boxes) script.text (O.contents out.old) (O.contents out.new) (O.failure_count out.old) (O.failure_count out.new) result }
+    ensures { IsCarriedOut (is_some way.entry.log) (beginning script.entry.topo script.entry.boxes) script.entry.text
+        (O.contents out.old) (O.contents out.new) (O.failure_count out.old) (O.failure_count out.new) result }
 {
     let Script { topo, text, boxes } = script;
     let Ok((hall, pass)) = hall_of(alloc, topo) else {
@@ -248,10 +249,10 @@ pub fn run_gated<'x, R: Threads + Wait + Sync, M: Monitor + Send, G: Gate + Sync
 ) -> Result<Outcome, WriteFault>
     requires workers { workers ≤ 16 }
     requires out { O.failure_count out.old < 2 ^ 63 }
-    ensures written { IfOk result (λ outcome. IsWritten script.topo script.text script.boxes outcome (O.contents out.old) (O.contents out.new)) }
+    ensures written { IfOk result (λ outcome. IsWritten script.entry.topo script.entry.text script.entry.boxes outcome (O.contents out.old) (O.contents out.new)) }
     ensures quiet { OnOk result (O.failure_count out.new ≡ O.failure_count out.old) }
     ensures failed { OnErr result ((O.failure_count out.new ≡ O.failure_count out.old + 1)
-        × IsCut script.topo (commands_of script.text) script.boxes (O.contents out.old) (O.contents out.new)) }
+        × IsCut script.entry.topo (commands_of script.entry.text) script.entry.boxes (O.contents out.old) (O.contents out.new)) }
 {
     if workers == 0 {
         let Script { topo, text, boxes } = script;
@@ -286,10 +287,10 @@ pub fn run_with<R: Threads + Wait + Sync, M: Monitor + Send, O: ByteOut>(
 ) -> Result<Outcome, WriteFault>
     requires workers { workers ≤ 16 }
     requires out { O.failure_count out.old < 2 ^ 63 }
-    ensures written { IfOk result (λ outcome. IsWritten script.topo script.text script.boxes outcome (O.contents out.old) (O.contents out.new)) }
+    ensures written { IfOk result (λ outcome. IsWritten script.entry.topo script.entry.text script.entry.boxes outcome (O.contents out.old) (O.contents out.new)) }
     ensures quiet { OnOk result (O.failure_count out.new ≡ O.failure_count out.old) }
     ensures failed { OnErr result ((O.failure_count out.new ≡ O.failure_count out.old + 1)
-        × IsCut script.topo (commands_of script.text) script.boxes (O.contents out.old) (O.contents out.new)) }
+        × IsCut script.entry.topo (commands_of script.entry.text) script.entry.boxes (O.contents out.old) (O.contents out.new)) }
 {
     run_gated(rt, alloc, script, out, workers, &NoGate)
 }
@@ -302,7 +303,8 @@ fn show_alone<M: Monitor, O: ByteOut>(
     out: &mut O,
 ) -> Result<Outcome, WriteFault>
     requires { O.failure_count out.old < 2 ^ 63 }
-    ensures { IsCarriedOut true (beginning script.topo script.boxes) script.text (O.contents out.old) (O.contents out.new) (O.failure_count out.old) (O.failure_count out.new) result }
+    ensures { IsCarriedOut true (beginning script.entry.topo script.entry.boxes) script.entry.text
+        (O.contents out.old) (O.contents out.new) (O.failure_count out.old) (O.failure_count out.new) result }
 {
     let Script { topo, text, boxes } = script;
     let Ok(session) = Session::new(alloc, topo, boxes) else {
@@ -325,10 +327,10 @@ pub fn show_with<R: Threads + Wait + Sync, M: Monitor + Send, O: ByteOut>(
 ) -> Result<Outcome, WriteFault>
     requires workers { workers ≤ 16 }
     requires out { O.failure_count out.old < 2 ^ 63 }
-    ensures written { IfOk result (λ outcome. IsWrittenAs true script.topo script.text script.boxes outcome (O.contents out.old) (O.contents out.new)) }
+    ensures written { IfOk result (λ outcome. IsWrittenAs true script.entry.topo script.entry.text script.entry.boxes outcome (O.contents out.old) (O.contents out.new)) }
     ensures quiet { OnOk result (O.failure_count out.new ≡ O.failure_count out.old) }
     ensures failed { OnErr result ((O.failure_count out.new ≡ O.failure_count out.old + 1)
-        × IsCutAs true script.topo (commands_of script.text) script.boxes (O.contents out.old) (O.contents out.new)) }
+        × IsCutAs true script.entry.topo (commands_of script.entry.text) script.entry.boxes (O.contents out.old) (O.contents out.new)) }
 {
     let Ok(log) = log_on(alloc, script.topo) else {
         return run_nothing(alloc, out);

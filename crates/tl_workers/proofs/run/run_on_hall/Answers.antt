@@ -1,6 +1,4 @@
 use Rattle.std.specs.Prelude.{is_some}
-use Rattle.tl_script.specs.Scripts.{commands_of}
-use Rattle.tl_run.specs.Boxes.{watches_in}
 use Rattle.tl_run.proofs.LineLaws.{ok_map, when_failed}
 use Rattle.tl_workers.proofs.run.run_on_hall.Goals as goal
 

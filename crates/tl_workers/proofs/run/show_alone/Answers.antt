@@ -1,5 +1,4 @@
 use Rattle.std.proofs.Common.{true}
-use Rattle.tl_run.specs.Boxes.{watches_in}
 use Rattle.tl_run.proofs.LineLaws.{ok_map, when_failed}
 use Rattle.tl_workers.proofs.run.show_alone.Goals as goal
 

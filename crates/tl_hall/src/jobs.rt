@@ -33,6 +33,7 @@ impl<M: Monitor> Hall<M> {
             Ok(Some(job)) => {
                 let ticket = job.ticket();
                 let piece = job.piece();
+                let _ = desk.log();
                 self.leave_with::<Brand, (u64, Piece)>(&mut seat, desk, &(ticket, piece));
                 (Access { seat, rights }, Ok(Some(job)))
             }
@@ -64,6 +65,7 @@ impl<M: Monitor> Hall<M> {
         let piece = done.piece();
         match desk.hand_in(done) {
             HandIn::Taken => {
+                let _ = desk.log();
                 self.leave_with::<Brand, (u64, Piece, bool)>(
                     &mut seat,
                     desk,
@@ -72,6 +74,7 @@ impl<M: Monitor> Hall<M> {
                 (Access { seat, rights }, HandIn::Taken)
             }
             HandIn::Void => {
+                let _ = desk.log();
                 self.leave_with::<Brand, (u64, Piece, bool)>(
                     &mut seat,
                     desk,
@@ -105,6 +108,7 @@ impl<M: Monitor> Hall<M> {
         let piece = job.piece();
         match desk.abandon(job) {
             Ok(()) => {
+                let _ = desk.log();
                 self.leave_with::<Brand, (u64, Piece)>(&mut seat, desk, &(ticket, piece));
                 (Access { seat, rights }, Ok(()))
             }
@@ -125,6 +129,7 @@ impl<M: Monitor> Hall<M> {
         let Access { mut seat, rights } = pass;
         let mut desk = self.enter(rt, &mut seat);
         if desk.recall(ticket) {
+            let _ = desk.log();
             self.leave_with::<Brand, u64>(&mut seat, desk, &ticket);
             (Access { seat, rights }, true)
         } else {

@@ -20,7 +20,7 @@ leave_with-requires-clause-desk g c =
     let told : Call = call.HandIn c.ticket-ticket.result c.piece-piece.result true in
     let made_call : Call = call.HandIn (done_ticket done) (done_window done) true in
     let same : made_call ≡ told = ap (λ t. call.HandIn t (done_window done) true) (sym c.ticket-ticket.ensures) ∙ ap (λ p. call.HandIn c.ticket-ticket.result p true) (sym c.piece-piece.ensures) in
-    recorded_as now c.enter-desk.result c.hand_in.new.self made_call told same led tt c.in-Taken.ensures.step
+    recorded_as now c.enter-desk.result c.hand_in.new.self made_call told same led tt c.in-Taken.ensures.step c.log.ensures.desk
 
 pub leave_with-requires-in-Void-clause-desk : goal.leave_with-requires-in-Void-clause-desk
 leave_with-requires-in-Void-clause-desk g c =
@@ -31,7 +31,7 @@ leave_with-requires-in-Void-clause-desk g c =
     let told : Call = call.HandIn c.ticket-ticket.result c.piece-piece.result false in
     let made_call : Call = call.HandIn (done_ticket done) (done_window done) false in
     let same : made_call ≡ told = ap (λ t. call.HandIn t (done_window done) false) (sym c.ticket-ticket.ensures) ∙ ap (λ p. call.HandIn c.ticket-ticket.result p false) (sym c.piece-piece.ensures) in
-    recorded_as now c.enter-desk.result c.hand_in.new.self made_call told same led tt c.in-Void.ensures.step
+    recorded_as now c.enter-desk.result c.hand_in.new.self made_call told same led tt c.in-Void.ensures.step c.log-in-Void.ensures.desk
 
 pub invariant_of-result : goal.invariant_of-result
 invariant_of-result g c = rests_with g.K.Rights.helps c.pass.inside.seat.me.0 c.enter-desk.new.seat.me c.leave_with.new.seat.me (call.HandIn c.ticket-ticket.result c.piece-piece.result true) c.pass.invariant.1 c.enter-desk.ensures.saw c.enter-desk.ensures.inside c.leave_with.ensures.now
@@ -49,7 +49,7 @@ returns-in-Taken g c =
     let after = c.leave_with.new.seat in
     subst (λ (p : PassData). Made p made_call (ComesTo done answer.Taken) (passed after.table_id after.me.0)) c.pass.view_is
     (made c.pass.inside.seat.table_id after.table_id c.pass.inside.seat.me.0 c.enter-desk.new.seat.me after.me c.enter-desk.result c.hand_in.new.self made_call (ComesTo done answer.Taken) (c.leave_with.ensures.hall ∙ e.hall) e.saw e.desk tt
-    c.in-Taken.ensures.step c.in-Taken.ensures.back (written c.enter-desk.new.seat.me after.me told made_call same c.leave_with.ensures.now))
+    c.in-Taken.ensures.step c.log.ensures.desk c.in-Taken.ensures.back (written c.enter-desk.new.seat.me after.me told made_call same c.leave_with.ensures.now))
 
 pub returns-in-Void : goal.returns-in-Void
 returns-in-Void g c =
@@ -61,4 +61,4 @@ returns-in-Void g c =
     let after = c.leave_with-in-Void.new.seat in
     subst (λ (p : PassData). Made p made_call (ComesTo done answer.Void) (passed after.table_id after.me.0)) c.pass.view_is
     (made c.pass.inside.seat.table_id after.table_id c.pass.inside.seat.me.0 c.enter-desk.new.seat.me after.me c.enter-desk.result c.hand_in.new.self made_call (ComesTo done answer.Void) (c.leave_with-in-Void.ensures.hall ∙ e.hall) e.saw e.desk tt
-    c.in-Void.ensures.step c.in-Void.ensures.back (written c.enter-desk.new.seat.me after.me told made_call same c.leave_with-in-Void.ensures.now))
+    c.in-Void.ensures.step c.log-in-Void.ensures.desk c.in-Void.ensures.back (written c.enter-desk.new.seat.me after.me told made_call same c.leave_with-in-Void.ensures.now))

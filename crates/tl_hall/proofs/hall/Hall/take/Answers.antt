@@ -20,7 +20,7 @@ leave_with-requires-clause-desk g c =
     let led = subst (λ r. Leads r now.seen c.enter-desk.result) (sym e.saw.topo_is) e.desk in
     let same : call.Take (ticket_of job) (window_of job) ≡ call.Take c.ticket-ticket.result c.piece-piece.result = ap (λ t. call.Take t (window_of job)) (sym c.ticket-ticket.ensures) ∙ ap (λ p. call.Take c.ticket-ticket.result p) (sym c.piece-piece.ensures) in
     let gives = subst (λ o. Gives c.enter-desk.result o c.take.new.self) c.in-Ok-Some.field-0-is c.in-Ok-Some.ensures.step in
-    recorded_as now c.enter-desk.result c.take.new.self (call.Take (ticket_of job) (window_of job)) (call.Take c.ticket-ticket.result c.piece-piece.result) same led tt (take_steps c.enter-desk.result job c.take.new.self gives)
+    recorded_as now c.enter-desk.result c.take.new.self (call.Take (ticket_of job) (window_of job)) (call.Take c.ticket-ticket.result c.piece-piece.result) same led tt (take_steps c.enter-desk.result job c.take.new.self gives) c.log.ensures.desk
 
 pub invariant_of-result : goal.invariant_of-result
 invariant_of-result g c = rests_with g.K.Rights.helps c.pass.inside.seat.me.0 c.enter-desk.new.seat.me c.leave_with.new.seat.me (call.Take c.ticket-ticket.result c.piece-piece.result) c.pass.invariant.1 c.enter-desk.ensures.saw c.enter-desk.ensures.inside c.leave_with.ensures.now
@@ -35,5 +35,5 @@ returns-in-Ok-Some-clause-some g c =
     let after = c.leave_with.new.seat in
     let gives = subst (λ o. Gives c.enter-desk.result o c.take.new.self) c.in-Ok-Some.field-0-is c.in-Ok-Some.ensures.step in
     subst (λ (p : PassData). Made p made_call (Takes job) (passed after.table_id after.me.0)) c.pass.view_is
-    (made c.pass.inside.seat.table_id after.table_id c.pass.inside.seat.me.0 c.enter-desk.new.seat.me after.me c.enter-desk.result c.take.new.self made_call (Takes job) (c.leave_with.ensures.hall ∙ e.hall) e.saw e.desk tt (take_steps c.enter-desk.result job c.take.new.self gives) gives
+    (made c.pass.inside.seat.table_id after.table_id c.pass.inside.seat.me.0 c.enter-desk.new.seat.me after.me c.enter-desk.result c.take.new.self made_call (Takes job) (c.leave_with.ensures.hall ∙ e.hall) e.saw e.desk tt (take_steps c.enter-desk.result job c.take.new.self gives) c.log.ensures.desk gives
     (written c.enter-desk.new.seat.me after.me told made_call same c.leave_with.ensures.now))

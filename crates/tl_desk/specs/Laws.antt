@@ -1,6 +1,8 @@
 -- What follows for desks.
-use Rattle.std.specs.Prelude.{ℕ, ◌≡◌, ◌↔◌}
-use Rattle.tl_desk.specs.Core.{Core, AllSettled, IsSound}
+use Rattle.std.specs.Prelude.{ℕ, ◌≡◌, ◌↔◌, true}
+use Rattle.tl_inputs.specs.Inputs.{was_attached}
+use Rattle.tl_desk.specs.Core.{Core, AllSettled, IsSound, log_of, standing}
+use Rattle.tl_desk.specs.Ends.{IsAccountedFor}
 use Rattle.tl_desk.specs.Jobs.{IsLive}
 use Rattle.tl_desk.specs.Steps.{Step}
 use Rattle.tl_desk.specs.declared.call.Call.{Call}
@@ -24,3 +26,8 @@ OnlyEditsUnsettle = (old new : Core) (made : Call) → Step old made new → IsN
 -- A ticket that is called back is live no more, and every other is live exactly where it was.
 abbrev pub RecallsEndOne : Type 0
 RecallsEndOne = (old new : Core) (ticket : ℕ) → IsSound old → Step old (call.Recall ticket) new → (other : ℕ) → IsLive new other ↔ (IsLive old other × (other ≡ ticket → ⊥))
+
+-- A monitor that some edit attached is attached now; or it is out, and the edit is known that detached it; or it has ended, and told its
+-- last watch and the edit that detached it.
+abbrev pub MonitorsAreAccountedFor : Type 0
+MonitorsAreAccountedFor = (core : Core) → IsSound core → (number : ℕ) → was_attached number (standing core).monitors ≡ true → IsAccountedFor (log_of core) core.boxes number

@@ -1,6 +1,6 @@
 //! What follows for desks. Each is the contract of a function that does nothing.
 
-ghost use Rattle.tl_desk.specs.Laws.{OnlyEditsUnsettle, RecallsEndOne};
+ghost use Rattle.tl_desk.specs.Laws.{OnlyEditsUnsettle, RecallsEndOne, MonitorsAreAccountedFor};
 
 /// Where all windows are settled, they are so behind each call that is no edit: only an accepted edit makes a desk unsettled.
 pub fn only_edits_unsettle()
@@ -10,4 +10,9 @@ pub fn only_edits_unsettle()
 /// A ticket that is called back is live no more, and every other is live exactly where it was.
 pub fn recalls_end_one_ticket()
     ensures { RecallsEndOne }
+{}
+
+/// A monitor that some edit attached is attached now, or is out and the edit is known that detached it, or has ended: none is lost.
+pub fn monitors_are_accounted_for()
+    ensures { MonitorsAreAccountedFor }
 {}

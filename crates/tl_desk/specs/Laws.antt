@@ -14,8 +14,8 @@ IsNoEdit (call.Edit change number) = ⊥
 IsNoEdit (call.Attach monitor w number) = ⊥
 IsNoEdit (call.Recheck count) = Unit {0}
 IsNoEdit (call.Publish version) = Unit {0}
-IsNoEdit (call.Take ticket piece) = Unit {0}
-IsNoEdit (call.HandIn ticket piece taken) = Unit {0}
+IsNoEdit (call.Take ticket piece from) = Unit {0}
+IsNoEdit (call.HandIn ticket piece found taken) = Unit {0}
 IsNoEdit (call.Abandon ticket piece) = Unit {0}
 IsNoEdit (call.Recall ticket) = Unit {0}
 

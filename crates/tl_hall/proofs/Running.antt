@@ -306,8 +306,8 @@ step_counts c (call.Edit change number) d n of_hall s h = edited c (plain_change
 step_counts c (call.Attach monitor w number) d n of_hall s h = edited c (attach monitor w) number d n s.0 h
 step_counts c (call.Recheck count) d n of_hall s h = absurd of_hall
 step_counts c (call.Publish version) d n of_hall s h = published c version d n s h
-step_counts c (call.Take ticket piece) d n of_hall s h = took c ticket d n (take_gives c ticket piece d s) h
-step_counts c (call.HandIn ticket piece taken) d n of_hall s h = ends_one c d n (hand_in_ends c ticket piece taken d s) h
+step_counts c (call.Take ticket piece from) d n of_hall s h = took c ticket d n (take_gives c ticket piece from d s) h
+step_counts c (call.HandIn ticket piece found taken) d n of_hall s h = ends_one c d n (hand_in_ends c ticket piece found taken d s) h
 step_counts c (call.Abandon ticket piece) d n of_hall s h = ends_one c d n (abandon_ends c ticket piece d s) h
 step_counts c (call.Recall ticket) d n of_hall s h = called_back c ticket d n (recall_calls c ticket d s) h
 

@@ -64,8 +64,8 @@ step_tells c (call.Edit change number) d of_hall s = edited c (plain_change chan
 step_tells c (call.Attach monitor w number) d of_hall s = edited c (attach monitor w) number d s.0
 step_tells c (call.Recheck count) d of_hall s = absurd of_hall
 step_tells c (call.Publish version) d of_hall s = published c version d s
-step_tells c (call.Take ticket piece) d of_hall s = let made : GivesOne c ticket d = take_gives c ticket piece d s in still c d made.log made.reports
-step_tells c (call.HandIn ticket piece taken) d of_hall s = let made : EndsOne c d = hand_in_ends c ticket piece taken d s in still c d made.log made.reports
+step_tells c (call.Take ticket piece from) d of_hall s = let made : GivesOne c ticket d = take_gives c ticket piece from d s in still c d made.log made.reports
+step_tells c (call.HandIn ticket piece found taken) d of_hall s = let made : EndsOne c d = hand_in_ends c ticket piece found taken d s in still c d made.log made.reports
 step_tells c (call.Abandon ticket piece) d of_hall s = let made : EndsOne c d = abandon_ends c ticket piece d s in still c d made.log made.reports
 step_tells c (call.Recall ticket) d of_hall s = let made : CallsBack c ticket d = recall_calls c ticket d s in still c d made.log made.reports
 

@@ -15,8 +15,8 @@ call_of e = e.call
 
 -- A worker takes, hands in and abandons, and makes no other call.
 abbrev pub IsOfWorker : Call → Type 0
-IsOfWorker (call.Take ticket piece) = Unit {0}
-IsOfWorker (call.HandIn ticket piece taken) = Unit {0}
+IsOfWorker (call.Take ticket piece from) = Unit {0}
+IsOfWorker (call.HandIn ticket piece found taken) = Unit {0}
 IsOfWorker (call.Abandon ticket piece) = Unit {0}
 IsOfWorker (call.Edit change number) = ⊥
 IsOfWorker (call.Attach monitor w number) = ⊥
@@ -43,8 +43,8 @@ IsOfHall (call.Edit change number) = Unit {0}
 IsOfHall (call.Attach monitor w number) = Unit {0}
 IsOfHall (call.Recheck count) = ⊥
 IsOfHall (call.Publish version) = Unit {0}
-IsOfHall (call.Take ticket piece) = Unit {0}
-IsOfHall (call.HandIn ticket piece taken) = Unit {0}
+IsOfHall (call.Take ticket piece from) = Unit {0}
+IsOfHall (call.HandIn ticket piece found taken) = Unit {0}
 IsOfHall (call.Abandon ticket piece) = Unit {0}
 IsOfHall (call.Recall ticket) = Unit {0}
 

@@ -426,13 +426,13 @@ accounted_for core sound number was = go (sound.ends.all number was)
     log : LogData
     log = log_of core
 
+    of_away : (a : Away) (closing : Option ℕ) → a.closing ≡ closing → place_at number core.boxes.slots ≡ Some (Out a) → IsAccountedFor log core.boxes number
+    of_away a None closes there = inl (sym (ap is_some (sym (ap (watch_unless_closing a.watch) closes) ∙ sym (ap (option_and_then watch_of_place) there) ∙ sound.attached number)))
+    of_away a (Some edit) closes there = let out : away_at number core.boxes.slots ≡ Some a = ap (option_and_then away_of) there in inr (inl (a, edit, out, closes, sound.ends.closing number edit a out closes))
+
     at_place : (p : Place) → place_at number core.boxes.slots ≡ Some p → IsAccountedFor log core.boxes number
     at_place (Here held) at = inl (sym (ap is_some (sym (ap (option_and_then watch_of_place) at) ∙ sound.attached number)))
     at_place (Out away) at = of_away away away.closing refl at
-      where
-        of_away : (a : Away) (closing : Option ℕ) → a.closing ≡ closing → place_at number core.boxes.slots ≡ Some (Out a) → IsAccountedFor log core.boxes number
-        of_away a None closes there = inl (sym (ap is_some (sym (ap (watch_unless_closing a.watch) closes) ∙ sym (ap (option_and_then watch_of_place) there) ∙ sound.attached number)))
-        of_away a (Some edit) closes there = let out : away_at number core.boxes.slots ≡ Some a = ap (option_and_then away_of) there in inr (inl (a, edit, out, closes, sound.ends.closing number edit a out closes))
 
     placed : (p : Option Place) → place_at number core.boxes.slots ≡ p → is_some p ≡ true → IsAccountedFor log core.boxes number
     placed None at there = absurd (let never : false ≡ true = there in cc)

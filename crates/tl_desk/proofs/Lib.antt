@@ -13,3 +13,6 @@ mod OldestLemmas
 mod SettledLemmas
 mod RecallLemmas
 mod FinishLemmas
+pub mod AlikeBoxes
+pub mod AlikeBoards
+pub mod AlikeSteps

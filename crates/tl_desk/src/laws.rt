@@ -1,5 +1,6 @@
 //! What follows for desks. Each is the contract of a function that does nothing.
 
+ghost use Rattle.tl_desk.specs.Alike.{CallsKeepDesksAlike};
 ghost use Rattle.tl_desk.specs.Laws.{OnlyEditsUnsettle, RecallsEndOne, MonitorsAreAccountedFor};
 
 /// Where all windows are settled, they are so behind each call that is no edit: only an accepted edit makes a desk unsettled.
@@ -15,4 +16,9 @@ pub fn recalls_end_one_ticket()
 /// A monitor that some edit attached is attached now, or is out and the edit is known that detached it, or has ended: none is lost.
 pub fn monitors_are_accounted_for()
     ensures { MonitorsAreAccountedFor }
+{}
+
+/// One call, with what it was given and what it answered, leads desks that have the same to desks that have the same.
+pub fn calls_keep_desks_alike()
+    ensures { CallsKeepDesksAlike }
 {}

@@ -356,9 +356,9 @@ module _ (one other : Core) (alike : AreAlike one other) (is : IsDesk one) (has 
   pub first_watch_alike : (found : Option PieceKey) → IsFirstFreeWatch one found → IsFirstFreeWatch other found
   first_watch_alike found first =
       first_alike (λ l k p. IsHere one.boxes k.owner × IsFree SameTally one.windows.board.openings l k p) (λ l k p. IsHere other.boxes k.owner × IsFree SameTally other.windows.board.openings l k p)
-      (λ l k p free. (sym (here_alike one.boxes other.boxes alike.boxes k.owner) ∙ free.0, wanted_alike SameTally tally_then one.windows.board.openings other.windows.board.openings open_watches l k p free.1, free.2))
+      (λ l k p free. (sym (here_alike one.boxes other.boxes alike.boxes k.owner) ∙ free.0, (wanted_alike SameTally tally_then one.windows.board.openings other.windows.board.openings open_watches l k p free.1.0, free.1.1)))
       (λ l k p free. (here_alike one.boxes other.boxes alike.boxes k.owner ∙ free.0,
-      wanted_alike SameTally tally_then other.windows.board.openings one.windows.board.openings (watches_open (standing one) one.windows.board other.windows.board is.monitors watches) l k p free.1, free.2))
+      (wanted_alike SameTally tally_then other.windows.board.openings one.windows.board.openings (watches_open (standing one) one.windows.board other.windows.board is.monitors watches) l k p free.1.0, free.1.1)))
       None other.windows.board.pieces found (subst (λ es. IsFirst (λ l k p. IsHere one.boxes k.owner × IsFree SameTally one.windows.board.openings l k p) None es found) alike.monitors first)
 
   -- Both have checked all windows, or neither.

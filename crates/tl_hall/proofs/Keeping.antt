@@ -238,7 +238,7 @@ module _ (topo : Topology) where
     turn = 0;
     holder = 0;
     words = refl;
-    free = λ _. (core, refl, (core, is, desk, refl));
+    free = λ _. (core, refl, (core, is, (desk, refl)));
     each = one;
     apart = alone;
     lone = first;

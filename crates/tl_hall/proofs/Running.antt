@@ -26,7 +26,7 @@ use Rattle.tl_hall.specs.History.{entry, call_of, IsOfHall, Runs, Leads}
 use Rattle.tl_hall.proofs.Tickets.{Window, live_at, IsQuiet, same_quiet, edited_quiet, none_live, GivesOne, take_gives, EndsOne, hand_in_ends, abandon_ends, CallsBack, recall_calls, one_less, one_more}
 
 pub runs_then : (ks : List Call) (c d e : Core) (k : Call) → Runs c ks d → IsOfHall k → Step d k e → IsDesk e → Runs c (ks ++ k ∷ []) e
-runs_then [] c d e k r of_hall s is = (r.0, of_hall, e, subst (λ (x : Core). Step x k e) (sym r.1) s, is, refl)
+runs_then [] c d e k r of_hall s is = (r.0, of_hall, e, subst (λ (x : Core). Step x k e) (sym r.1) s, (is, refl))
 runs_then (j ∷ ks) c d e k r of_hall s is = (r.0, r.1, r.2, r.3, runs_then ks r.2 d e k r.4 of_hall s is)
 
 -- They end with a desk.

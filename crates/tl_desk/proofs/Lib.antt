@@ -10,7 +10,7 @@ mod JobLemmas
 pub mod HereLemmas
 mod PlayLemmas
 mod OldestLemmas
-mod SettledLemmas
+pub mod SettledLemmas
 mod RecallLemmas
 mod FinishLemmas
 pub mod AlikeBoxes

@@ -8,3 +8,4 @@ pub mod JobSteps
 pub mod Tellings
 pub mod Rounds
 pub mod Desks
+pub mod Touched

@@ -1,6 +1,6 @@
 //! What follows for histories.
 
-ghost use Rattle.tl_hall.specs.Desks.{OneHistoryLeadsToOneDesk, FreeWindowsAreGiven, CheckedDesksAreReady};
+ghost use Rattle.tl_hall.specs.Desks.{OneHistoryLeadsToOneDesk, FreeWindowsAreGiven, CheckedDesksAreReady, TouchedWindowsAreGiven, ReportsStayReady};
 ghost use Rattle.tl_hall.specs.Telling.{HistoriesTell, EditsAreCounted, AttachesAreCounted, VersionsAreCounted};
 
 /// The edits, the number of reports, and the version of the latest one with the number of edits that it speaks of, all of them of
@@ -38,4 +38,15 @@ pub fn free_windows_are_given()
 /// Where a history leads to a desk whose windows are all checked, no NotReady of a publish is true behind it.
 pub fn checked_desks_are_ready()
     ensures { CheckedDesksAreReady }
+{}
+
+/// Where a history ends with edits, of which the first touches a window of a manager that has a beat there in the end, no None of a
+/// take is true behind it.
+pub fn touched_windows_are_given()
+    ensures { TouchedWindowsAreGiven }
+{}
+
+/// Where no edit came after a report, no NotReady of a publish is true.
+pub fn reports_stay_ready()
+    ensures { ReportsStayReady }
 {}

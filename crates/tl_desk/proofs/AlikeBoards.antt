@@ -10,7 +10,6 @@ use Rattle.tl_inputs.specs.Log.{LogData, inputs_after}
 use Rattle.tl_pieces.specs.declared.key.PieceKey.{PieceKey}
 use Rattle.tl_pieces.specs.Keys.{value_at, change}
 use Rattle.tl_pieces.specs.Pieces.{Board, Piece, Pass, IsBoard, IsAt, IsFirst, IsFree, IsGood, Follows, IsWanted, IsWantedAt, ChainsFrom, opening_of, exit_before, left_by, piece_at, result_of, live_of, with_live}
-use Rattle.tl_same.specs.SameItems.{SameOption}
 use Rattle.tl_span.specs.Links.{SameLink}
 use Rattle.tl_span.specs.States.{SameSpan, StandsFor}
 use Rattle.tl_span.specs.declared.links.LinkState.{LinkState}
@@ -123,19 +122,26 @@ edited_watches e one one_after other other_after now pieces first second later a
 
 -- ---- opening states that are the same
 
+-- both none, or two that are the same
+abbrev pub AreBoth : {S : Type 0} → (S → S → Type 0) → Option S → Option S → Type 0
+AreBoth same None None = Unit {0}
+AreBoth same None (Some t) = ⊥
+AreBoth same (Some s) None = ⊥
+AreBoth same (Some s) (Some t) = same s t
+
 -- Each owner opens with states that are the same.
 abbrev pub OpenAlike : {S : Type 0} → (S → S → Type 0) → List (ℕ × S) → List (ℕ × S) → Type 0
-OpenAlike same one other = (owner : ℕ) → SameOption same (opening_of owner one) (opening_of owner other)
+OpenAlike same one other = (owner : ℕ) → AreBoth same (opening_of owner one) (opening_of owner other)
 
 module _ {S R : Type 0} (same : S → S → Type 0) (then : (x y z : S) → same x y → same y z → same x z) where
-  good_alike : (x y : Option S) (r : Option (Pass S R)) → SameOption same x y → IsGood same x r → IsGood same y r
+  good_alike : (x y : Option S) (r : Option (Pass S R)) → AreBoth same x y → IsGood same x r → IsGood same y r
   good_alike x y None alike good = absurd good
   good_alike None None (Some r) alike good = good
   good_alike None (Some t) (Some r) alike good = absurd alike
   good_alike (Some s) None (Some r) alike good = absurd alike
   good_alike (Some s) (Some t) (Some r) alike good = then r.entry s t good alike
 
-  follows_alike : (x y : Option S) (r : Option (Pass S R)) → SameOption same x y → Follows same x r → Follows same y r
+  follows_alike : (x y : Option S) (r : Option (Pass S R)) → AreBoth same x y → Follows same x r → Follows same y r
   follows_alike None y r alike follows = absurd follows
   follows_alike (Some s) None r alike follows = absurd alike
   follows_alike (Some s) (Some t) r alike follows = good_alike (Some s) (Some t) r alike follows
@@ -206,7 +212,7 @@ spans_open one other sound whole same o = go (opening_of o one.board.openings) (
     owners : is_some (opening_of o one.board.openings) ≡ is_some (opening_of o other.board.openings)
     owners = sound.managers.owners o ∙ ap (λ (l : LogData). nat_lt o (length l.topo.managers)) same ∙ sym (whole.managers.owners o)
 
-    go : (x y : Option SpanState) → opening_of o one.board.openings ≡ x → opening_of o other.board.openings ≡ y → SameOption SameSpan x y
+    go : (x y : Option SpanState) → opening_of o one.board.openings ≡ x → opening_of o other.board.openings ≡ y → AreBoth SameSpan x y
     go None None at there = tt
     go None (Some t) at there = let never : false ≡ true = sym (ap is_some at) ∙ owners ∙ ap is_some there in absurd (cc)
     go (Some s) None at there = let never : false ≡ true = sym (ap is_some there) ∙ sym owners ∙ ap is_some at in absurd (cc)
@@ -222,7 +228,7 @@ watches_open now one other are same o = go (opening_of o one.openings) (opening_
     owners : is_some (opening_of o one.openings) ≡ is_some (opening_of o other.openings)
     owners = are.owners o ∙ sym (same.owners o)
 
-    go : (x y : Option Tally) → opening_of o one.openings ≡ x → opening_of o other.openings ≡ y → SameOption SameTally x y
+    go : (x y : Option Tally) → opening_of o one.openings ≡ x → opening_of o other.openings ≡ y → AreBoth SameTally x y
     go None None at there = tt
     go None (Some t) at there = let never : false ≡ true = sym (ap is_some at) ∙ owners ∙ ap is_some there in absurd (cc)
     go (Some s) None at there = let never : false ≡ true = sym (ap is_some there) ∙ sym owners ∙ ap is_some at in absurd (cc)

@@ -76,14 +76,14 @@ module _ (one one_after other other_after : Core) (alike : AreAlike one other) (
   -- ---- edits and reports
 
   edits_alike : (e : AnEdit) (number : ℕ) → IsDesk one_after → IsDesk other_after → Edits one e number one_after → Edits other e number other_after → HaveSameMonitors one_after.boxes other_after.boxes → AreAlike one_after other_after
-  edits_alike e number desk table first second boxes =
+  edits_alike e number desk its_desk first second boxes =
       let spans = edited_spans e one.windows.spans one_after.windows.spans other.windows.spans other_after.windows.spans alike.log alike.managers first.windows.spans second.windows.spans
-      desk.managers table.managers desk.manager_keys table.manager_keys in
+      desk.managers its_desk.managers desk.manager_keys its_desk.manager_keys in
       record {
         log = spans.0;
         managers = spans.1;
         monitors = edited_watches e one.windows one_after.windows other.windows other_after.windows (ap (λ (l : LogData). inputs_after l.topo l.edits) alike.log) alike.monitors first.windows second.windows
-            (ap (λ (l : LogData). inputs_after l.topo l.edits) spans.0) desk.monitors table.monitors desk.monitor_keys table.monitor_keys;
+            (ap (λ (l : LogData). inputs_after l.topo l.edits) spans.0) desk.monitors its_desk.monitors desk.monitor_keys its_desk.monitor_keys;
         boxes = boxes;
         reports = first.reports ∙ alike.reports ∙ sym second.reports;
         tickets = first.tickets ∙ alike.tickets ∙ sym second.tickets;
@@ -140,10 +140,10 @@ module _ (one one_after other other_after : Core) (alike : AreAlike one other) (
   -- ---- windows of managers that come back
 
   -- all but their windows
-  span_rest : (ticket : ℕ) (spans table : SpansData) → one_after ≡ record one { windows = record one.windows { spans = spans }; tickets = ended ticket one.tickets }
-      → other_after ≡ record other { windows = record other.windows { spans = table }; tickets = ended ticket other.tickets }
+  span_rest : (ticket : ℕ) (spans its_spans : SpansData) → one_after ≡ record one { windows = record one.windows { spans = spans }; tickets = ended ticket one.tickets }
+      → other_after ≡ record other { windows = record other.windows { spans = its_spans }; tickets = ended ticket other.tickets }
       → (one_after.windows.spans.log ≡ other_after.windows.spans.log) × (one_after.windows.spans.board.pieces ≡ other_after.windows.spans.board.pieces) → AreAlike one_after other_after
-  span_rest ticket spans table first second same = record {
+  span_rest ticket spans its_spans first second same = record {
     log = same.0;
     managers = same.1;
     monitors = ap (λ (c : Core). c.windows.board.pieces) first ∙ alike.monitors ∙ sym (ap (λ (c : Core). c.windows.board.pieces) second);
@@ -169,12 +169,12 @@ module _ (one one_after other other_after : Core) (alike : AreAlike one other) (
 
     ends_alike : (job back : JobData) → job.ticket ≡ ticket → piece_of job ≡ piece.Manager owner window → back.ticket ≡ ticket → piece_of back ≡ piece.Manager owner window → Ends one job one_after → Ends other back other_after
         → AreAlike one_after other_after
-    ends_alike job back number same its equal first second =
+    ends_alike job back number same its_number its_same first second =
         span_rest ticket one_after.windows.spans other_after.windows.spans
         (subst (λ t. one_after ≡ record one { windows = record one.windows { spans = one_after.windows.spans }; tickets = ended t one.tickets }) number first.rest)
-        (subst (λ t. other_after ≡ record other { windows = record other.windows { spans = other_after.windows.spans }; tickets = ended t other.tickets }) its second.rest)
+        (subst (λ t. other_after ≡ record other { windows = record other.windows { spans = other_after.windows.spans }; tickets = ended t other.tickets }) its_number second.rest)
         (unmarked_spans one.windows.spans one_after.windows.spans other.windows.spans other_after.windows.spans (key_of owner window) ticket alike.log alike.managers
-        (unmarks one.windows.spans one_after.windows.spans job number same first.spans) (unmarks other.windows.spans other_after.windows.spans back its equal second.spans))
+        (unmarks one.windows.spans one_after.windows.spans job number same first.spans) (unmarks other.windows.spans other_after.windows.spans back its_number its_same second.spans))
 
     hands : (old new : SpansData) (done : DoneData) (result : Pass SpanState (List Row)) → piece_of done.job ≡ piece.Manager owner window → done.result ≡ result → HandsIn old (key_for done.job) done.result new
         → HandsIn old (key_of owner window) result new
@@ -182,12 +182,12 @@ module _ (one one_after other other_after : Core) (alike : AreAlike one other) (
 
     accepts_alike : (done back : DoneData) → done.job.ticket ≡ ticket → piece_of done.job ≡ piece.Manager owner window → back.job.ticket ≡ ticket → piece_of back.job ≡ piece.Manager owner window → back.result ≡ done.result
         → Accepts one done one_after → Accepts other back other_after → AreAlike one_after other_after
-    accepts_alike done back number same its equal result first second =
+    accepts_alike done back number same its_number its_same result first second =
         span_rest ticket one_after.windows.spans other_after.windows.spans
         (subst (λ t. one_after ≡ record one { windows = record one.windows { spans = one_after.windows.spans }; tickets = ended t one.tickets }) number first.rest)
-        (subst (λ t. other_after ≡ record other { windows = record other.windows { spans = other_after.windows.spans }; tickets = ended t other.tickets }) its second.rest)
+        (subst (λ t. other_after ≡ record other { windows = record other.windows { spans = other_after.windows.spans }; tickets = ended t other.tickets }) its_number second.rest)
         (handed_spans one.windows.spans one_after.windows.spans other.windows.spans other_after.windows.spans (key_of owner window) done.result alike.log alike.managers is.managers has.managers
-        (hands one.windows.spans one_after.windows.spans done done.result same refl first.spans) (hands other.windows.spans other_after.windows.spans back done.result equal result second.spans))
+        (hands one.windows.spans one_after.windows.spans done done.result same refl first.spans) (hands other.windows.spans other_after.windows.spans back done.result its_same result second.spans))
 
     -- ---- windows of monitors that come back
 
@@ -196,30 +196,30 @@ module _ (one one_after other other_after : Core) (alike : AreAlike one other) (
         → one_after.boxes ≡ brought job one.boxes → other_after.boxes ≡ brought back other.boxes → one_after.tickets ≡ ended job.ticket one.tickets → other_after.tickets ≡ ended back.ticket other.tickets
         → one_after.reports ≡ one.reports → other_after.reports ≡ other.reports → one_after.windows.spans ≡ one.windows.spans → other_after.windows.spans ≡ other.windows.spans
         → one_after.windows.board.pieces ≡ other_after.windows.board.pieces → AreAlike one_after other_after
-    watch_rest job back number same its equal own its_own boxes cases tickets stubs reports papers spans table pieces = record {
-      log = ap (λ (s : SpansData). s.log) spans ∙ alike.log ∙ sym (ap (λ (s : SpansData). s.log) table);
-      managers = ap (λ (s : SpansData). s.board.pieces) spans ∙ alike.managers ∙ sym (ap (λ (s : SpansData). s.board.pieces) table);
+    watch_rest job back number same its_number its_same own its_own boxes its_boxes tickets its_tickets reports its_reports spans its_spans pieces = record {
+      log = ap (λ (s : SpansData). s.log) spans ∙ alike.log ∙ sym (ap (λ (s : SpansData). s.log) its_spans);
+      managers = ap (λ (s : SpansData). s.board.pieces) spans ∙ alike.managers ∙ sym (ap (λ (s : SpansData). s.board.pieces) its_spans);
       monitors = pieces;
       boxes = back_alike owner job.task.held back.task.held one.boxes one_after.boxes other.boxes other_after.boxes is.boxes has.boxes (subst (λ n. IsLeft n job one) mine own.watch) (subst (λ n. IsLeft n back other) theirs its_own.watch)
-          (subst (λ n. one_after.boxes ≡ brought_back n job.task.held one.boxes) mine boxes) (subst (λ n. other_after.boxes ≡ brought_back n back.task.held other.boxes) theirs cases) alike.boxes;
-      reports = reports ∙ alike.reports ∙ sym papers;
-      tickets = tickets ∙ ap (λ t. ended t one.tickets) number ∙ ap (ended ticket) alike.tickets ∙ sym (stubs ∙ ap (λ t. ended t other.tickets) its);
+          (subst (λ n. one_after.boxes ≡ brought_back n job.task.held one.boxes) mine boxes) (subst (λ n. other_after.boxes ≡ brought_back n back.task.held other.boxes) theirs its_boxes) alike.boxes;
+      reports = reports ∙ alike.reports ∙ sym its_reports;
+      tickets = tickets ∙ ap (λ t. ended t one.tickets) number ∙ ap (ended ticket) alike.tickets ∙ sym (its_tickets ∙ ap (λ t. ended t other.tickets) its_number);
     }
       where
         mine : job.task.number ≡ owner
         mine = ap (λ (k : PieceKey). k.owner) (watch_key job same)
 
         theirs : back.task.number ≡ owner
-        theirs = ap (λ (k : PieceKey). k.owner) (watch_key back equal)
+        theirs = ap (λ (k : PieceKey). k.owner) (watch_key back its_same)
 
     ends_watch_alike : (job back : MonitorJobData) → job.ticket ≡ ticket → monitor_piece job ≡ piece.Monitor owner window → back.ticket ≡ ticket → monitor_piece back ≡ piece.Monitor owner window → EndsWatch one job one_after
         → EndsWatch other back other_after → AreAlike one_after other_after
-    ends_watch_alike job back number same its equal first second =
-        watch_rest job back number same its equal first.own second.own (ap (λ (c : Core). c.boxes) first.rest) (ap (λ (c : Core). c.boxes) second.rest) (ap (λ (c : Core). c.tickets) first.rest) (ap (λ (c : Core). c.tickets) second.rest)
+    ends_watch_alike job back number same its_number its_same first second =
+        watch_rest job back number same its_number its_same first.own second.own (ap (λ (c : Core). c.boxes) first.rest) (ap (λ (c : Core). c.boxes) second.rest) (ap (λ (c : Core). c.tickets) first.rest) (ap (λ (c : Core). c.tickets) second.rest)
         (ap (λ (c : Core). c.reports) first.rest) (ap (λ (c : Core). c.reports) second.rest) (unmarked_rest one.windows one_after.windows (watch_key_for job) job.ticket first.windows)
         (unmarked_rest other.windows other_after.windows (watch_key_for back) back.ticket second.windows)
         (unmarked_watches one.windows one_after.windows other.windows other_after.windows (key_of owner window) ticket alike.monitors (unmarks_watch one.windows one_after.windows job number same first.windows)
-        (unmarks_watch other.windows other_after.windows back its equal second.windows))
+        (unmarks_watch other.windows other_after.windows back its_number its_same second.windows))
 
     hands_watch : (old new : WatchesData) (done : MonitorDoneData) (result : Pass Tally (List Row)) → monitor_piece done.job ≡ piece.Monitor owner window → done.result ≡ result → HandsInWatch old (watch_key_for done.job) done.result new
         → HandsInWatch old (key_of owner window) result new
@@ -228,13 +228,13 @@ module _ (one one_after other other_after : Core) (alike : AreAlike one other) (
 
     accepts_watch_alike : (done back : MonitorDoneData) → done.job.ticket ≡ ticket → monitor_piece done.job ≡ piece.Monitor owner window → back.job.ticket ≡ ticket → monitor_piece back.job ≡ piece.Monitor owner window
         → back.result ≡ done.result → AcceptsWatch one done one_after → AcceptsWatch other back other_after → AreAlike one_after other_after
-    accepts_watch_alike done back number same its equal result first second =
-        watch_rest done.job back.job number same its equal first.own second.own (ap (λ (c : Core). c.boxes) first.rest) (ap (λ (c : Core). c.boxes) second.rest) (ap (λ (c : Core). c.tickets) first.rest) (ap (λ (c : Core). c.tickets) second.rest)
+    accepts_watch_alike done back number same its_number its_same result first second =
+        watch_rest done.job back.job number same its_number its_same first.own second.own (ap (λ (c : Core). c.boxes) first.rest) (ap (λ (c : Core). c.boxes) second.rest) (ap (λ (c : Core). c.tickets) first.rest) (ap (λ (c : Core). c.tickets) second.rest)
         (ap (λ (c : Core). c.reports) first.rest) (ap (λ (c : Core). c.reports) second.rest) (handed_rest one.windows one_after.windows (watch_key_for done.job) done.result first.windows)
         (handed_rest other.windows other_after.windows (watch_key_for back.job) back.result second.windows)
         (handed_watches one.windows one_after.windows other.windows other_after.windows (key_of owner window) done.result (standing one) alike.monitors is.monitors
         (subst (λ (l : LogData). AreWatches (inputs_after l.topo l.edits) other.windows.board) (sym alike.log) has.monitors)
-        (hands_watch one.windows one_after.windows done done.result same refl first.windows) (hands_watch other.windows other_after.windows back done.result equal result second.windows))
+        (hands_watch one.windows one_after.windows done done.result same refl first.windows) (hands_watch other.windows other_after.windows back done.result its_same result second.windows))
 
   -- ---- tickets that are called back
 
@@ -290,30 +290,30 @@ module _ (one one_after other other_after : Core) (alike : AreAlike one other) (
 -- ---- each call
 
 pub calls_keep_desks_alike : CallsKeepDesksAlike
-calls_keep_desks_alike (call.Edit change number) one other one_after other_after none alike is has desk table first second =
-    edits_alike one one_after other other_after alike is has (plain_change change) number desk table first.0 second.0
+calls_keep_desks_alike (call.Edit change number) one other one_after other_after none alike is has desk its_desk first second =
+    edits_alike one one_after other other_after alike is has (plain_change change) number desk its_desk first.0 second.0
     (same_boxes (boxes_after (plain_change change) number one.boxes) one_after.boxes (boxes_after (plain_change change) number other.boxes) other_after.boxes first.1 second.1
     (edit_alike (plain_change change) number one.boxes other.boxes is.boxes has.boxes alike.boxes))
-calls_keep_desks_alike (call.Attach monitor w number) one other one_after other_after none alike is has desk table first second =
-    edits_alike one one_after other other_after alike is has (attach monitor w) number desk table first.0 second.0
+calls_keep_desks_alike (call.Attach monitor w number) one other one_after other_after none alike is has desk its_desk first second =
+    edits_alike one one_after other other_after alike is has (attach monitor w) number desk its_desk first.0 second.0
     (attach_alike monitor w first.1.0 second.1.0 one.boxes one_after.boxes other.boxes other_after.boxes first.1.1 second.1.1 first.1.2 second.1.2 alike.boxes)
-calls_keep_desks_alike (call.Recheck count) one other one_after other_after none alike is has desk table first second = absurd none
-calls_keep_desks_alike (call.Publish version) one other one_after other_after none alike is has desk table first second = published_alike one one_after other other_after alike is has version first second
-calls_keep_desks_alike (call.Take ticket (piece.Manager owner window) from) one other one_after other_after none alike is has desk table first second =
+calls_keep_desks_alike (call.Recheck count) one other one_after other_after none alike is has desk its_desk first second = absurd none
+calls_keep_desks_alike (call.Publish version) one other one_after other_after none alike is has desk its_desk first second = published_alike one one_after other other_after alike is has version first second
+calls_keep_desks_alike (call.Take ticket (piece.Manager owner window) from) one other one_after other_after none alike is has desk its_desk first second =
     takes_alike one one_after other other_after alike is has ticket (key_of owner window) first.0 second.0
-calls_keep_desks_alike (call.Take ticket (piece.Monitor number window) from) one other one_after other_after none alike is has desk table first second =
+calls_keep_desks_alike (call.Take ticket (piece.Monitor number window) from) one other one_after other_after none alike is has desk its_desk first second =
     takes_watch_alike one one_after other other_after alike is has ticket (key_of number window) first.0 second.0
-calls_keep_desks_alike (call.HandIn ticket (piece.Manager owner window) found true) one other one_after other_after none alike is has desk table first second =
+calls_keep_desks_alike (call.HandIn ticket (piece.Manager owner window) found true) one other one_after other_after none alike is has desk its_desk first second =
     accepts_alike one one_after other other_after alike is has ticket owner window first.0 second.0 first.1.0 first.1.1 second.1.0 second.1.1 (span_result second.0.result first.0.result (second.1.2 ∙ sym first.1.2)) first.2 second.2
-calls_keep_desks_alike (call.HandIn ticket (piece.Manager owner window) found false) one other one_after other_after none alike is has desk table first second =
+calls_keep_desks_alike (call.HandIn ticket (piece.Manager owner window) found false) one other one_after other_after none alike is has desk its_desk first second =
     ends_alike one one_after other other_after alike is has ticket owner window first.0.job second.0.job first.1.0 first.1.1 second.1.0 second.1.1 first.3 second.3
-calls_keep_desks_alike (call.HandIn ticket (piece.Monitor number window) found true) one other one_after other_after none alike is has desk table first second =
+calls_keep_desks_alike (call.HandIn ticket (piece.Monitor number window) found true) one other one_after other_after none alike is has desk its_desk first second =
     accepts_watch_alike one one_after other other_after alike is has ticket number window first.0 second.0 first.1.0 first.1.1 second.1.0 second.1.1 (watch_result second.0.result first.0.result (second.1.2 ∙ sym first.1.2)) first.2 second.2
-calls_keep_desks_alike (call.HandIn ticket (piece.Monitor number window) found false) one other one_after other_after none alike is has desk table first second =
+calls_keep_desks_alike (call.HandIn ticket (piece.Monitor number window) found false) one other one_after other_after none alike is has desk its_desk first second =
     ends_watch_alike one one_after other other_after alike is has ticket number window first.0.job second.0.job first.1.0 first.1.1 second.1.0 second.1.1 first.3 second.3
-calls_keep_desks_alike (call.Abandon ticket (piece.Manager owner window)) one other one_after other_after none alike is has desk table first second =
+calls_keep_desks_alike (call.Abandon ticket (piece.Manager owner window)) one other one_after other_after none alike is has desk its_desk first second =
     ends_alike one one_after other other_after alike is has ticket owner window first.0 second.0 first.1 first.2 second.1 second.2 first.3 second.3
-calls_keep_desks_alike (call.Abandon ticket (piece.Monitor number window)) one other one_after other_after none alike is has desk table first second =
+calls_keep_desks_alike (call.Abandon ticket (piece.Monitor number window)) one other one_after other_after none alike is has desk its_desk first second =
     ends_watch_alike one one_after other other_after alike is has ticket number window first.0 second.0 first.1 first.2 second.1 second.2 first.3 second.3
 calls_keep_desks_alike (call.Recall ticket) one other one_after other_after none alike is has desk table (inl first) (inl second) = recalls_alike one one_after other other_after alike is has ticket first second
 calls_keep_desks_alike (call.Recall ticket) one other one_after other_after none alike is has desk table (inl first) (inr second) = absurd (recalls_differ one one_after other other_after alike is has ticket first second)

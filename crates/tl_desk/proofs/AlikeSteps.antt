@@ -315,10 +315,10 @@ calls_keep_desks_alike (call.Abandon ticket (piece.Manager owner window)) one ot
     ends_alike one one_after other other_after alike is has ticket owner window first.0 second.0 first.1 first.2 second.1 second.2 first.3 second.3
 calls_keep_desks_alike (call.Abandon ticket (piece.Monitor number window)) one other one_after other_after none alike is has desk its_desk first second =
     ends_watch_alike one one_after other other_after alike is has ticket number window first.0 second.0 first.1 first.2 second.1 second.2 first.3 second.3
-calls_keep_desks_alike (call.Recall ticket) one other one_after other_after none alike is has desk table (inl first) (inl second) = recalls_alike one one_after other other_after alike is has ticket first second
-calls_keep_desks_alike (call.Recall ticket) one other one_after other_after none alike is has desk table (inl first) (inr second) = absurd (recalls_differ one one_after other other_after alike is has ticket first second)
-calls_keep_desks_alike (call.Recall ticket) one other one_after other_after none alike is has desk table (inr first) (inl second) = absurd (recalls_differ_back one one_after other other_after alike is has ticket first second)
-calls_keep_desks_alike (call.Recall ticket) one other one_after other_after none alike is has desk table (inr first) (inr second) = recalls_watch_alike one one_after other other_after alike is has ticket first second
+calls_keep_desks_alike (call.Recall ticket) one other one_after other_after none alike is has desk its_desk (inl first) (inl second) = recalls_alike one one_after other other_after alike is has ticket first second
+calls_keep_desks_alike (call.Recall ticket) one other one_after other_after none alike is has desk its_desk (inl first) (inr second) = absurd (recalls_differ one one_after other other_after alike is has ticket first second)
+calls_keep_desks_alike (call.Recall ticket) one other one_after other_after none alike is has desk its_desk (inr first) (inl second) = absurd (recalls_differ_back one one_after other other_after alike is has ticket first second)
+calls_keep_desks_alike (call.Recall ticket) one other one_after other_after none alike is has desk its_desk (inr first) (inr second) = recalls_watch_alike one one_after other other_after alike is has ticket first second
 
 -- New desks have the same.
 pub new_alike : (topo : Topology) (one other : Core) → IsNew topo one → IsNew topo other → AreAlike one other

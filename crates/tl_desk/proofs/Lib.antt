@@ -16,3 +16,4 @@ mod FinishLemmas
 pub mod AlikeBoxes
 pub mod AlikeBoards
 pub mod AlikeSteps
+pub mod BlankLemmas

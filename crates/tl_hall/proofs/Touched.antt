@@ -1,20 +1,12 @@
 -- What the last entries of a history leave.
-use Rattle.std.proofs.Common.{◌≡◌, ℕ, ◌<◌, inl, inr, true, false, cond, Bool, List, [], ◌∷◌, ◌++◌, Option, Some, None, length, map, refl, sym, ap, subst, ◌∙◌, arith, nat_lt}
+use Rattle.std.proofs.Common.{◌≡◌, ℕ, ◌<◌, List, [], ◌∷◌, ◌++◌, Option, Some, None, length, map, refl, sym, ap, subst, ◌∙◌}
 use mathlib.Core.List.{map-append}
-use Rattle.std.specs.Prelude.{is_some}
-use Rattle.std.specs.BTreeMap.{is_at}
-use Rattle.std.proofs.lemmas.Bool.Decides.{nat_tests}
-use Rattle.tl_beats.specs.declared.Row.{Row}
 use Rattle.tl_definitions.specs.Captures.{manager_beats}
 use Rattle.tl_inputs.specs.Edits.{AnEdit, plain_change, attach}
 use Rattle.tl_inputs.specs.Inputs.{InputData}
 use Rattle.tl_inputs.specs.Log.{LogData, inputs_after}
 use Rattle.tl_pieces.specs.declared.key.PieceKey.{PieceKey}
-use Rattle.tl_pieces.specs.Keys.{key_cmp, value_at}
-use Rattle.tl_pieces.specs.Pieces.{Pass, Piece, IsFirst, IsFree, IsGood, exit_before, left_by, opening_of, piece_at, result_of, live_of}
-use Rattle.tl_pieces.proofs.OrderLemmas.{key_exact}
-use Rattle.tl_span.specs.States.{SameSpan}
-use Rattle.tl_span.specs.declared.state.SpanState.{SpanState}
+use Rattle.tl_pieces.specs.Pieces.{piece_at, result_of, live_of}
 use Rattle.tl_spans.specs.Edits.{EditsTo}
 use Rattle.tl_spans.specs.Spans.{SpansData, standing}
 use Rattle.tl_spans.specs.Touch.{Touches}
@@ -22,17 +14,19 @@ use Rattle.tl_spans.specs.Windows.{key_of}
 use Rattle.tl_topology.specs.Topology.{Topology}
 use Rattle.tl_windows.specs.Windows.{HasBeat}
 use Rattle.tl_desk.specs.Core.{Core, AllSettled, IsDesk, log_of}
+use Rattle.tl_desk.specs.Laws.{IsBlank}
 use Rattle.tl_desk.specs.Steps.{Step}
 use Rattle.tl_desk.specs.declared.call.Call.{Call}
 use Rattle.tl_desk.specs.declared.call.Call.TheVariants as call
+use Rattle.tl_desk.proofs.BlankLemmas.{blank_windows_are_given}
 use Rattle.tl_desk.proofs.SettledLemmas.{only_edits_unsettle}
 use Rattle.tl_hall.specs.declared.entry.Entry.{Entry}
-use Rattle.tl_hall.specs.Desks.{IsEdit, AreEdits, AreNoEdits, left_behind, beats_behind, TouchedWindowsAreGiven, ReportsStayReady}
+use Rattle.tl_hall.specs.Desks.{IsEdit, AreEdits, AreNoEdits, left_behind, TouchedWindowsAreGiven, ReportsStayReady}
 use Rattle.tl_hall.specs.History.{entry, call_of, Runs, Leads}
 use Rattle.tl_hall.specs.Telling.{Told, told_by}
 use Rattle.tl_hall.proofs.Running.{leads_desk}
 use Rattle.tl_hall.proofs.Tellings.{histories_tell}
-use Rattle.tl_hall.proofs.Tickets.{clash, one_value}
+use Rattle.tl_hall.proofs.Tickets.{clash}
 
 -- A run of two parts, and the desk between them.
 record IsParted (c : Core) (ks js : List Call) (d : Core) : Type 0 where
@@ -67,7 +61,7 @@ stands_behind topo log core leads =
 
 -- ---- a window without result and ticket
 
-record IsBlank (spans : SpansData) (key : PieceKey) : Type 0 where
+record HasNeither (spans : SpansData) (key : PieceKey) : Type 0 where
   result : result_of (piece_at key spans.board) ≡ None
   live : live_of (piece_at key spans.board) ≡ None
 
@@ -75,61 +69,30 @@ none_stays : {X : Type 0} (T : Type 0) (o : Option X) → (T → o ≡ None) →
 none_stays T None here there = refl
 none_stays T (Some x) here there = there (λ t. clash (Some x) x (here t) refl)
 
-blank_stays : (e : AnEdit) (old new : SpansData) (key : PieceKey) → EditsTo old e new → IsBlank old key → IsBlank new key
-blank_stays e old new key edits blank = record {
+neither_stays : (e : AnEdit) (old new : SpansData) (key : PieceKey) → EditsTo old e new → HasNeither old key → HasNeither new key
+neither_stays e old new key edits blank = record {
   result = none_stays (Touches (standing old) e key.owner key.window) (result_of (piece_at key new.board)) (edits.result key) (λ not. ap result_of (edits.stays key not) ∙ blank.result);
   live = none_stays (Touches (standing old) e key.owner key.window) (live_of (piece_at key new.board)) (edits.ticket key) (λ not. ap live_of (edits.stays key not) ∙ blank.live);
 }
 
-blank_after : (k : Call) (c d : Core) (key : PieceKey) → IsEdit k → Step c k d → IsBlank c.windows.spans key → IsBlank d.windows.spans key
-blank_after (call.Edit change number) c d key edit s blank = blank_stays (plain_change change) c.windows.spans d.windows.spans key s.0.windows.spans blank
-blank_after (call.Attach monitor w number) c d key edit s blank = blank_stays (attach monitor w) c.windows.spans d.windows.spans key s.0.windows.spans blank
-blank_after (call.Recheck count) c d key edit s blank = absurd (edit tt)
-blank_after (call.Publish version) c d key edit s blank = absurd (edit tt)
-blank_after (call.Take ticket piece from) c d key edit s blank = absurd (edit tt)
-blank_after (call.HandIn ticket piece found taken) c d key edit s blank = absurd (edit tt)
-blank_after (call.Abandon ticket piece) c d key edit s blank = absurd (edit tt)
-blank_after (call.Recall ticket) c d key edit s blank = absurd (edit tt)
+neither_after : (k : Call) (c d : Core) (key : PieceKey) → IsEdit k → Step c k d → HasNeither c.windows.spans key → HasNeither d.windows.spans key
+neither_after (call.Edit change number) c d key edit s blank = neither_stays (plain_change change) c.windows.spans d.windows.spans key s.0.windows.spans blank
+neither_after (call.Attach monitor w number) c d key edit s blank = neither_stays (attach monitor w) c.windows.spans d.windows.spans key s.0.windows.spans blank
+neither_after (call.Recheck count) c d key edit s blank = absurd (edit tt)
+neither_after (call.Publish version) c d key edit s blank = absurd (edit tt)
+neither_after (call.Take ticket piece from) c d key edit s blank = absurd (edit tt)
+neither_after (call.HandIn ticket piece found taken) c d key edit s blank = absurd (edit tt)
+neither_after (call.Abandon ticket piece) c d key edit s blank = absurd (edit tt)
+neither_after (call.Recall ticket) c d key edit s blank = absurd (edit tt)
 
-blank_last : (later : List Entry) (c d : Core) (key : PieceKey) → AreEdits later → Runs c (map call_of later) d → IsBlank c.windows.spans key → IsBlank d.windows.spans key
-blank_last [] c d key edits r blank = subst (λ (x : Core). IsBlank x.windows.spans key) r.1 blank
-blank_last (e ∷ es) c d key edits r blank = blank_last es r.2 d key edits.1 r.4 (blank_after e.call c r.2 key edits.0 r.3 blank)
+neither_last : (later : List Entry) (c d : Core) (key : PieceKey) → AreEdits later → Runs c (map call_of later) d → HasNeither c.windows.spans key → HasNeither d.windows.spans key
+neither_last [] c d key edits r blank = subst (λ (x : Core). HasNeither x.windows.spans key) r.1 blank
+neither_last (e ∷ es) c d key edits r blank = neither_last es r.2 d key edits.1 r.4 (neither_after e.call c r.2 key edits.0 r.3 blank)
 
 -- ---- such a window is to be taken
 
-none_free : {S R : Type 0} (P : Option (ℕ × Option S) → PieceKey → Piece S R → Type 0) (l : Option (ℕ × Option S)) (es : List (PieceKey × Piece S R)) (k : PieceKey) (p : Piece S R)
-    → IsFirst P l es None → value_at k es ≡ Some p → ((before : Option (ℕ × Option S)) → P before k p) → ⊥
-none_free P l [] k p none found free = let never : None ≡ Some p = found in cc
-none_free P l (e ∷ es) k p (inl none) found free = let never : None ≡ Some e.0 = none.1 in cc
-none_free {S} {R} P l (e ∷ es) k p (inr none) found free = go (is_at (key_cmp k) e.0) refl found
-  where
-    go : (b : Bool) → is_at (key_cmp k) e.0 ≡ b → cond b (Some e.1) (value_at k es) ≡ Some p → ⊥
-    go true at here =
-        let same : e.1 ≡ p = one_value (Some e.1) e.1 p refl here in
-        none.0 (subst (λ (x : Piece S R). P l e.0 x) (sym same) (subst (λ (x : PieceKey). P l x p) (key_exact k e.0 at) (free l)))
-    go false at there = none_free P (left_by e.0 e.1) es k p none.1 there free
-
-below : (a b : ℕ) → a < b → nat_lt a b ≡ true
-below a b low = grind (arith, nat_tests)
-
-piece_there : {X : Type 0} (o : Option X) → is_some o ≡ true → (x : X) × (o ≡ Some x)
-piece_there None there = absurd (let never : false ≡ true = there in cc)
-piece_there (Some x) there = (x, refl)
-
-unwanted : {S R : Type 0} (same : S → S → Type 0) (before : Option S) (r : Option (Pass S R)) → r ≡ None → IsGood same before r → ⊥
-unwanted same before None is good = good
-unwanted same before (Some r) is good = absurd (let never : Some r ≡ None = is in cc)
-
-blank_free : (core : Core) (key : PieceKey) → IsBlank core.windows.spans key → is_some (piece_at key core.windows.spans.board) ≡ true → IsFirst (IsFree SameSpan core.windows.spans.board.openings) None core.windows.spans.board.pieces None → ⊥
-blank_free core key blank there none = go (piece_there (piece_at key core.windows.spans.board) there).0 (piece_there (piece_at key core.windows.spans.board) there).1
-  where
-    go : (p : Piece SpanState (List Row)) → piece_at key core.windows.spans.board ≡ Some p → ⊥
-    go p found =
-        none_free (IsFree SameSpan core.windows.spans.board.openings) None core.windows.spans.board.pieces key p none found
-        (λ before. ((λ good. unwanted SameSpan (exit_before core.windows.spans.board.openings before key.owner) p.result (sym (ap result_of found) ∙ blank.result) good), sym (ap live_of found) ∙ blank.live))
-
 pub touched_windows_are_given : TouchedWindowsAreGiven
-touched_windows_are_given topo log later by number manager window change core leads edits low touches beat none = blank_free core key blank there none.0
+touched_windows_are_given topo log later by number manager window change core leads edits low touches beat none = blank_windows_are_given core core manager window desk blank (none.0, none.1, refl)
   where
     last : Entry
     last = entry by (call.Edit change number)
@@ -143,16 +106,18 @@ touched_windows_are_given topo log later by number manager window change core le
     led : IsLed topo log (last ∷ later) core
     led = led_by topo log (last ∷ later) core leads
 
-    blank : IsBlank core.windows.spans key
-    blank =
+    neither : HasNeither core.windows.spans key
+    neither =
         let touched = subst (λ (i : InputData). Touches i (plain_change change) manager window) (sym (stands_behind topo log led.mid led.led)) touches in
-        blank_last later led.runs.2 core key edits led.runs.4 (record { result = led.runs.3.0.windows.spans.result key touched; live = led.runs.3.0.windows.spans.ticket key touched })
+        neither_last later led.runs.2 core key edits led.runs.4 (record { result = led.runs.3.0.windows.spans.result key touched; live = led.runs.3.0.windows.spans.ticket key touched })
 
-    own : is_some (opening_of manager core.windows.spans.board.openings) ≡ true
-    own = desk.managers.managers.owners manager ∙ ap (λ (t : Topology). nat_lt manager (length t.managers)) (histories_tell topo (log ++ last ∷ later) core leads).0 ∙ below manager (length topo.managers) low
-
-    there : is_some (piece_at key core.windows.spans.board) ≡ true
-    there = (desk.managers.covered.windows key own).1 (subst (λ (i : InputData). HasBeat (manager_beats i.topo i.fragments manager) window) (sym (stands_behind topo (log ++ last ∷ later) core leads)) beat)
+    blank : IsBlank core manager window
+    blank = record {
+      manages = subst (λ (t : Topology). manager < length t.managers) (sym (histories_tell topo (log ++ last ∷ later) core leads).0) low;
+      beat = subst (λ (i : InputData). HasBeat (manager_beats i.topo i.fragments manager) window) (sym (stands_behind topo (log ++ last ∷ later) core leads)) beat;
+      result = neither.result;
+      live = neither.live;
+    }
 
 -- ---- where no edit came
 

@@ -19,13 +19,13 @@ none_free : {S R : Type 0} (P : Option (ℕ × Option S) → PieceKey → Piece 
     → IsFirst P l es None → value_at k es ≡ Some p → ((before : Option (ℕ × Option S)) → P before k p) → ⊥
 none_free P l [] k p none found free = let never : None ≡ Some p = found in cc
 none_free P l (e ∷ es) k p (inl none) found free = let never : None ≡ Some e.0 = none.1 in cc
-none_free {S} {R} P l (e ∷ es) k p (inr none) found free = go (is_at (key_cmp k) e.0) refl found
+none_free {S} {R} P l (e ∷ es) k p (inr none) found free = go (λ there. none_free P (left_by e.0 e.1) es k p none.1 there free) (is_at (key_cmp k) e.0) refl found
   where
-    go : (b : Bool) → is_at (key_cmp k) e.0 ≡ b → cond b (Some e.1) (value_at k es) ≡ Some p → ⊥
-    go true at here =
+    go : (value_at k es ≡ Some p → ⊥) → (b : Bool) → is_at (key_cmp k) e.0 ≡ b → cond b (Some e.1) (value_at k es) ≡ Some p → ⊥
+    go later true at here =
         let same : e.1 ≡ p = one_value (Some e.1) e.1 p refl here in
         none.0 (subst (λ (x : Piece S R). P l e.0 x) (sym same) (subst (λ (x : PieceKey). P l x p) (key_exact k e.0 at) (free l)))
-    go false at there = none_free P (left_by e.0 e.1) es k p none.1 there free
+    go later false at there = later there
 
 below : (a b : ℕ) → a < b → nat_lt a b ≡ true
 below a b low = grind (arith, nat_tests)

@@ -133,6 +133,16 @@ AreBoth same (Some s) (Some t) = same s t
 abbrev pub OpenAlike : {S : Type 0} → (S → S → Type 0) → List (ℕ × S) → List (ℕ × S) → Type 0
 OpenAlike same one other = (owner : ℕ) → AreBoth same (opening_of owner one) (opening_of owner other)
 
+-- What stands before a piece is the same, where it is its owner's opening state too.
+before_alike : {S : Type 0} (one other : List (ℕ × S)) (P : Option S → Type 0) → ((owner : ℕ) → P (opening_of owner one) → P (opening_of owner other)) → (l : Option (ℕ × Option S)) (o : ℕ) → P (exit_before one l o)
+    → P (exit_before other l o)
+before_alike one other P opens None o h = opens o h
+before_alike one other P opens (Some l) o h = go (l.0 == o) h
+  where
+    go : (b : Bool) → P (cond b l.1 (opening_of o one)) → P (cond b l.1 (opening_of o other))
+    go true g = g
+    go false g = opens o g
+
 module _ {S R : Type 0} (same : S → S → Type 0) (then : (x y z : S) → same x y → same y z → same x z) where
   good_alike : (x y : Option S) (r : Option (Pass S R)) → AreBoth same x y → IsGood same x r → IsGood same y r
   good_alike x y None alike good = absurd good
@@ -147,22 +157,13 @@ module _ {S R : Type 0} (same : S → S → Type 0) (then : (x y z : S) → same
   follows_alike (Some s) (Some t) r alike follows = good_alike (Some s) (Some t) r alike follows
 
   module _ (one other : List (ℕ × S)) (alike : OpenAlike same one other) where
-    -- What stands before a piece is the same, where it is its owner's opening state too.
-    before_alike : (P : Option S → Type 0) → ((owner : ℕ) → P (opening_of owner one) → P (opening_of owner other)) → (l : Option (ℕ × Option S)) (o : ℕ) → P (exit_before one l o) → P (exit_before other l o)
-    before_alike P opens None o h = opens o h
-    before_alike P opens (Some l) o h = go (l.0 == o) h
-      where
-        go : (b : Bool) → P (cond b l.1 (opening_of o one)) → P (cond b l.1 (opening_of o other))
-        go true g = g
-        go false g = opens o g
-
     good_before : (l : Option (ℕ × Option S)) (o : ℕ) (r : Option (Pass S R)) → IsGood same (exit_before one l o) r → IsGood same (exit_before other l o) r
-    good_before l o r = before_alike (λ s. IsGood same s r) (λ owner. good_alike (opening_of owner one) (opening_of owner other) r (alike owner)) l o
+    good_before l o r = before_alike one other (λ s. IsGood same s r) (λ owner. good_alike (opening_of owner one) (opening_of owner other) r (alike owner)) l o
 
     pub chains_alike : (l : Option (ℕ × Option S)) (es : List (PieceKey × Piece S R)) → ChainsFrom same one l es → ChainsFrom same other l es
     chains_alike l [] chains = chains
     chains_alike l (e ∷ es) chains =
-        (before_alike (λ s. Follows same s e.1.result) (λ owner. follows_alike (opening_of owner one) (opening_of owner other) e.1.result (alike owner)) l e.0.owner chains.0, chains_alike (left_by e.0 e.1) es chains.1)
+        (before_alike one other (λ s. Follows same s e.1.result) (λ owner. follows_alike (opening_of owner one) (opening_of owner other) e.1.result (alike owner)) l e.0.owner chains.0, chains_alike (left_by e.0 e.1) es chains.1)
 
   module _ (one other : List (ℕ × S)) (alike : OpenAlike same other one) where
     pub wanted_alike : (l : Option (ℕ × Option S)) (k : PieceKey) (p : Piece S R) → IsWanted same one l k p → IsWanted same other l k p

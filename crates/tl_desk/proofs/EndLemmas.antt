@@ -340,12 +340,12 @@ ends_still log new old boxes same keeps h = ends_same log new None old boxes goe
     goes : Goes log new None
     goes = stays log new same
 
-    still_there : (n : ℕ) → is_some (place_at n old.slots) ≡ true → is_some (place_at n boxes.slots) ≡ true
-    still_there n was = sym (mapped (place_at n boxes.slots)) ∙ ap is_some (keeps.places n) ∙ mapped (place_at n old.slots) ∙ was
-
     mapped : (p : Option Place) → is_some (option_map without_tally p) ≡ is_some p
     mapped None = refl
     mapped (Some p) = refl
+
+    still_there : (n : ℕ) → is_some (place_at n old.slots) ≡ true → is_some (place_at n boxes.slots) ≡ true
+    still_there n was = sym (mapped (place_at n boxes.slots)) ∙ ap is_some (keeps.places n) ∙ mapped (place_at n old.slots) ∙ was
 
     there : (p : Option Place) → option_map without_tally p ≡ None → p ≡ None
     there None is = refl

@@ -22,4 +22,4 @@ loop-place-preserved g c =
 
 pub returns : goal.returns
 returns g c =
-    left_all c.args.places.items c.args.self.now (into_iter_items c.loop-place.places) c.loop-place.self c.loop-place.invariant.left c.log.ensures.desk (sym c.loop-place.invariant.len ∙ c.in_default.ensures.cases.0)
+    left_all c.args.places.items c.args.self.now (into_iter_items c.loop-place.places) c.loop-place.self c.loop-place.invariant.left c.log-2.ensures.desk (sym c.loop-place.invariant.len ∙ c.in_default.ensures.cases.0)

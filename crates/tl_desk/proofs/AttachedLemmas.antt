@@ -1,5 +1,5 @@
 -- The monitors behind one edit more are those that are attached.
-use Rattle.std.proofs.Common.{◌≡◌, ℕ, ◌<◌, inl, inr, true, false, cond, List, Option, Some, None, refl, sym, ap, subst, ◌∙◌}
+use Rattle.std.proofs.Common.{◌≡◌, ℕ, ◌<◌, ◌⊎◌, inl, inr, true, false, cond, List, Option, Some, None, refl, sym, ap, subst, ◌∙◌}
 use Rattle.std.specs.Prelude.{slice_set, is_some, if◌then◌else◌, nat_le}
 use Rattle.std.specs.Arc.{arc_value}
 use Rattle.std.specs.Option.{option_map, option_map_or, option_and_then}
@@ -18,7 +18,7 @@ use Rattle.tl_boxes.specs.Places.{Place, Here, Out, held_of, away_of, watch_of_p
 use Rattle.tl_boxes.specs.declared.away.Away.{Away}
 use Rattle.tl_definitions.specs.Positions.{Recorded}
 use Rattle.tl_definitions.specs.Watching.{retuned}
-use Rattle.tl_inputs.specs.Edits.{plain_change, attach}
+use Rattle.tl_inputs.specs.Edits.{AnEdit, plain_change, add, replace, withdraw, clear_link, set_region, remove_region, attach, retune, detach}
 use Rattle.tl_beats.specs.Watches.{link_of}
 use Rattle.tl_inputs.specs.declared.fault.EditFault.TheVariants as fault
 use Rattle.tl_inputs.specs.Inputs.{InputData, watch_at, was_attached, refusal, most_edits, changed, with_fragments, with_regions, with_monitor, regions_at}
@@ -26,6 +26,7 @@ use Rattle.tl_inputs.specs.declared.edit.Change.{Change}
 use Rattle.tl_inputs.specs.declared.edit.Change.TheVariants as change
 use Rattle.tl_monitor.specs.Held.{Held}
 use Rattle.tl_spans.proofs.EntryLemmas.{lookup_put}
+use Rattle.tl_watches.specs.Touch.{edited_monitor}
 use Rattle.tl_desk.specs.Core.{AreAttached, AreKnown}
 use Rattle.tl_desk.specs.Steps.{boxes_after, without_tally, KeepsBoxes}
 use Rattle.tl_desk.specs.Tickets.{ticket_away}
@@ -197,6 +198,24 @@ was_more now (change.Detach m) n was = was_put m n None now.monitors was
 
 pub was_attached_more : (now : InputData) (m : ℕ) (w : Watch) (n : ℕ) → was_attached n now.monitors ≡ true → was_attached n (changed now (attach m w)).monitors ≡ true
 was_attached_more now m w n was = was_put m n (Some w) now.monitors was
+
+-- One that was attached then was so before, or the edit is of it.
+put_back : (m n : ℕ) (w : Option Watch) (monitors : List (ℕ × Option Watch)) → was_attached n (insert_entry nat_cmp monitors m w) ≡ true → (was_attached n monitors ≡ true) ⊎ (Some m ≡ Some n)
+put_back m n w monitors was = elim (same_number m n) as (λ _. (was_attached n monitors ≡ true) ⊎ (Some m ≡ Some n)) [
+  | inl same ↦ inr (ap Some same)
+  | inr apart ↦ inl (sym (ap is_some (found_put n m w monitors ∙ ap (λ b. cond b (Some w) (lookup (is_at (nat_cmp n)) monitors)) (number_apart_back m n apart))) ∙ was)
+]
+
+pub was_before : (now : InputData) (e : AnEdit) (n : ℕ) → was_attached n (changed now e).monitors ≡ true → (was_attached n now.monitors ≡ true) ⊎ (edited_monitor e ≡ Some n)
+was_before now (add f) n was = inl (sym (ap (was_attached n) (kept_by_fragments now f.link (λ link fs. put_in (recorded link f) fs))) ∙ was)
+was_before now (replace f) n was = inl (sym (ap (was_attached n) (kept_by_fragments now f.link (λ link fs. put_in (recorded link f) (without link f.number fs)))) ∙ was)
+was_before now (withdraw name k) n was = inl (sym (ap (was_attached n) (kept_by_fragments now name (λ link fs. without link k fs))) ∙ was)
+was_before now (clear_link name) n was = inl (sym (ap (was_attached n) (kept_by_fragments now name cleared)) ∙ was)
+was_before now (set_region name k area) n was = inl (sym (ap (was_attached n) (kept_by_regions now name (put_area k area))) ∙ was)
+was_before now (remove_region name k) n was = inl (sym (ap (was_attached n) (kept_by_regions now name (without_area k))) ∙ was)
+was_before now (attach m w) n was = put_back m n (Some w) now.monitors was
+was_before now (retune m limit) n was = put_back m n (option_map (λ w. retuned w limit) (watch_at m now.monitors)) now.monitors was
+was_before now (detach m) n was = put_back m n None now.monitors was
 
 -- Behind a change the monitors are those that are attached, where it reached them.
 pub attached_after : (now : InputData) (c : Change) (number : ℕ) (old : BoxesData) → IsStrictlySortedBy nat_cmp (keys_of old.slots) → AreAttached now old → AreKnown now old

@@ -260,11 +260,11 @@ own_back core job number held own is same =
     go (Some a) h = let both : Some a.taken ≡ Some job.task.held.watch = h in cc
 
 pub hand_step : {M : Type 0} (old : Core) (done : Done M) (found : HandIn M) (new : Core) → HandsBack old done found new → HandInStep old done found new
-hand_step old (a_done.Manager d) answer.Taken new h = (d, refl, refl, h)
-hand_step old (a_done.Manager d) answer.Void new h = (d.job, refl, refl, h.0, h.1)
+hand_step old (a_done.Manager d) answer.Taken new h = (d, (refl, refl, refl), h)
+hand_step old (a_done.Manager d) answer.Void new h = (d, (refl, refl, refl), h.0, h.1)
 hand_step old (a_done.Manager d) (answer.Stranger same) new h = h.2
-hand_step old (a_done.Monitor d) answer.Taken new h = (d, refl, refl, h)
-hand_step old (a_done.Monitor d) answer.Void new h = (d.job, refl, refl, h.0, h.1)
+hand_step old (a_done.Monitor d) answer.Taken new h = (d, (refl, refl, refl), h)
+hand_step old (a_done.Monitor d) answer.Void new h = (d, (refl, refl, refl), h.0, h.1)
 hand_step old (a_done.Monitor d) (answer.Stranger same) new h = h.2
 
 -- A monitor that is here has the watch that stands.

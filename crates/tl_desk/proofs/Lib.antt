@@ -10,6 +10,10 @@ mod JobLemmas
 pub mod HereLemmas
 mod PlayLemmas
 mod OldestLemmas
-mod SettledLemmas
+pub mod SettledLemmas
 mod RecallLemmas
 mod FinishLemmas
+pub mod AlikeBoxes
+pub mod AlikeBoards
+pub mod AlikeSteps
+pub mod BlankLemmas

@@ -25,7 +25,7 @@ use Rattle.tl_tickets.specs.declared.piece.Piece.TheVariants as piece
 use Rattle.tl_tickets.specs.declared.tickets.Taken.{Taken}
 use Rattle.tl_tickets.specs.Tickets.{TicketsData, AreTickets, IsOutFor, taken_at}
 use Rattle.tl_watches.specs.Tasks.{WatchTaskData}
-use Rattle.tl_desk.specs.Core.{Core, IsSound, log_of, standing}
+use Rattle.tl_desk.specs.Core.{Core, IsSound, IsDesk, log_of, standing}
 use Rattle.tl_desk.specs.Jobs.{IsOwn, IsOutHere, TakesBack, Takes, TakesWatch, Gives, HandsBack, ended, key_for, watch_key_for}
 use Rattle.tl_desk.specs.Plays.{with_place, job_of, job_at, AreOut, Answers, Runs, Leaves, LeavesOne, handed_in}
 use Rattle.tl_desk.specs.Steps.{Step, boxes_after}
@@ -382,25 +382,25 @@ module _ {M : Type 0} where
       subst (λ rs. Runs watch_of steps first old (rs ++ more) left new) (sym none) (subst (λ ss. Runs watch_of ss first old more left new) all runs)
 
   pub ran_more : (watch_of : M → Watch) (steps : List (AStep M)) (first : List (Place M)) (old : Core) (rest : List (AStep M)) (replies : List Reply) (places : List (Place M)) (now : Core)
-      (step : AStep M) (later : List (AStep M)) (reply : Reply) (after : List Reply) (between : List (Place M)) (middle : Core) → Ran watch_of steps first old rest replies places now → rest ≡ step ∷ later
+      (step : AStep M) (later : List (AStep M)) (reply : Reply) (after : List Reply) (between : List (Place M)) (middle : Core) → Ran watch_of steps first old rest replies places now → IsDesk now → rest ≡ step ∷ later
       → Answers watch_of step places now reply between middle → after ≡ replies ++ reply ∷ [] → Ran watch_of steps first old later after between middle
-  ran_more watch_of steps first old rest replies places now step later reply after between middle ran is answers pushed more left new runs =
+  ran_more watch_of steps first old rest replies places now step later reply after between middle ran desk is answers pushed more left new runs =
       subst (λ rs. Runs watch_of steps first old rs left new) (sym (ap (λ rs. rs ++ more) pushed ∙ append_assoc replies (reply ∷ []) more))
-      (ran (reply ∷ more) left new (subst (λ ss. Runs watch_of ss places now (reply ∷ more) left new) (sym is) (between, middle, answers, runs)))
+      (ran (reply ∷ more) left new (subst (λ ss. Runs watch_of ss places now (reply ∷ more) left new) (sym is) (desk, between, middle, answers, runs)))
 
   pub ran_all : (watch_of : M → Watch) (steps : List (AStep M)) (first : List (Place M)) (old : Core) (rest : List (AStep M)) (replies : List Reply) (places : List (Place M)) (now : Core)
-      → Ran watch_of steps first old rest replies places now → length rest ≡ 0 → Runs watch_of steps first old replies places now
-  ran_all watch_of steps first old [] replies places now ran none = subst (λ rs. Runs watch_of steps first old rs places now) (append-nil replies) (ran [] places now (refl, refl))
-  ran_all watch_of steps first old (step ∷ rest) replies places now ran none = absurd (omega (arith, none))
+      → Ran watch_of steps first old rest replies places now → IsDesk now → length rest ≡ 0 → Runs watch_of steps first old replies places now
+  ran_all watch_of steps first old [] replies places now ran desk none = subst (λ rs. Runs watch_of steps first old rs places now) (append-nil replies) (ran [] places now (desk, refl, refl))
+  ran_all watch_of steps first old (step ∷ rest) replies places now ran desk none = absurd (omega (arith, none))
 
   -- The jobs of these places, abandoned from here on, are all that are abandoned then.
   abbrev pub Left : List (Place M) → Core → List (Place M) → Core → Type 0
   Left places old rest now = (new : Core) → Leaves rest now new → Leaves places old new
 
-  pub left_more : (places : List (Place M)) (old : Core) (rest : List (Place M)) (now : Core) (thing : Place M) (later : List (Place M)) (middle : Core) → Left places old rest now → rest ≡ thing ∷ later
+  pub left_more : (places : List (Place M)) (old : Core) (rest : List (Place M)) (now : Core) (thing : Place M) (later : List (Place M)) (middle : Core) → Left places old rest now → IsDesk now → rest ≡ thing ∷ later
       → LeavesOne (job_of thing) now middle → Left places old later middle
-  left_more places old rest now thing later middle left is one new leaves = left new (subst (λ ps. Leaves ps now new) (sym is) (middle, one, leaves))
+  left_more places old rest now thing later middle left desk is one new leaves = left new (subst (λ ps. Leaves ps now new) (sym is) (desk, middle, one, leaves))
 
-  pub left_all : (places : List (Place M)) (old : Core) (rest : List (Place M)) (now : Core) → Left places old rest now → length rest ≡ 0 → Leaves places old now
-  left_all places old [] now left none = left now refl
-  left_all places old (thing ∷ rest) now left none = absurd (omega (arith, none))
+  pub left_all : (places : List (Place M)) (old : Core) (rest : List (Place M)) (now : Core) → Left places old rest now → IsDesk now → length rest ≡ 0 → Leaves places old now
+  left_all places old [] now left desk none = left now (desk, refl)
+  left_all places old (thing ∷ rest) now left desk none = absurd (omega (arith, none))

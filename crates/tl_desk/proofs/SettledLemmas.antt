@@ -85,15 +85,15 @@ only_edits_unsettle old new (call.Edit what number) step quiet s = absurd quiet
 only_edits_unsettle old new (call.Attach monitor w number) step quiet s = absurd quiet
 only_edits_unsettle old new (call.Recheck count) step quiet s = (step.managers.settled, step.monitors.settled)
 only_edits_unsettle old new (call.Publish version) step quiet s = subst AllSettled (sym step.rest) s
-only_edits_unsettle old new (call.Take ticket (piece.Manager owner window)) step quiet s = subst AllSettled (sym step.rest) (still_chained SameSpan old.windows.spans.board.openings _ (Some ticket) None old.windows.spans.board.pieces s.0, s.1)
-only_edits_unsettle old new (call.Take ticket (piece.Monitor number window)) step quiet s = subst AllSettled (sym step.rest) (s.0, still_chained SameTally old.windows.board.openings _ (Some ticket) None old.windows.board.pieces s.1)
-only_edits_unsettle old new (call.HandIn ticket (piece.Manager owner window) true) (done, _, _, step) quiet s = (
+only_edits_unsettle old new (call.Take ticket (piece.Manager owner window) from) step quiet s = subst AllSettled (sym step.0.rest) (still_chained SameSpan old.windows.spans.board.openings _ (Some ticket) None old.windows.spans.board.pieces s.0, s.1)
+only_edits_unsettle old new (call.Take ticket (piece.Monitor number window) from) step quiet s = subst AllSettled (sym step.0.rest) (s.0, still_chained SameTally old.windows.board.openings _ (Some ticket) None old.windows.board.pieces s.1)
+only_edits_unsettle old new (call.HandIn ticket (piece.Manager owner window) found true) (done, _, step) quiet s = (
   handed_in old.windows.spans new.windows.spans _ done.result s.0 step.spans,
   subst (λ (b : Board Tally (List Row)). IsSettled SameTally b) (sym (ap (λ (c : Core). c.windows.board) step.rest)) s.1,
 )
-only_edits_unsettle old new (call.HandIn ticket (piece.Manager owner window) false) (job, _, _, _, step) quiet s = ended old new job step s
-only_edits_unsettle old new (call.HandIn ticket (piece.Monitor number window) true) (done, _, _, step) quiet s = handed_in_watch old.windows new.windows _ done.result s step.windows
-only_edits_unsettle old new (call.HandIn ticket (piece.Monitor number window) false) (job, _, _, _, step) quiet s = ended_watch old new job step s
+only_edits_unsettle old new (call.HandIn ticket (piece.Manager owner window) found false) (done, _, _, step) quiet s = ended old new done.job step s
+only_edits_unsettle old new (call.HandIn ticket (piece.Monitor number window) found true) (done, _, step) quiet s = handed_in_watch old.windows new.windows _ done.result s step.windows
+only_edits_unsettle old new (call.HandIn ticket (piece.Monitor number window) found false) (done, _, _, step) quiet s = ended_watch old new done.job step s
 only_edits_unsettle old new (call.Abandon ticket (piece.Manager owner window)) (job, _, _, step) quiet s = ended old new job step s
 only_edits_unsettle old new (call.Abandon ticket (piece.Monitor number window)) (job, _, _, step) quiet s = ended_watch old new job step s
 only_edits_unsettle old new (call.Recall ticket) (inl step) quiet s = subst AllSettled (sym step.rest) (still_chained SameSpan old.windows.spans.board.openings step.key None None old.windows.spans.board.pieces s.0, s.1)

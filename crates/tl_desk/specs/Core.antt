@@ -2,18 +2,18 @@
 use Rattle.std.specs.Prelude.{ℕ, zero, suc, ◌≡◌, ◌<◌, ◌≤◌, ◌-◌, true, List, [], ◌∷◌, length, take, Option, None, slice_get, is_some}
 use Rattle.std.specs.List.{All, AllByRecursion}
 use Rattle.tl_beats.specs.declared.Row.{Row}
-use Rattle.tl_boxes.specs.Boxes.{BoxesData, place_at, away_at, attached_watch}
+use Rattle.tl_boxes.specs.Boxes.{BoxesData, IsBoxes, place_at, away_at, attached_watch}
 use Rattle.tl_definitions.specs.Report.{IsReport}
 use Rattle.tl_topology.specs.Topology.{Topology}
 use Rattle.tl_inputs.specs.Inputs.{InputData, watch_at, was_attached}
 use Rattle.tl_inputs.specs.Log.{LogData, inputs_after}
-use Rattle.tl_pieces.specs.Pieces.{IsSettled}
+use Rattle.tl_pieces.specs.Pieces.{IsBoard, IsSettled}
 use Rattle.tl_plain.specs.Captured.{captures_after}
 use Rattle.tl_report.specs.Output.{ReportData}
 use Rattle.tl_spans.specs.Spans as spans
 use Rattle.tl_span.specs.States.{SameSpan}
 use Rattle.tl_watches.specs.Tally.{SameTally}
-use Rattle.tl_watches.specs.Watches.{WatchesData}
+use Rattle.tl_watches.specs.Watches.{WatchesData, AreWatches}
 use Rattle.tl_tickets.specs.Tickets.{TicketsData}
 use Rattle.tl_desk.specs.Ends.{HaveEnded}
 use Rattle.tl_desk.specs.Tickets.{HoldsTickets}
@@ -76,6 +76,16 @@ pub record IsSound (core : Core) : Type 0 where
   pub few : length core.reports ≤ most_versions
   pub tickets : HoldsTickets (log_of core) core.windows.spans.board core.windows.board core.boxes core.tickets
   pub ends : HaveEnded (log_of core) core.boxes
+
+-- What is true of every desk: what it keeps, and what its windows and its monitors keep. Its managers and the monitors that are attached open as
+-- the topology and the watches say, a window is there exactly where it has a beat, and each result that is stored is the pass of its window.
+pub record IsDesk (core : Core) : Type 0 where
+  pub kept : IsSound core
+  pub managers : spans.IsSound core.windows.spans
+  pub monitors : AreWatches (standing core) core.windows.board
+  pub manager_keys : IsBoard core.windows.spans.board
+  pub monitor_keys : IsBoard core.windows.board
+  pub boxes : IsBoxes core.boxes
 
 -- the last report, and the one of a version
 abbrev pub latest_of : List ReportData → Option ReportData

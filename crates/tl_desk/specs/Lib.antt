@@ -5,4 +5,5 @@ pub mod Core
 pub mod Jobs
 pub mod Steps
 pub mod Plays
+pub mod Alike
 pub mod Laws

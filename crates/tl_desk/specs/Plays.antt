@@ -18,7 +18,7 @@ use Rattle.tl_jobs.specs.declared.job.HandIn.TheVariants as answer
 use Rattle.tl_pieces.specs.Pieces.{IsFirstFree}
 use Rattle.tl_span.specs.States.{SameSpan}
 use Rattle.tl_tickets.specs.Tickets.{most_tickets}
-use Rattle.tl_desk.specs.Core.{Core, AllSettled, most_versions, log_of, standing}
+use Rattle.tl_desk.specs.Core.{Core, IsDesk, AllSettled, most_versions, log_of, standing}
 use Rattle.tl_desk.specs.Jobs.{Gives, HasFree, HandsBack, TakesBack, IsFirstFreeWatch, IsOutHere, IsLive}
 use Rattle.tl_desk.specs.Steps.{Step, HandInStep}
 use Rattle.tl_desk.specs.declared.call.Call.TheVariants as call
@@ -149,10 +149,10 @@ module _ {M : Type 0} where
 
   -- ---- many
 
-  -- Steps, one after the other, each with its reply.
+  -- Steps, one after the other, each with its reply: each core on the way is one that a desk has.
   abbrev pub Runs : (M → Watch) → List (AStep M) → List (Place M) → Core → List Reply → List (Place M) → Core → Type 0
-  Runs watch_of [] places old [] left new = (left ≡ places) × (new ≡ old)
-  Runs watch_of (step ∷ steps) places old (reply ∷ replies) left new = (between : List (Place M)) × (middle : Core) × Answers watch_of step places old reply between middle
+  Runs watch_of [] places old [] left new = IsDesk old × (left ≡ places) × (new ≡ old)
+  Runs watch_of (step ∷ steps) places old (reply ∷ replies) left new = IsDesk old × (between : List (Place M)) × (middle : Core) × Answers watch_of step places old reply between middle
       × Runs watch_of steps between middle replies left new
   Runs watch_of _ places old _ left new = ⊥
 
@@ -161,10 +161,10 @@ module _ {M : Type 0} where
   LeavesOne None old new = new ≡ old
   LeavesOne (Some job) old new = Abandons old job new
 
-  -- So are those of all places, one after the other.
+  -- So are those of all places, one after the other, each by a desk.
   abbrev pub Leaves : List (Place M) → Core → Core → Type 0
-  Leaves [] old new = new ≡ old
-  Leaves (thing ∷ places) old new = (middle : Core) × LeavesOne (job_of thing) old middle × Leaves places middle new
+  Leaves [] old new = IsDesk old × (new ≡ old)
+  Leaves (thing ∷ places) old new = IsDesk old × (middle : Core) × LeavesOne (job_of thing) old middle × Leaves places middle new
 
   -- Steps run from no places on, and the jobs that they leave are abandoned.
   abbrev pub Plays : (M → Watch) → Core → List (AStep M) → List Reply → Core → Type 0

@@ -9,17 +9,21 @@ use Rattle.tl_inputs.specs.Edits.{AnEdit, plain_change, add, replace, withdraw, 
 use Rattle.tl_inputs.specs.Inputs.{refusal}
 use Rattle.tl_jobs.specs.Jobs.{JobData, DoneData, piece_of}
 use Rattle.tl_jobs.specs.Monitors.{MonitorJobData, MonitorDoneData, monitor_piece}
-use Rattle.tl_jobs.specs.Works.{done_ticket, done_window}
+use Rattle.tl_jobs.specs.Works.{ticket_of, window_of, done_ticket, done_window}
+use Rattle.tl_jobs.specs.declared.job.Job.{Job}
+use Rattle.tl_jobs.specs.declared.job.Job.TheVariants as a_job
 use Rattle.tl_jobs.specs.declared.job.Done.{Done}
+use Rattle.tl_jobs.specs.declared.job.Done.TheVariants as a_done
 use Rattle.tl_jobs.specs.declared.job.HandIn.{HandIn}
 use Rattle.tl_jobs.specs.declared.job.HandIn.TheVariants as answer
 use Rattle.tl_monitor.specs.Held.{Held}
 use Rattle.std.specs.Option.{option_map}
 use Rattle.tl_pieces.specs.declared.key.PieceKey.{PieceKey}
-use Rattle.tl_pieces.specs.Pieces.{Board, IsFirst, IsWanted}
+use Rattle.tl_pieces.specs.Pieces.{Board, Pass, IsFirst, IsWanted, entry_for}
 use Rattle.tl_plain.specs.Captured.{captures_after}
 use Rattle.tl_report.specs.Output.{ReportData}
 use Rattle.tl_span.specs.States.{SameSpan}
+use Rattle.tl_span.specs.declared.state.SpanState.{SpanState}
 use Rattle.tl_spans.specs.Recheck.{Rechecks, ChecksSome}
 use Rattle.tl_spans.specs.Windows.{key_of}
 use Rattle.tl_tickets.specs.declared.piece.Piece.{Piece}
@@ -36,6 +40,10 @@ use Rattle.tl_desk.specs.declared.fault.RecheckFault.{RecheckFault}
 use Rattle.tl_desk.specs.declared.fault.RecheckFault.TheVariants as refused
 use Rattle.tl_desk.specs.declared.call.Call.{Call}
 use Rattle.tl_desk.specs.declared.call.Call.TheVariants as call
+use Rattle.tl_desk.specs.declared.call.Start.{Start}
+use Rattle.tl_desk.specs.declared.call.Start.TheVariants as start
+use Rattle.tl_desk.specs.declared.call.Outcome.{Outcome}
+use Rattle.tl_desk.specs.declared.call.Outcome.TheVariants as outcome
 
 -- What a change of this number makes of the monitors: a retune reaches its monitor, and a detach ends its own, at once where it is here,
 -- else as it comes back.
@@ -144,17 +152,40 @@ abbrev pub RefusesRecheck : Core → RecheckFault → Core → Type 0
 RefusesRecheck old (refused.BoxOut number) new = ((key : PieceKey) × (key.owner ≡ number) × IsFirstOut old (Some key)) × (new ≡ old)
 RefusesRecheck old refused.Memory new = IsFirstOut old None × RechecksSome old new
 
--- A window goes out under a ticket: that of a manager alone, and that of a monitor with its monitor.
-abbrev pub TakesPiece : Core → ℕ → Piece → Core → Type 0
-TakesPiece old ticket (piece.Manager owner window) new = Takes old ticket (key_of owner window) new
-TakesPiece old ticket (piece.Monitor number window) new = TakesWatch old ticket (key_of number window) new
+-- what a job is to be checked from
+abbrev pub start_for : {M : Type 0} → Job M → Start
+start_for (a_job.Manager job) = start.Manager job.task.entry
+start_for (a_job.Monitor job) = start.Monitor job.task.entry
 
--- A window comes back checked whose ticket is out: whether its result is taken.
-abbrev pub HandsInPiece : Core → ℕ → Piece → Bool → Core → Type 0
-HandsInPiece old ticket (piece.Manager owner window) true new = (done : DoneData) × (done.job.ticket ≡ ticket) × (piece_of done.job ≡ piece.Manager owner window) × Accepts old done new
-HandsInPiece old ticket (piece.Manager owner window) false new = (job : JobData) × (job.ticket ≡ ticket) × (piece_of job ≡ piece.Manager owner window) × (IsFresh old job → ⊥) × Ends old job new
-HandsInPiece old ticket (piece.Monitor number window) true new = (done : MonitorDoneData) × (done.job.ticket ≡ ticket) × (monitor_piece done.job ≡ piece.Monitor number window) × AcceptsWatch old done new
-HandsInPiece old ticket (piece.Monitor number window) false new = (job : MonitorJobData) × (job.ticket ≡ ticket) × (monitor_piece job ≡ piece.Monitor number window) × (IsFreshWatch old job → ⊥) × EndsWatch old job new
+-- the outcome of a window of a manager, of one of a monitor, and of a job that was checked
+abbrev pub of_span : Pass SpanState (List Row) → Outcome
+of_span result = outcome.Manager result.entry result.exit result.rows
+
+abbrev pub of_watch : Pass Tally (List Row) → Outcome
+of_watch result = outcome.Monitor result.entry result.exit result.rows
+
+abbrev pub outcome_for : {M : Type 0} → Done M → Outcome
+outcome_for (a_done.Manager done) = of_span done.result
+outcome_for (a_done.Monitor done) = of_watch done.result
+
+-- A window goes out under a ticket, to be checked from what stands for that: that of a manager alone, and that of a monitor with its monitor.
+abbrev pub TakesPiece : Core → ℕ → Piece → Start → Core → Type 0
+TakesPiece old ticket (piece.Manager owner window) from new = Takes old ticket (key_of owner window) new × (option_map start.Manager (entry_for (key_of owner window) old.windows.spans.board) ≡ Some from)
+TakesPiece old ticket (piece.Monitor number window) from new = TakesWatch old ticket (key_of number window) new × (option_map start.Monitor (entry_for (key_of number window) old.windows.board) ≡ Some from)
+
+-- The job is that of the ticket and the window, and came to this.
+abbrev pub IsSpanBack : ℕ → Piece → Outcome → DoneData → Type 0
+IsSpanBack ticket piece found done = (done.job.ticket ≡ ticket) × (piece_of done.job ≡ piece) × (of_span done.result ≡ found)
+
+abbrev pub IsWatchBack : ℕ → Piece → Outcome → MonitorDoneData → Type 0
+IsWatchBack ticket piece found done = (done.job.ticket ≡ ticket) × (monitor_piece done.job ≡ piece) × (of_watch done.result ≡ found)
+
+-- A window comes back checked whose ticket is out, with an outcome: whether its result is taken, which is then that very one.
+abbrev pub HandsInPiece : Core → ℕ → Piece → Outcome → Bool → Core → Type 0
+HandsInPiece old ticket (piece.Manager owner window) found true new = (done : DoneData) × IsSpanBack ticket (piece.Manager owner window) found done × Accepts old done new
+HandsInPiece old ticket (piece.Manager owner window) found false new = (done : DoneData) × IsSpanBack ticket (piece.Manager owner window) found done × (IsFresh old done.job → ⊥) × Ends old done.job new
+HandsInPiece old ticket (piece.Monitor number window) found true new = (done : MonitorDoneData) × IsWatchBack ticket (piece.Monitor number window) found done × AcceptsWatch old done new
+HandsInPiece old ticket (piece.Monitor number window) found false new = (done : MonitorDoneData) × IsWatchBack ticket (piece.Monitor number window) found done × (IsFreshWatch old done.job → ⊥) × EndsWatch old done.job new
 
 -- A window comes back unchecked whose ticket is out.
 abbrev pub AbandonsPiece : Core → ℕ → Piece → Core → Type 0
@@ -166,13 +197,23 @@ Step old (call.Edit change number) new = Edits old (plain_change change) number 
 Step old (call.Attach monitor w number) new = Edits old (attach monitor w) number new × Attaches monitor w old.boxes new.boxes
 Step old (call.Recheck count) new = RechecksAll old count new
 Step old (call.Publish version) new = Publishes old version new
-Step old (call.Take ticket piece) new = TakesPiece old ticket piece new
-Step old (call.HandIn ticket piece taken) new = HandsInPiece old ticket piece taken new
+Step old (call.Take ticket piece from) new = TakesPiece old ticket piece from new
+Step old (call.HandIn ticket piece found taken) new = HandsInPiece old ticket piece found taken new
 Step old (call.Abandon ticket piece) new = AbandonsPiece old ticket piece new
 Step old (call.Recall ticket) new = Recalls old ticket new ⊎ RecallsWatch old ticket new
 
+-- the calls of a job that goes out, of one that comes back checked, and of one that comes back unchecked
+abbrev pub take_of : {M : Type 0} → Job M → Call
+take_of job = call.Take (ticket_of job) (window_of job) (start_for job)
+
+abbrev pub hand_in_of : {M : Type 0} → Done M → Bool → Call
+hand_in_of done taken = call.HandIn (done_ticket done) (done_window done) (outcome_for done) taken
+
+abbrev pub abandon_of : {M : Type 0} → Job M → Call
+abandon_of job = call.Abandon (ticket_of job) (window_of job)
+
 -- The step of a job that was handed in, if it was not a stranger's.
 abbrev pub HandInStep : {M : Type 0} → Core → Done M → HandIn M → Core → Type 0
-HandInStep old done answer.Taken new = Step old (call.HandIn (done_ticket done) (done_window done) true) new
-HandInStep old done answer.Void new = Step old (call.HandIn (done_ticket done) (done_window done) false) new
+HandInStep old done answer.Taken new = Step old (hand_in_of done true) new
+HandInStep old done answer.Void new = Step old (hand_in_of done false) new
 HandInStep old done (answer.Stranger same) new = new ≡ old

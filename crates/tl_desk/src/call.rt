@@ -3,6 +3,28 @@
 use tl_beats::Watch;
 use tl_inputs::Change;
 use tl_jobs::Piece;
+use tl_span::SpanState;
+use tl_tasks::Rows;
+use tl_watches::Tally;
+
+/// What the check of a window begins from. Contracts speak of it; no value of it is made.
+#[derive(Drop)]
+pub enum Start {
+    /// Of a manager's window the state that is taken to stand before it.
+    Manager(SpanState),
+    /// Of a monitor's window the tally.
+    Monitor(Tally),
+}
+
+/// What the check of a window came to: what it began from, what it ended with, and its rows. Contracts speak of it; no value of it
+/// is made.
+#[derive(Drop)]
+pub enum Outcome {
+    /// Of a manager's window.
+    Manager(SpanState, SpanState, Rows),
+    /// Of a monitor's window.
+    Monitor(Tally, Tally, Rows),
+}
 
 /// A call on a desk that was not refused, with its answer, as plain data. Contracts speak of it; no value of it is made.
 #[derive(Drop)]
@@ -15,10 +37,10 @@ pub enum Call {
     Recheck(u64),
     /// The report of this version was published.
     Publish(u64),
-    /// This window went out under the ticket of this number.
-    Take(u64, Piece),
-    /// This window came back checked under the ticket of this number, which was out: whether its result was taken.
-    HandIn(u64, Piece, bool),
+    /// This window went out under the ticket of this number, to be checked from this.
+    Take(u64, Piece, Start),
+    /// This window came back with this outcome under the ticket of this number, which was out: whether its result was taken.
+    HandIn(u64, Piece, Outcome, bool),
     /// This window came back unchecked under the ticket of this number, which was out.
     Abandon(u64, Piece),
     /// The ticket of this number, which was live, was called back.

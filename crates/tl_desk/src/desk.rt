@@ -9,7 +9,7 @@ ghost use Rattle.tl_plain.specs.Captured.{captures_after};
 ghost use Rattle.tl_spans.specs.Spans as spans;
 ghost use Rattle.tl_watches.specs.Watches.{AreWatches};
 ghost use Rattle.tl_boxes.specs.Boxes.{IsBoxes, told, here_in, first_out};
-ghost use Rattle.tl_desk.specs.Core.{log_of, standing, latest_of, report_of, AllSettled, AreLinked, IsNew, IsSound};
+ghost use Rattle.tl_desk.specs.Core.{log_of, standing, latest_of, report_of, AllSettled, AreLinked, IsNew, IsSound, IsDesk};
 ghost use Rattle.tl_desk.specs.Ends.{HaveEnded, AllHaveEnded};
 
 use std::alloc::{AllocError, Global};
@@ -67,8 +67,10 @@ impl<M: Monitor> Desk<M> {
         // Each result that is stored is the pass of its window by what stands, from its own entry.
         ensures managers { spans.IsSound self.now.windows.spans }
         ensures monitors { AreWatches (standing self.now) self.now.windows.board }
+        // All of this, and that keys, owners and numbers rise.
+        ensures desk { IsDesk self.now }
     {
-        let _ = &self.boxes;
+        let _ = self.boxes.settlements();
         let _ = &self.reports;
         let _ = &self.tickets;
         let windows = self.windows.spans();

@@ -16,7 +16,7 @@ mod play;
 mod publish;
 mod recheck;
 
-pub use call::Call;
+pub use call::{Call, Outcome, Start};
 pub use desk::Desk;
 pub use fault::{PublishFault, RecheckFault};
 pub use play::{Reply, Step};

@@ -106,9 +106,11 @@ impl<M: Monitor> Desk<M> {
         let mut replies = replies;
         let mut steps = steps.into_iter();
         while let Some(step) = steps.next() {
+            let _ = self.log();
             let reply = self.answer(alloc, step, places);
             replies.push_reserved(reply);
         }
+        let _ = self.log();
         replies
     }
 
@@ -233,8 +235,10 @@ impl<M: Monitor> Desk<M> {
     {
         let mut places = places.into_iter();
         while let Some(place) = places.next() {
+            let _ = self.log();
             self.leave_one(place);
         }
+        let _ = self.log();
         places.destroy_empty();
     }
 

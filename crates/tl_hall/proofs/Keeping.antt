@@ -9,7 +9,7 @@ use lib.Seq.{set-get_or}
 use prog.Atomic.{either}
 use Rattle.atomic_table.specs.Table.{State, step, keeps, takes, gives, stepped, put_back, rest, Allows, Splits, Joins, opening}
 use Rattle.atomic_table.proofs.Lists.{at_set, set_here, set_else, set_again}
-use Rattle.tl_desk.specs.Core.{Core, IsNew}
+use Rattle.tl_desk.specs.Core.{Core, IsNew, IsDesk}
 use Rattle.tl_desk.specs.declared.call.Call.{Call}
 use Rattle.tl_topology.specs.Topology.{Topology}
 use Rattle.tl_hall.proofs.Running.{leads_short}
@@ -232,13 +232,13 @@ module _ (topo : Topology) where
       after : rest me.1 ≡ []
       after = ap rest bare
 
-  pub begins : (core : Core) → IsNew topo core → Kept topo (opening (0 ∷ 0 ∷ []) (Some core ∷ []) (newcomer topo))
-  begins core is = record {
+  pub begins : (core : Core) → IsNew topo core → IsDesk core → Kept topo (opening (0 ∷ 0 ∷ []) (Some core ∷ []) (newcomer topo))
+  begins core is desk = record {
     log = [];
     turn = 0;
     holder = 0;
     words = refl;
-    free = λ _. (core, refl, (core, is, refl));
+    free = λ _. (core, refl, (core, is, (desk, refl)));
     each = one;
     apart = alone;
     lone = first;

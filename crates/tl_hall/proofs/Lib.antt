@@ -7,3 +7,5 @@ pub mod Passing
 pub mod JobSteps
 pub mod Tellings
 pub mod Rounds
+pub mod Desks
+pub mod Touched

@@ -2,7 +2,7 @@
 use Rattle.std.proofs.Common.{◌≡◌, ℕ, ◌+◌, ◌*◌, Bool, true, false, List, [], ◌∷◌, ◌++◌, sym, refl, ap, ◌∙◌, subst, arith, one-mul}
 use Rattle.std.specs.Prelude.{Result, Ok, Err, IfOk, OnErr}
 use Rattle.atomic_table.specs.Seated.{TableId}
-use Rattle.tl_desk.specs.Core.{Core}
+use Rattle.tl_desk.specs.Core.{Core, IsDesk}
 use Rattle.tl_desk.specs.Steps.{Step}
 use Rattle.tl_desk.specs.declared.call.Call.{Call}
 use Rattle.tl_hall.proofs.Running.{leads_more}
@@ -15,9 +15,9 @@ use Rattle.tl_hall.proofs.Histories.{own-mine, own-other}
 use Rattle.tl_hall.proofs.Keeping.{above, even, odd}
 
 -- v before the call, w while the turn is held, m after it
-pub made : (z z' : TableId) (v : View) (w m : Sat) (c d : Core) (call : Call) (Told : Core → Core → Type 0) → z' ≡ z → Saw v w.0 → Leads v.topo w.0.seen c → IsOfHall call → Step c call d → Told c d
+pub made : (z z' : TableId) (v : View) (w m : Sat) (c d : Core) (call : Call) (Told : Core → Core → Type 0) → z' ≡ z → Saw v w.0 → Leads v.topo w.0.seen c → IsOfHall call → Step c call d → IsDesk d → Told c d
     → m ≡ (record w.0 { turn = false; seen = w.0.seen ++ entry w.0.number call ∷ [] }, []) → Made (passed z v) call Told (passed z' m.0)
-made z z' v w m c d call Told same saw leads of_hall step told is =
+made z z' v w m c d call Told same saw leads of_hall step desk told is =
     subst (λ (x : Sat). Made (passed z v) call Told (passed z' x.0)) (sym is) record {
       same = (same, saw.topo_is, saw.number_is, saw.stride_is, saw.sole_is);
       before = w.0.seen;
@@ -30,12 +30,12 @@ made z z' v w m c d call Told same saw leads of_hall step told is =
       led = leads;
       step = step;
       told = told;
-      leads = leads_more v.topo w.0.seen w.0.number c call d leads of_hall step;
+      leads = leads_more v.topo w.0.seen w.0.number c call d leads of_hall step desk;
     }
 
 -- The history behind a call, however its words are written.
-pub recorded_as : (now : View) (c d : Core) (call same : Call) → call ≡ same → Leads now.topo now.seen c → IsOfHall call → Step c call d → Leads now.topo (now.seen ++ entry now.number same ∷ []) d
-recorded_as now c d call same is leads of_hall step = subst (λ (k : Call). Leads now.topo (now.seen ++ entry now.number k ∷ []) d) is (leads_more now.topo now.seen now.number c call d leads of_hall step)
+pub recorded_as : (now : View) (c d : Core) (call same : Call) → call ≡ same → Leads now.topo now.seen c → IsOfHall call → Step c call d → IsDesk d → Leads now.topo (now.seen ++ entry now.number same ∷ []) d
+recorded_as now c d call same is leads of_hall step desk = subst (λ (k : Call). Leads now.topo (now.seen ++ entry now.number k ∷ []) d) is (leads_more now.topo now.seen now.number c call d leads of_hall step desk)
 
 pub written : (w m : Sat) (call same : Call) → call ≡ same → m ≡ (record w.0 { turn = false; seen = w.0.seen ++ entry w.0.number call ∷ [] }, []) → m ≡ (record w.0 { turn = false; seen = w.0.seen ++ entry w.0.number same ∷ [] }, [])
 written w m call same is now = subst (λ (k : Call). m ≡ (record w.0 { turn = false; seen = w.0.seen ++ entry w.0.number k ∷ [] }, [])) is now

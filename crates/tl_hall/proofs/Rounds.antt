@@ -13,6 +13,10 @@ use Rattle.tl_jobs.specs.declared.job.Job.TheVariants as job
 use Rattle.tl_desk.specs.Core.{Core}
 use Rattle.tl_desk.specs.declared.call.Call.{Call}
 use Rattle.tl_desk.specs.declared.call.Call.TheVariants as call
+use Rattle.tl_desk.specs.declared.call.Start.{Start}
+use Rattle.tl_desk.specs.declared.call.Start.TheVariants as start
+use Rattle.tl_desk.specs.declared.call.Outcome.{Outcome}
+use Rattle.tl_desk.specs.declared.call.Outcome.TheVariants as outcome
 use Rattle.tl_hall.specs.declared.entry.Entry.{Entry}
 use Rattle.tl_hall.specs.declared.working.Round.{Round}
 use Rattle.tl_hall.specs.declared.working.Round.TheVariants as round
@@ -80,37 +84,46 @@ worked_then p q r n m k a b =
 
 -- ---- what becomes of a job
 
+-- where nothing went out, or nothing came back checked
+abbrev no_start : Start
+no_start = start.Monitor (record { count = 0 })
+
+abbrev no_outcome : Outcome
+no_outcome = outcome.Monitor (record { count = 0 }) (record { count = 0 }) []
+
 module _ (ticket : ℕ) (window piece : Piece) (p q : PassData) (is : piece ≡ window) where
-  back_by : (came : Round) (call : Piece → Call) (Told : Core → Core → Type 0) → window_in came ≡ Some piece → map (entry p.number) (back_in ticket came) ≡ entry p.number (call piece) ∷ [] → IsOfWorker (call window) → Made p (call window) Told q
+  back_by : (came : Round) (found : Outcome) (call : Piece → Call) (Told : Core → Core → Type 0) → window_in came ≡ Some piece → map (entry p.number) (back_in ticket found came) ≡ entry p.number (call piece) ∷ [] → IsOfWorker (call window) → Made p (call window) Told q
       → CameBack ticket window p came q
-  back_by came call Told some calls work made = record {
+  back_by came found call Told some calls work made = record {
     same = made.same;
     saw = seen_more p q (call window) Told made;
     is = some ∙ ap (λ (w : Piece). Some w) is;
+    found = found;
     own_is = made.own_is ∙ ap (λ (w : Piece). own p.number p.seen ++ entry p.number (call w) ∷ []) (sym is) ∙ ap (λ (l : List Entry). own p.number p.seen ++ l) (sym calls);
     others = only_more p q (call window) Told work made;
   }
 
-  forfeited : (came : Round) (Answer : Core → Type 0) → window_in came ≡ Some piece → map (entry p.number) (back_in ticket came) ≡ [] → Looked p Answer q → CameBack ticket window p came q
+  forfeited : (came : Round) (Answer : Core → Type 0) → window_in came ≡ Some piece → map (entry p.number) (back_in ticket no_outcome came) ≡ [] → Looked p Answer q → CameBack ticket window p came q
   forfeited came Answer some calls look = record {
     same = look.same;
     saw = look.saw;
     is = some ∙ ap (λ (w : Piece). Some w) is;
+    found = no_outcome;
     own_is = look.own_is ∙ sym (append-nil (own p.number p.seen)) ∙ ap (λ (l : List Entry). own p.number p.seen ++ l) (sym calls);
     others = look.others;
   }
 
-  pub came_taken : (Told : Core → Core → Type 0) → Made p (call.HandIn ticket window true) Told q → CameBack ticket window p (round.Taken piece) q
-  came_taken Told made = back_by (round.Taken piece) (λ w. call.HandIn ticket w true) Told refl refl tt made
+  pub came_taken : (found : Outcome) (Told : Core → Core → Type 0) → Made p (call.HandIn ticket window found true) Told q → CameBack ticket window p (round.Taken piece) q
+  came_taken found Told made = back_by (round.Taken piece) found (λ w. call.HandIn ticket w found true) Told refl refl tt made
 
-  pub came_void : (Told : Core → Core → Type 0) → Made p (call.HandIn ticket window false) Told q → CameBack ticket window p (round.Void piece) q
-  came_void Told made = back_by (round.Void piece) (λ w. call.HandIn ticket w false) Told refl refl tt made
+  pub came_void : (found : Outcome) (Told : Core → Core → Type 0) → Made p (call.HandIn ticket window found false) Told q → CameBack ticket window p (round.Void piece) q
+  came_void found Told made = back_by (round.Void piece) found (λ w. call.HandIn ticket w found false) Told refl refl tt made
 
   pub came_strange : (Answer : Core → Type 0) → Looked p Answer q → CameBack ticket window p (round.Strange piece) q
   came_strange Answer look = forfeited (round.Strange piece) Answer refl refl look
 
   pub came_abandoned : (Told : Core → Core → Type 0) → Made p (call.Abandon ticket window) Told q → CameBack ticket window p (round.Abandoned piece) q
-  came_abandoned Told made = back_by (round.Abandoned piece) (λ w. call.Abandon ticket w) Told refl refl tt made
+  came_abandoned Told made = back_by (round.Abandoned piece) no_outcome (λ w. call.Abandon ticket w) Told refl refl tt made
 
   pub came_lost : (Answer : Core → Type 0) → Looked p Answer q → CameBack ticket window p (round.Lost piece) q
   came_lost Answer look = forfeited (round.Lost piece) Answer refl refl look
@@ -140,28 +153,30 @@ never_idle p q window (round.Abandoned w) e = tt
 never_idle p q window (round.Lost w) e = tt
 
 -- A job is taken, and comes back.
-pub once_behind : (p q r : PassData) (ticket : ℕ) (window : Piece) (came : Round) (Told : Core → Core → Type 0) → Made p (call.Take ticket window) Told q → CameBack ticket window q came r → WorkedOnce p came r
-once_behind p q r ticket window came Told made b =
-    let back : List Entry = map (entry p.number) (back_in ticket came) in
+pub once_behind : (p q r : PassData) (ticket : ℕ) (window : Piece) (from : Start) (came : Round) (Told : Core → Core → Type 0) → Made p (call.Take ticket window from) Told q → CameBack ticket window q came r → WorkedOnce p came r
+once_behind p q r ticket window from came Told made b =
+    let back : List Entry = map (entry p.number) (back_in ticket b.found came) in
     let number : q.number ≡ p.number = made.same.2 in
-    let behind : own p.number r.seen ≡ own p.number q.seen ++ back = subst (λ (n : ℕ). own n r.seen ≡ own n q.seen ++ map (entry n) (back_in ticket came)) number b.own_is in
-    let calls : map (entry p.number) (calls_in ticket came) ≡ entry p.number (call.Take ticket window) ∷ back =
-    ap (λ (o : Option Piece). map (entry p.number) (option_map_or (λ w. call.Take ticket w ∷ back_in ticket came) o [])) b.is in
+    let behind : own p.number r.seen ≡ own p.number q.seen ++ back = subst (λ (n : ℕ). own n r.seen ≡ own n q.seen ++ map (entry n) (back_in ticket b.found came)) number b.own_is in
+    let calls : map (entry p.number) (calls_in ticket from b.found came) ≡ entry p.number (call.Take ticket window from) ∷ back =
+    ap (λ (o : Option Piece). map (entry p.number) (option_map_or (λ w. call.Take ticket w from ∷ back_in ticket b.found came) o [])) b.is in
     record {
       same = (b.same.0 ∙ made.same.0, b.same.1 ∙ made.same.1, b.same.2 ∙ made.same.2, b.same.3 ∙ made.same.3, b.same.4 ∙ made.same.4);
-      saw = prefix_trans p.seen q.seen r.seen (seen_more p q (call.Take ticket window) Told made) b.saw;
+      saw = prefix_trans p.seen q.seen r.seen (seen_more p q (call.Take ticket window from) Told made) b.saw;
       ticket = ticket;
-      own_is = behind ∙ ap (λ (l : List Entry). l ++ back) made.own_is ∙ append_assoc (own p.number p.seen) (entry p.number (call.Take ticket window) ∷ []) back
+      from = from;
+      found = b.found;
+      own_is = behind ∙ ap (λ (l : List Entry). l ++ back) made.own_is ∙ append_assoc (own p.number p.seen) (entry p.number (call.Take ticket window from) ∷ []) back
           ∙ ap (λ (l : List Entry). own p.number p.seen ++ l) (sym calls);
-      others = λ is. only_trans p.seen q.seen r.seen (only_more p q (call.Take ticket window) Told tt made is) (b.others (made.same.4 ∙ is));
+      others = λ is. only_trans p.seen q.seen r.seen (only_more p q (call.Take ticket window from) Told tt made is) (b.others (made.same.4 ∙ is));
       idle = never_idle p r window came b.is;
     }
 
 pub once_none : (p q : PassData) → Looked p HasNone q → WorkedOnce p round.NoWindow q
-once_none p q look = record { same = look.same; saw = look.saw; ticket = 0; own_is = look.own_is ∙ sym (append-nil (own p.number p.seen)); others = look.others; idle = look }
+once_none p q look = record { same = look.same; saw = look.saw; ticket = 0; from = no_start; found = no_outcome; own_is = look.own_is ∙ sym (append-nil (own p.number p.seen)); others = look.others; idle = look }
 
 pub once_refused : (p q : PassData) (fault : TakeFault) → Looked p (IsUntaken fault) q → WorkedOnce p (round.Refused fault) q
-once_refused p q fault look = record { same = look.same; saw = look.saw; ticket = 0; own_is = look.own_is ∙ sym (append-nil (own p.number p.seen)); others = look.others; idle = look }
+once_refused p q fault look = record { same = look.same; saw = look.saw; ticket = 0; from = no_start; found = no_outcome; own_is = look.own_is ∙ sym (append-nil (own p.number p.seen)); others = look.others; idle = look }
 
 -- Each number has 64 bits.
 abbrev pub Fits : WorkCount → Type 0
@@ -172,14 +187,14 @@ same_count n fits = omega (arith, fits)
 
 -- A round as it is counted: these are its entries, all of them a worker's, and so many jobs were lost.
 module _ (p q : PassData) (n : WorkCount) (fits : Fits n) where
-  counted_as : (came : Round) (w : WorkedOnce p came q) (lost : ℕ) → AreOfWorker (map (entry p.number) (calls_in w.ticket came))
-      → (let added = map (entry p.number) (calls_in w.ticket came) in (0 + total one_take added ≡ total one_taken added + total one_void added + lost) × (total one_abandon added ≤ lost)
+  counted_as : (came : Round) (w : WorkedOnce p came q) (lost : ℕ) → AreOfWorker (map (entry p.number) (calls_in w.ticket w.from w.found came))
+      → (let added = map (entry p.number) (calls_in w.ticket w.from w.found came) in (0 + total one_take added ≡ total one_taken added + total one_void added + lost) × (total one_abandon added ≤ lost)
       × ((counted_with came n).taken ≡ counted n.taken (total one_taken added)) × ((counted_with came n).void ≡ counted n.void (total one_void added)) × ((counted_with came n).abandoned ≡ counted n.abandoned lost))
       → Worked 0 p n q (counted_with came n)
   counted_as came w lost only counts = record {
     same = w.same;
     saw = w.saw;
-    added = map (entry p.number) (calls_in w.ticket came);
+    added = map (entry p.number) (calls_in w.ticket w.from w.found came);
     own_is = w.own_is;
     only = only;
     lost = lost;

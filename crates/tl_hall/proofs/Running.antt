@@ -17,7 +17,7 @@ use Rattle.tl_inputs.proofs.LogLaws.{few_more}
 use Rattle.tl_inputs.specs.Log.{LogData}
 use Rattle.tl_tickets.specs.declared.tickets.Taken.{Taken}
 use Rattle.tl_tickets.specs.Tickets.{TicketsData, most_tickets}
-use Rattle.tl_desk.specs.Core.{Core, IsNew, log_of, standing, most_versions}
+use Rattle.tl_desk.specs.Core.{Core, IsNew, IsDesk, log_of, standing, most_versions}
 use Rattle.tl_desk.specs.Steps.{Step, Edits, Publishes}
 use Rattle.tl_desk.specs.declared.call.Call.{Call}
 use Rattle.tl_desk.specs.declared.call.Call.TheVariants as call
@@ -25,14 +25,22 @@ use Rattle.tl_hall.specs.declared.entry.Entry.{Entry}
 use Rattle.tl_hall.specs.History.{entry, call_of, IsOfHall, Runs, Leads}
 use Rattle.tl_hall.proofs.Tickets.{Window, live_at, IsQuiet, same_quiet, edited_quiet, none_live, GivesOne, take_gives, EndsOne, hand_in_ends, abandon_ends, CallsBack, recall_calls, one_less, one_more}
 
-pub runs_then : (ks : List Call) (c d e : Core) (k : Call) → Runs c ks d → IsOfHall k → Step d k e → Runs c (ks ++ k ∷ []) e
-runs_then [] c d e k r of_hall s = (of_hall, e, subst (λ (x : Core). Step x k e) (sym r) s, refl)
-runs_then (j ∷ ks) c d e k r of_hall s = (r.0, r.1, r.2, runs_then ks r.1 d e k r.3 of_hall s)
+pub runs_then : (ks : List Call) (c d e : Core) (k : Call) → Runs c ks d → IsOfHall k → Step d k e → IsDesk e → Runs c (ks ++ k ∷ []) e
+runs_then [] c d e k r of_hall s is = (r.0, of_hall, e, subst (λ (x : Core). Step x k e) (sym r.1) s, (is, refl))
+runs_then (j ∷ ks) c d e k r of_hall s is = (r.0, r.1, r.2, r.3, runs_then ks r.2 d e k r.4 of_hall s is)
+
+-- They end with a desk.
+pub runs_desk : (ks : List Call) (c d : Core) → Runs c ks d → IsDesk d
+runs_desk [] c d r = subst IsDesk r.1 r.0
+runs_desk (k ∷ ks) c d r = runs_desk ks r.2 d r.4
+
+pub leads_desk : (topo : Topology) (log : List Entry) (core : Core) → Leads topo log core → IsDesk core
+leads_desk topo log core leads = runs_desk (map call_of log) leads.0 core leads.2
 
 -- a history and one call more
-pub leads_more : (topo : Topology) (log : List Entry) (by : ℕ) (c : Core) (k : Call) (d : Core) → Leads topo log c → IsOfHall k → Step c k d → Leads topo (log ++ entry by k ∷ []) d
-leads_more topo log by c k d leads of_hall s =
-    (leads.0, leads.1, subst (λ (ks : List Call). Runs leads.0 ks d) (sym (map-append call_of log (entry by k ∷ []))) (runs_then (map call_of log) leads.0 c d k leads.2 of_hall s))
+pub leads_more : (topo : Topology) (log : List Entry) (by : ℕ) (c : Core) (k : Call) (d : Core) → Leads topo log c → IsOfHall k → Step c k d → IsDesk d → Leads topo (log ++ entry by k ∷ []) d
+leads_more topo log by c k d leads of_hall s is =
+    (leads.0, leads.1, subst (λ (ks : List Call). Runs leads.0 ks d) (sym (map-append call_of log (entry by k ∷ []))) (runs_then (map call_of log) leads.0 c d k leads.2 of_hall s is))
 
 off : false ≡ true → ⊥
 off e = true≢false (sym e)
@@ -298,15 +306,15 @@ step_counts c (call.Edit change number) d n of_hall s h = edited c (plain_change
 step_counts c (call.Attach monitor w number) d n of_hall s h = edited c (attach monitor w) number d n s.0 h
 step_counts c (call.Recheck count) d n of_hall s h = absurd of_hall
 step_counts c (call.Publish version) d n of_hall s h = published c version d n s h
-step_counts c (call.Take ticket piece) d n of_hall s h = took c ticket d n (take_gives c ticket piece d s) h
-step_counts c (call.HandIn ticket piece taken) d n of_hall s h = ends_one c d n (hand_in_ends c ticket piece taken d s) h
+step_counts c (call.Take ticket piece from) d n of_hall s h = took c ticket d n (take_gives c ticket piece from d s) h
+step_counts c (call.HandIn ticket piece found taken) d n of_hall s h = ends_one c d n (hand_in_ends c ticket piece found taken d s) h
 step_counts c (call.Abandon ticket piece) d n of_hall s h = ends_one c d n (abandon_ends c ticket piece d s) h
 step_counts c (call.Recall ticket) d n of_hall s h = called_back c ticket d n (recall_calls c ticket d s) h
 
 runs_count : (ks : List Call) (c d : Core) (n : ℕ) → Runs c ks d → Counts c n → Counts d (n + length ks)
-runs_count [] c d n r h = subst (λ (x : Core). Counts x (n + 0)) r (subst (λ (m : ℕ). Counts c m) (let e : n ≡ n + 0 = omega arith in e) h)
+runs_count [] c d n r h = subst (λ (x : Core). Counts x (n + 0)) r.1 (subst (λ (m : ℕ). Counts c m) (let e : n ≡ n + 0 = omega arith in e) h)
 runs_count (k ∷ ks) c d n r h =
-    subst (λ (m : ℕ). Counts d m) (let e : n + 1 + length ks ≡ n + suc (length ks) = omega arith in e) (runs_count ks r.1 d (n + 1) r.3 (step_counts c k r.1 n r.0 r.2 h))
+    subst (λ (m : ℕ). Counts d m) (let e : n + 1 + length ks ≡ n + suc (length ks) = omega arith in e) (runs_count ks r.2 d (n + 1) r.4 (step_counts c k r.2 n r.1 r.3 h))
 
 -- A history has fewer than 2^64 entries.
 pub leads_short : (topo : Topology) (log : List Entry) (core : Core) → Leads topo log core → length log < 2 ^ 64

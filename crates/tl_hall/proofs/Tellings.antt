@@ -64,16 +64,16 @@ step_tells c (call.Edit change number) d of_hall s = edited c (plain_change chan
 step_tells c (call.Attach monitor w number) d of_hall s = edited c (attach monitor w) number d s.0
 step_tells c (call.Recheck count) d of_hall s = absurd of_hall
 step_tells c (call.Publish version) d of_hall s = published c version d s
-step_tells c (call.Take ticket piece) d of_hall s = let made : GivesOne c ticket d = take_gives c ticket piece d s in still c d made.log made.reports
-step_tells c (call.HandIn ticket piece taken) d of_hall s = let made : EndsOne c d = hand_in_ends c ticket piece taken d s in still c d made.log made.reports
+step_tells c (call.Take ticket piece from) d of_hall s = let made : GivesOne c ticket d = take_gives c ticket piece from d s in still c d made.log made.reports
+step_tells c (call.HandIn ticket piece found taken) d of_hall s = let made : EndsOne c d = hand_in_ends c ticket piece found taken d s in still c d made.log made.reports
 step_tells c (call.Abandon ticket piece) d of_hall s = let made : EndsOne c d = abandon_ends c ticket piece d s in still c d made.log made.reports
 step_tells c (call.Recall ticket) d of_hall s = let made : CallsBack c ticket d = recall_calls c ticket d s in still c d made.log made.reports
 
 run_tells : (log : List Entry) (c d : Core) → Runs c (map call_of log) d → (told_of d ≡ told_after (told_of c) log) × ((log_of d).topo ≡ (log_of c).topo)
-run_tells [] c d r = (ap told_of (sym r), ap (λ (x : Core). (log_of x).topo) (sym r))
+run_tells [] c d r = (ap told_of (sym r.1), ap (λ (x : Core). (log_of x).topo) (sym r.1))
 run_tells (e ∷ es) c d r =
-    let one = step_tells c e.call r.1 r.0 r.2 in
-    let more = run_tells es r.1 d r.3 in
+    let one = step_tells c e.call r.2 r.1 r.3 in
+    let more = run_tells es r.2 d r.4 in
     (more.0 ∙ ap (λ (t : Told). told_after t es) one.0, more.1 ∙ one.1)
 
 new_tells : (topo : Topology) (core : Core) → IsNew topo core → told_of core ≡ nothing_told

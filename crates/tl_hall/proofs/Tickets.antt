@@ -30,6 +30,8 @@ use Rattle.tl_watches.specs.Watches.{WatchesData}
 use Rattle.tl_desk.specs.Core.{Core, IsNew, log_of}
 use Rattle.tl_desk.specs.Tickets.{window_of, watch_window_of}
 use Rattle.tl_desk.specs.Jobs.{Takes, TakesWatch, Accepts, AcceptsWatch, Ends, EndsWatch, Recalls, RecallsWatch, Unmarks, UnmarksWatch, key_for, watch_key_for, ended, given}
+use Rattle.tl_desk.specs.declared.call.Start.{Start}
+use Rattle.tl_desk.specs.declared.call.Outcome.{Outcome}
 use Rattle.tl_desk.specs.Steps.{Edits, TakesPiece, HandsInPiece, AbandonsPiece}
 
 -- a window of a manager, or one of a monitor
@@ -156,26 +158,26 @@ takes_watch_live old ticket key new s (OfManager q) t has = inr (same_still old.
 takes_watch_live old ticket key new s (OfMonitor q) t has =
     among OfMonitor q key t ticket (marked_one old.windows.board new.windows.board key (with_live (Some ticket)) (ap (λ (c : Core). c.windows.board) s.rest) ticket (λ p. refl) q t has)
 
-pub take_gives : (old : Core) (ticket : ℕ) (window_is : APiece) (new : Core) → TakesPiece old ticket window_is new → GivesOne old ticket new
-take_gives old ticket (piece.Manager owner window) new s = record {
-  few = s.few;
-  next = s.next;
+pub take_gives : (old : Core) (ticket : ℕ) (window_is : APiece) (from : Start) (new : Core) → TakesPiece old ticket window_is from new → GivesOne old ticket new
+take_gives old ticket (piece.Manager owner window) from new s = record {
+  few = s.0.few;
+  next = s.0.next;
   window_is = window_of (key_of owner window);
-  tickets = ap (λ (c : Core). c.tickets) s.rest;
-  log = ap (λ (c : Core). log_of c) s.rest;
-  reports = ap (λ (c : Core). c.reports) s.rest;
+  tickets = ap (λ (c : Core). c.tickets) s.0.rest;
+  log = ap (λ (c : Core). log_of c) s.0.rest;
+  reports = ap (λ (c : Core). c.reports) s.0.rest;
   window = OfManager (key_of owner window);
-  live = takes_live old ticket (key_of owner window) new s;
+  live = takes_live old ticket (key_of owner window) new s.0;
 }
-take_gives old ticket (piece.Monitor number window) new s = record {
-  few = s.few;
-  next = s.next;
+take_gives old ticket (piece.Monitor number window) from new s = record {
+  few = s.0.few;
+  next = s.0.next;
   window_is = watch_window_of (key_of number window);
-  tickets = ap (λ (c : Core). c.tickets) s.rest;
-  log = ap (λ (c : Core). log_of c) s.rest;
-  reports = ap (λ (c : Core). c.reports) s.rest;
+  tickets = ap (λ (c : Core). c.tickets) s.0.rest;
+  log = ap (λ (c : Core). log_of c) s.0.rest;
+  reports = ap (λ (c : Core). c.reports) s.0.rest;
   window = OfMonitor (key_of number window);
-  live = takes_watch_live old ticket (key_of number window) new s;
+  live = takes_watch_live old ticket (key_of number window) new s.0;
 }
 
 -- ---- a ticket ends
@@ -262,11 +264,11 @@ accepted_watch_ends old done new accepts =
       quiet = both_quiet old.windows new.windows (same_still old.windows.spans.board new.windows.spans.board (ap (λ (s : SpansData). s.board) made.1)) made.0;
     }
 
-pub hand_in_ends : (old : Core) (ticket : ℕ) (window_is : APiece) (taken : Bool) (new : Core) → HandsInPiece old ticket window_is taken new → EndsOne old new
-hand_in_ends old ticket (piece.Manager owner window) true new s = accepted_ends old s.0 new s.3
-hand_in_ends old ticket (piece.Manager owner window) false new s = job_ends old s.0 new s.4
-hand_in_ends old ticket (piece.Monitor number window) true new s = accepted_watch_ends old s.0 new s.3
-hand_in_ends old ticket (piece.Monitor number window) false new s = watch_ends old s.0 new s.4
+pub hand_in_ends : (old : Core) (ticket : ℕ) (window_is : APiece) (found : Outcome) (taken : Bool) (new : Core) → HandsInPiece old ticket window_is found taken new → EndsOne old new
+hand_in_ends old ticket (piece.Manager owner window) found true new s = accepted_ends old s.0 new s.2
+hand_in_ends old ticket (piece.Manager owner window) found false new s = job_ends old s.0.job new s.3
+hand_in_ends old ticket (piece.Monitor number window) found true new s = accepted_watch_ends old s.0 new s.2
+hand_in_ends old ticket (piece.Monitor number window) found false new s = watch_ends old s.0.job new s.3
 
 pub abandon_ends : (old : Core) (ticket : ℕ) (window_is : APiece) (new : Core) → AbandonsPiece old ticket window_is new → EndsOne old new
 abandon_ends old ticket (piece.Manager owner window) new s = job_ends old s.0 new s.3

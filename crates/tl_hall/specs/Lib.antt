@@ -3,3 +3,4 @@ pub mod Rule
 pub mod Passes
 pub mod Telling
 pub mod Working
+pub mod Desks

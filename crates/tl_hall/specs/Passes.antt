@@ -15,7 +15,7 @@ use Rattle.tl_jobs.specs.declared.job.Job.{Job}
 use Rattle.tl_jobs.specs.declared.job.Done.{Done}
 use Rattle.tl_jobs.specs.declared.job.HandIn.{HandIn}
 use Rattle.tl_jobs.specs.declared.job.HandIn.TheVariants as answer
-use Rattle.tl_jobs.specs.Works.{job_of, done_ticket, done_window}
+use Rattle.tl_jobs.specs.Works.{job_of}
 use Rattle.tl_pieces.specs.Pieces.{IsFirstFree}
 use Rattle.tl_plain.specs.Captured.{captures_after}
 use Rattle.tl_report.specs.Output.{ReportData}
@@ -23,9 +23,8 @@ use Rattle.tl_span.specs.States.{SameSpan}
 use Rattle.tl_tickets.specs.Tickets.{most_tickets}
 use Rattle.tl_desk.specs.Core.{Core, AllSettled, AreLinked, most_versions, log_of, latest_of, standing}
 use Rattle.tl_desk.specs.Jobs.{Gives, HasFree, HandsBack, TakesBack, IsFirstFreeWatch, IsLive, IsOldestLive, IsOutHere}
-use Rattle.tl_desk.specs.Steps.{Step}
+use Rattle.tl_desk.specs.Steps.{Step, hand_in_of}
 use Rattle.tl_desk.specs.declared.call.Call.{Call}
-use Rattle.tl_desk.specs.declared.call.Call.TheVariants as call
 use Rattle.tl_desk.specs.declared.fault.PublishFault.{PublishFault}
 use Rattle.tl_desk.specs.declared.fault.PublishFault.TheVariants as publish_fault
 use Rattle.tl_hall.specs.declared.entry.Entry.{Entry}
@@ -174,8 +173,8 @@ abbrev pub ComesTo : {M : Type 0} → Done M → HandIn M → Core → Core → 
 ComesTo done answer from to = HandsBack from done answer to
 
 abbrev pub HandsIn : {M : Type 0} → PassData → Done M → HandIn M → PassData → Type 0
-HandsIn p done answer.Taken q = Made p (call.HandIn (done_ticket done) (done_window done) true) (ComesTo done answer.Taken) q
-HandsIn p done answer.Void q = Made p (call.HandIn (done_ticket done) (done_window done) false) (ComesTo done answer.Void) q
+HandsIn p done answer.Taken q = Made p (hand_in_of done true) (ComesTo done answer.Taken) q
+HandsIn p done answer.Void q = Made p (hand_in_of done false) (ComesTo done answer.Void) q
 HandsIn p done (answer.Stranger same) q = (same ≡ done) × Looked p (IsStranger (job_of done)) q
 
 -- The ticket is no window's live one.

@@ -28,8 +28,8 @@ told_more told (call.Edit change number) = record told { edits = told.edits ++ p
 told_more told (call.Attach monitor w number) = record told { edits = told.edits ++ attach monitor w ∷ [] }
 told_more told (call.Publish version) = record told { versions = told.versions + 1; latest = Some (told.versions + 1, length told.edits) }
 told_more told (call.Recheck count) = told
-told_more told (call.Take ticket piece) = told
-told_more told (call.HandIn ticket piece taken) = told
+told_more told (call.Take ticket piece from) = told
+told_more told (call.HandIn ticket piece found taken) = told
 told_more told (call.Abandon ticket piece) = told
 told_more told (call.Recall ticket) = told
 

@@ -5,6 +5,8 @@ use mathlib.Core.List.{IsPrefix}
 use Rattle.tl_tickets.specs.declared.piece.Piece.{Piece}
 use Rattle.tl_desk.specs.declared.call.Call.{Call}
 use Rattle.tl_desk.specs.declared.call.Call.TheVariants as call
+use Rattle.tl_desk.specs.declared.call.Start.{Start}
+use Rattle.tl_desk.specs.declared.call.Outcome.{Outcome}
 use Rattle.tl_hall.specs.declared.entry.Entry.{Entry}
 use Rattle.tl_hall.specs.declared.working.Round.{Round}
 use Rattle.tl_hall.specs.declared.working.Round.TheVariants as round
@@ -14,17 +16,17 @@ use Rattle.tl_hall.specs.Passes.{PassData, Looked, HasNone, IsUntaken, IsSame}
 
 -- 1 for a window that went out
 abbrev pub one_take : Call → ℕ
-one_take (call.Take ticket piece) = 1
+one_take (call.Take ticket piece from) = 1
 one_take _ = 0
 
 -- 1 for one that was handed in and taken
 abbrev pub one_taken : Call → ℕ
-one_taken (call.HandIn ticket piece true) = 1
+one_taken (call.HandIn ticket piece found true) = 1
 one_taken _ = 0
 
 -- 1 for one that was handed in and void
 abbrev pub one_void : Call → ℕ
-one_void (call.HandIn ticket piece false) = 1
+one_void (call.HandIn ticket piece found false) = 1
 one_void _ = 0
 
 -- 1 for one that was abandoned
@@ -72,19 +74,19 @@ window_in (round.Strange window) = Some window
 window_in (round.Abandoned window) = Some window
 window_in (round.Lost window) = Some window
 
--- the call by which its job came back, if the hall knows it
-abbrev pub back_in : ℕ → Round → List Call
-back_in ticket round.NoWindow = []
-back_in ticket (round.Refused fault) = []
-back_in ticket (round.Taken window) = call.HandIn ticket window true ∷ []
-back_in ticket (round.Void window) = call.HandIn ticket window false ∷ []
-back_in ticket (round.Strange window) = []
-back_in ticket (round.Abandoned window) = call.Abandon ticket window ∷ []
-back_in ticket (round.Lost window) = []
+-- the call by which its job came back, with what it came to, if the hall knows it
+abbrev pub back_in : ℕ → Outcome → Round → List Call
+back_in ticket found round.NoWindow = []
+back_in ticket found (round.Refused fault) = []
+back_in ticket found (round.Taken window) = call.HandIn ticket window found true ∷ []
+back_in ticket found (round.Void window) = call.HandIn ticket window found false ∷ []
+back_in ticket found (round.Strange window) = []
+back_in ticket found (round.Abandoned window) = call.Abandon ticket window ∷ []
+back_in ticket found (round.Lost window) = []
 
 -- all calls of a round that made an entry
-abbrev pub calls_in : ℕ → Round → List Call
-calls_in ticket came = option_map_or (λ window. call.Take ticket window ∷ back_in ticket came) (window_in came) []
+abbrev pub calls_in : ℕ → Start → Outcome → Round → List Call
+calls_in ticket from found came = option_map_or (λ window. call.Take ticket window from ∷ back_in ticket found came) (window_in came) []
 
 -- Why no window went out: there was none, or the take was refused.
 abbrev pub IsIdle : PassData → Round → PassData → Type 0
@@ -101,7 +103,8 @@ pub record CameBack (ticket : ℕ) (window : Piece) (p : PassData) (came : Round
   pub same : IsSame p q
   pub saw : IsPrefix p.seen q.seen
   pub is : window_in came ≡ Some window
-  pub own_is : own p.number q.seen ≡ own p.number p.seen ++ map (entry p.number) (back_in ticket came)
+  pub found : Outcome
+  pub own_is : own p.number q.seen ≡ own p.number p.seen ++ map (entry p.number) (back_in ticket found came)
   pub others : p.sole ≡ true → OnlyWork p.seen q.seen
 
 -- One round: the pass has seen more, and its own entries are those that it had and the calls of the round, under one ticket. Where no window
@@ -110,7 +113,9 @@ pub record WorkedOnce (p : PassData) (came : Round) (q : PassData) : Type 0 wher
   pub same : IsSame p q
   pub saw : IsPrefix p.seen q.seen
   pub ticket : ℕ
-  pub own_is : own p.number q.seen ≡ own p.number p.seen ++ map (entry p.number) (calls_in ticket came)
+  pub from : Start
+  pub found : Outcome
+  pub own_is : own p.number q.seen ≡ own p.number p.seen ++ map (entry p.number) (calls_in ticket from found came)
   pub others : p.sole ≡ true → OnlyWork p.seen q.seen
   pub idle : IsIdle p came q
 

@@ -115,6 +115,7 @@ impl<M: Monitor> Hall<M> {
         let key = topo.copy(alloc)?;
         let mut slots = Vec::with_capacity(alloc, 1)?;
         let desk = Desk::new(alloc, topo)?;
+        let _ = desk.log();
         slots.push(Some(desk))?;
         match Table::new(alloc, &[0, 0], slots, &key) {
             Ok((table, seat)) => {

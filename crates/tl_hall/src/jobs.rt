@@ -1,11 +1,12 @@
 //! Windows that go out to be checked, and come back.
 
 ghost use Rattle.std.specs.Prelude.{◌≡◌, IfOk, IfErr, OnOk, OnErr, IfSome, IfNone, true, false};
-ghost use Rattle.tl_jobs.specs.Works.{ticket_of, window_of};
+ghost use Rattle.tl_desk.specs.Steps.{take_of, abandon_of, outcome_for};
 ghost use Rattle.tl_desk.specs.declared.call.Call.TheVariants as call;
 ghost use Rattle.tl_hall.specs.Passes.{Made, NoMore, Looked, Takes, HasNone, IsUntaken, IsStranger, IsAbandoned, HandsIn, IsDead, IsOldest};
 
 use crate::hall::{Access, Hall, Pass, Rights};
+use crate::rule::Came;
 use std::alloc::Global;
 use std::marker::Brand;
 use std::sync::Wait;
@@ -23,7 +24,7 @@ impl<M: Monitor> Hall<M> {
         pass: Access<M, K>,
     ) -> (Access<M, K>, Result<Option<Job<M>>, TakeFault>)
         requires { pass.hall ≡ self.now.hall }
-        ensures some { IfOk result.1 (λ found. IfSome found (λ job. Made pass (call.Take (ticket_of job) (window_of job)) (Takes job) result.0)) }
+        ensures some { IfOk result.1 (λ found. IfSome found (λ job. Made pass (take_of job) (Takes job) result.0)) }
         ensures none { IfOk result.1 (λ found. IfNone found (Looked pass HasNone result.0)) }
         ensures err { IfErr result.1 (λ fault. Looked pass (IsUntaken fault) result.0) }
     {
@@ -31,9 +32,8 @@ impl<M: Monitor> Hall<M> {
         let mut desk = self.enter(rt, &mut seat);
         match desk.take(alloc) {
             Ok(Some(job)) => {
-                let ticket = job.ticket();
-                let piece = job.piece();
-                self.leave_with::<Brand, (u64, Piece)>(&mut seat, desk, &(ticket, piece));
+                let _ = desk.log();
+                self.leave_with::<Brand, Job<M>>(&mut seat, desk, &job);
                 (Access { seat, rights }, Ok(Some(job)))
             }
             Ok(None) => {
@@ -58,12 +58,27 @@ impl<M: Monitor> Hall<M> {
         requires { pass.hall ≡ self.now.hall }
         ensures { HandsIn pass done result.1 result.0 }
     {
+        self.hand_in_as::<R, K, Brand>(rt, pass, done)
+    }
+
+    /// The same of a job whose outcome was picked.
+    fn hand_in_as<R: Wait, K: Rights, C: Came>(
+        &self,
+        rt: &R,
+        pass: Access<M, K>,
+        done: Done<M>,
+    ) -> (Access<M, K>, HandIn<M>)
+        requires hall { pass.hall ≡ self.now.hall }
+        requires came { outcome_for done ≡ C.found }
+        ensures { HandsIn pass done result.1 result.0 }
+    {
         let Access { mut seat, rights } = pass;
         let mut desk = self.enter(rt, &mut seat);
         let ticket = done.ticket();
         let piece = done.piece();
         match desk.hand_in(done) {
             HandIn::Taken => {
+                let _ = desk.log();
                 self.leave_with::<Brand, (u64, Piece, bool)>(
                     &mut seat,
                     desk,
@@ -72,6 +87,7 @@ impl<M: Monitor> Hall<M> {
                 (Access { seat, rights }, HandIn::Taken)
             }
             HandIn::Void => {
+                let _ = desk.log();
                 self.leave_with::<Brand, (u64, Piece, bool)>(
                     &mut seat,
                     desk,
@@ -95,7 +111,7 @@ impl<M: Monitor> Hall<M> {
         job: Job<M>,
     ) -> (Access<M, K>, Result<(), Job<M>>)
         requires { pass.hall ≡ self.now.hall }
-        ensures ok { OnOk result.1 (Made pass (call.Abandon (ticket_of job) (window_of job)) (IsAbandoned job) result.0) }
+        ensures ok { OnOk result.1 (Made pass (abandon_of job) (IsAbandoned job) result.0) }
         ensures back { IfErr result.1 (λ same. same ≡ job) }
         ensures err { OnErr result.1 (Looked pass (IsStranger job) result.0) }
     {
@@ -105,6 +121,7 @@ impl<M: Monitor> Hall<M> {
         let piece = job.piece();
         match desk.abandon(job) {
             Ok(()) => {
+                let _ = desk.log();
                 self.leave_with::<Brand, (u64, Piece)>(&mut seat, desk, &(ticket, piece));
                 (Access { seat, rights }, Ok(()))
             }
@@ -125,6 +142,7 @@ impl<M: Monitor> Hall<M> {
         let Access { mut seat, rights } = pass;
         let mut desk = self.enter(rt, &mut seat);
         if desk.recall(ticket) {
+            let _ = desk.log();
             self.leave_with::<Brand, u64>(&mut seat, desk, &ticket);
             (Access { seat, rights }, true)
         } else {

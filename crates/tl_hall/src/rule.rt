@@ -58,6 +58,20 @@ impl Asked for Brand {
     ghost change = { change_kind.Detach 0 };
 }
 
+/// What a job came to that is handed in. The caller picks it.
+pub trait Came {
+    ghost use Rattle.tl_desk.specs.declared.call.Outcome.{Outcome};
+
+    ghost found: { Outcome };
+}
+
+impl Came for Brand {
+    ghost use Rattle.std.specs.Prelude.{[]};
+    ghost use Rattle.tl_desk.specs.declared.call.Outcome.TheVariants as outcome_kind;
+
+    ghost found = { outcome_kind.Monitor (record { count = 0 }) (record { count = 0 }) [] };
+}
+
 /// Adds the call to the history.
 pub(crate) struct Record<C: Said> {
     said: PhantomData<C>,

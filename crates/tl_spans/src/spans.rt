@@ -4,7 +4,7 @@ ghost use Rattle.std.specs.Prelude.{◌≡◌, ◌<◌, [], length, IfOk, IfSome
 ghost use Rattle.std.specs.Bool.{Decides};
 ghost use Rattle.tl_pieces.specs.Keys.{change};
 ghost use Rattle.tl_pieces.specs.Marks.{pass_of};
-ghost use Rattle.tl_pieces.specs.Pieces.{piece_at, entry_for, with_pieces, with_result, IsSettled, IsFirstWanted, HasTrueEntry};
+ghost use Rattle.tl_pieces.specs.Pieces.{piece_at, entry_for, with_pieces, with_result, IsBoard, IsSettled, IsFirstWanted, HasTrueEntry};
 ghost use Rattle.tl_plain.specs.Captured.{areas_at};
 ghost use Rattle.tl_plain.specs.Found.{AreFound};
 ghost use Rattle.tl_definitions.specs.Captures.{captures_of};
@@ -75,8 +75,10 @@ impl Spans {
     pub fn log(&self) -> &Log
         ensures exact { result.now ≡ self.now.log }
         ensures kept { IsSound self.now }
+        // The keys of windows rise, and each is of a manager; so do the managers.
+        ensures board { IsBoard self.now.board }
     {
-        let _ = &self.pieces;
+        let _ = self.pieces.len();
         &self.log
     }
 

@@ -37,8 +37,8 @@ use Rattle.tl_workers.specs.Crew.{Leads as LeadsRun}
 -- ---- workers tell of no edit and of no report
 
 one_untold : (told : Told) (k : Call) → IsOfWorker k → told_more told k ≡ told
-one_untold told (call.Take ticket piece) is = refl
-one_untold told (call.HandIn ticket piece taken) is = refl
+one_untold told (call.Take ticket piece from) is = refl
+one_untold told (call.HandIn ticket piece found taken) is = refl
 one_untold told (call.Abandon ticket piece) is = refl
 one_untold told (call.Edit change number) is = absurd is
 one_untold told (call.Attach monitor w number) is = absurd is

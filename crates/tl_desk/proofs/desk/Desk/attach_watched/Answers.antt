@@ -31,7 +31,7 @@ invariant_of-self-in-Ok g c =
     let kept : Keeps (changed (standing old) e) old.boxes c.attach.new.self =
     attached_more (standing old) old.boxes c.attach.new.self c.args.number c.args.watched c.watch.result (sym c.watch.ensures.watch) few none c.in_ok-attach.ensures.ok c.self.invariant.attached c.self.invariant.known in
     let log : c.accept.new.self.spans.log ≡ record (log_of old) { edits = (log_of old).edits ++ e ∷ [] } = c.in-Ok.ensures.ok.spans.log in
-    let goes : Goes (log_of old) c.accept.new.self.spans.log =
+    let goes : Goes (log_of old) c.accept.new.self.spans.log (Some c.args.number) =
     goes_on (log_of old) c.accept.new.self.spans.log e log (stands old.windows.spans e c.accept.new.self.spans.log c.accept.new.self.spans.board log) (was_attached_more (standing old) c.args.number c.watch.result) in
     let ends : HaveEnded c.accept.new.self.spans.log c.attach.new.self =
     ends_attached (log_of old) c.accept.new.self.spans.log c.args.number c.watch.result c.args.watched old.boxes c.attach.new.self c.self.invariant.ends accepted goes c.in_ok-attach.ensures.ok in

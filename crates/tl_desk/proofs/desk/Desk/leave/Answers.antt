@@ -17,9 +17,9 @@ loop-place-preserved g c =
       len = omega (arith, one, all);
       left =
           left_more c.args.places.items c.args.self.now (into_iter_items c.loop-place.places) c.loop-place.self c.in-Some.place (into_iter_items c.next.new.self) c.leave_one.new.self
-          c.loop-place.invariant.left c.in-Some.ensures.items c.leave_one.ensures.left;
+          c.loop-place.invariant.left c.log.ensures.desk c.in-Some.ensures.items c.leave_one.ensures.left;
     }
 
 pub returns : goal.returns
 returns g c =
-    left_all c.args.places.items c.args.self.now (into_iter_items c.loop-place.places) c.loop-place.self c.loop-place.invariant.left (sym c.loop-place.invariant.len ∙ c.in_default.ensures.cases.0)
+    left_all c.args.places.items c.args.self.now (into_iter_items c.loop-place.places) c.loop-place.self c.loop-place.invariant.left c.log-2.ensures.desk (sym c.loop-place.invariant.len ∙ c.in_default.ensures.cases.0)

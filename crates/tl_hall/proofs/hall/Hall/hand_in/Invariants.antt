@@ -1,6 +1,6 @@
-use Rattle.tl_desk.specs.declared.call.Call.TheVariants as call
+use Rattle.tl_desk.specs.Steps.{outcome_for}
 use Rattle.tl_hall.proofs.hall.Hall.hand_in.Given as goal
 
--- the ticket, its window, and whether the result was taken
-abbrev pub ghosts-leave_with : goal.ghosts-leave_with
-ghosts-leave_with g a = record { call = call.HandIn a.told.now.0 a.told.now.1 a.told.now.2 }
+-- what the job came to
+abbrev pub ghosts-hand_in_as : goal.ghosts-hand_in_as
+ghosts-hand_in_as g a = record { found = outcome_for a.done }

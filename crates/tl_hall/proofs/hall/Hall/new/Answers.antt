@@ -12,4 +12,4 @@ new-requires-2 g c =
     let key = c.in_ok-key.key in
     let fresh : IsNew key c.in_ok-desk.desk = subst (λ (t : Topology). IsNew t c.in_ok-desk.desk) (sym c.in_ok-key.ensures) c.in_ok-desk.ensures in
     let one : c.push.new.self.items ≡ Some c.in_ok-desk.desk ∷ [] = grind (arith, common_steps) in
-    subst (λ (xs : List (Option Core)). Kept key (opening (0 ∷ 0 ∷ []) xs (newcomer key))) (sym one) (begins key c.in_ok-desk.desk fresh)
+    subst (λ (xs : List (Option Core)). Kept key (opening (0 ∷ 0 ∷ []) xs (newcomer key))) (sym one) (begins key c.in_ok-desk.desk fresh c.log.ensures.desk)

@@ -1,6 +1,6 @@
-use Rattle.tl_desk.specs.declared.call.Call.TheVariants as call
+use Rattle.tl_desk.specs.Steps.{take_of}
 use Rattle.tl_hall.proofs.hall.Hall.take.Given as goal
 
--- the ticket and its window
+-- the job that goes out
 abbrev pub ghosts-leave_with : goal.ghosts-leave_with
-ghosts-leave_with g a = record { call = call.Take a.told.now.0 a.told.now.1 }
+ghosts-leave_with g a = record { call = take_of a.told.now }

@@ -52,7 +52,7 @@ fn attach(
     }
 }
 
-/// What the cell of a monitor tells before its detach, and behind it.
+/// What the cell of a monitor tells before its detach, and after it.
 fn told_by_detach(
     alloc: Global,
     desk: &mut Desk<Budget>,

@@ -1,4 +1,4 @@
-//! What stands behind the log of a desk, listed and copied by calls that no run of the program makes.
+//! What stands after the log of a desk, listed and copied by calls that no run of the program makes.
 
 ghost use Rattle.std.specs.Ordering.{nat_cmp};
 ghost use Rattle.std.specs.List.Sorted.{IsStrictlySortedBy};
@@ -10,7 +10,7 @@ use std::test::Fail;
 use tl_inputs::{Inputs, Log};
 use tl_windows::Present;
 
-/// A copy of what stands behind a copy of a log.
+/// A copy of what stands after a copy of a log.
 fn copied(log: &Log) -> Result<Inputs, Fail> {
     let copy = log.copy()?;
     Ok(copy.inputs().copy()?)

@@ -37,7 +37,7 @@ pub enum Kind {
     Bzip2,
     /// Text of two bytes a character.
     Utf16,
-    /// Text behind a byte order mark.
+    /// Text after a byte order mark.
     Marked,
     /// A value change dump of a simulator.
     Waveform,

@@ -55,7 +55,7 @@ impl Look {
         }
     }
 
-    /// What a terminal is told behind the line.
+    /// What a terminal is told after the line.
     fn back(self) -> &'static str {
         match self {
             Look::Plain => "",

@@ -71,7 +71,7 @@ fn refusal_of(
     }
 }
 
-/// The sentence of a fragment's text behind a command.
+/// The sentence of a fragment's text after a command.
 fn text_sentence(
     alloc: Global,
     mark: Mark<'_>,
@@ -126,7 +126,7 @@ fn edit_sentence(
     sentence.text(alloc)
 }
 
-/// Puts the sentence of a refused command behind a text; these bytes follow its line.
+/// Puts the sentence of a refused command after a text; these bytes follow its line.
 fn push_refusal(
     alloc: Global,
     mark: Mark<'_>,

@@ -37,7 +37,7 @@ fn is_behind_end(text: &[u8], number: u64) -> bool {
 pub enum Home {
     /// In a file of its own.
     File,
-    /// Behind the line of a command.
+    /// After the line of a command.
     Script,
 }
 
@@ -73,7 +73,7 @@ fn cut_fragment_cause<'a>(own: &[u8], home: Home) -> Cause<'a> {
     }
 }
 
-/// Why a text goes on behind its line end.
+/// Why a text goes on after its line end.
 fn surplus_cause<'a>(home: Home) -> Cause<'a> {
     match home {
         Home::File => plain("more text behind the line 'end'", "nothing behind it"),

@@ -32,7 +32,7 @@ use Rattle.tl_windows.specs.Windows.{HasBeat}
 use Rattle.tl_desk.specs.Jobs.{IsLiveAt, IsLiveAtWatch, Unmarks, UnmarksWatch}
 use Rattle.tl_desk.proofs.TicketLemmas.{clash, one_value}
 
--- ---- one window behind an edit, which either touched it or not
+-- ---- one window after an edit, which either touched it or not
 
 abbrev made : {S R : Type 0} → Option (Pass S R) → Option ℕ → Piece S R
 made result live = record { result = result; live = live }
@@ -57,7 +57,7 @@ both_ways true false there back = absurd (let never : false ≡ true = there ref
 both_ways false true there back = absurd (let never : false ≡ true = back refl in cc)
 both_ways false false there back = refl
 
--- ---- windows of managers behind an edit
+-- ---- windows of managers after an edit
 
 -- A window is there exactly where it has a beat.
 span_there : (one other : SpansData) → IsSound one → IsSound other → IsBoard one.board → one.log ≡ other.log → (k : PieceKey) → is_some (piece_at k one.board) ≡ true → is_some (piece_at k other.board) ≡ true
@@ -91,7 +91,7 @@ edited_spans e one one_after other other_after log pieces first second sound who
         (λ not. second.stays k (λ touches. not (here k touches)) ∙ sym (ap (value_at k) pieces)) (first.result k) (first.ticket k) (λ touches. second.result k (there k touches)) (λ touches. second.ticket k (there k touches))
         (both_ways (is_some (piece_at k one_after.board)) (is_some (piece_at k other_after.board)) (span_there one_after other_after sound whole is logs k) (span_there other_after one_after whole sound has (sym logs) k))
 
--- ---- windows of monitors behind an edit
+-- ---- windows of monitors after an edit
 
 watch_there : (now : InputData) (one other : Board Tally (List Row)) → AreWatches now one → AreWatches now other → IsBoard one → (k : PieceKey) → is_some (piece_at k one) ≡ true → is_some (piece_at k other) ≡ true
 watch_there now one other are same is k there =

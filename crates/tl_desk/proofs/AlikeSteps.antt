@@ -357,15 +357,17 @@ module _ (one other : Core) (alike : AreAlike one other) (is : IsDesk one) (has 
   first_watch_alike found first =
       first_alike (λ l k p. IsHere one.boxes k.owner × IsFree SameTally one.windows.board.openings l k p) (λ l k p. IsHere other.boxes k.owner × IsFree SameTally other.windows.board.openings l k p)
       (λ l k p free. (sym (here_alike one.boxes other.boxes alike.boxes k.owner) ∙ free.0, (wanted_alike SameTally tally_then one.windows.board.openings other.windows.board.openings open_watches l k p free.1.0, free.1.1)))
-      (λ l k p free. (here_alike one.boxes other.boxes alike.boxes k.owner ∙ free.0,
-      (wanted_alike SameTally tally_then other.windows.board.openings one.windows.board.openings (watches_open (standing one) one.windows.board other.windows.board is.monitors watches) l k p free.1.0, free.1.1)))
+      (λ l k p free. (
+        here_alike one.boxes other.boxes alike.boxes k.owner ∙ free.0,
+        (wanted_alike SameTally tally_then other.windows.board.openings one.windows.board.openings (watches_open (standing one) one.windows.board other.windows.board is.monitors watches) l k p free.1.0, free.1.1),
+      ))
       None other.windows.board.pieces found (subst (λ es. IsFirst (λ l k p. IsHere one.boxes k.owner × IsFree SameTally one.windows.board.openings l k p) None es found) alike.monitors first)
 
   -- Both have checked all windows, or neither.
   pub settled_alike : AllSettled other → AllSettled one
   settled_alike settled = (
     subst (λ es. ChainsFrom SameSpan one.windows.spans.board.openings None es) (sym alike.managers)
-    (chains_alike SameSpan span_then other.windows.spans.board.openings one.windows.spans.board.openings open_spans None other.windows.spans.board.pieces settled.0),
+        (chains_alike SameSpan span_then other.windows.spans.board.openings one.windows.spans.board.openings open_spans None other.windows.spans.board.pieces settled.0),
     subst (λ es. ChainsFrom SameTally one.windows.board.openings None es) (sym alike.monitors)
-    (chains_alike SameTally tally_then other.windows.board.openings one.windows.board.openings open_watches None other.windows.board.pieces settled.1),
+        (chains_alike SameTally tally_then other.windows.board.openings one.windows.board.openings open_watches None other.windows.board.pieces settled.1),
   )

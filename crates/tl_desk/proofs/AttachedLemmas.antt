@@ -1,4 +1,4 @@
--- The monitors behind one edit more are those that are attached.
+-- The monitors after one edit more are those that are attached.
 use Rattle.std.proofs.Common.{◌≡◌, ℕ, ◌<◌, ◌⊎◌, inl, inr, true, false, cond, List, Option, Some, None, refl, sym, ap, subst, ◌∙◌}
 use Rattle.std.specs.Prelude.{slice_set, is_some, if◌then◌else◌, nat_le}
 use Rattle.std.specs.Arc.{arc_value}
@@ -32,7 +32,7 @@ use Rattle.tl_desk.specs.Steps.{boxes_after, without_tally, KeepsBoxes}
 use Rattle.tl_desk.specs.Tickets.{ticket_away}
 use Rattle.tl_desk.proofs.BoxLemmas.{IsPlaced, nat_exact, number_self, number_apart_back, same_number, set_placed, tuned_placed, place_detached, detached_placed, attached_placed, place_here, taken_placed}
 
--- ---- what stands behind an entry of monitors that comes
+-- ---- what stands after an entry of monitors that comes
 
 found_put : (n m : ℕ) (w : Option Watch) (monitors : List (ℕ × Option Watch)) → lookup (is_at (nat_cmp n)) (insert_entry nat_cmp monitors m w) ≡ cond (is_at (nat_cmp n) m) (Some w) (lookup (is_at (nat_cmp n)) monitors)
 found_put n m w monitors = lookup_put nat_cmp nat_cmp_total nat_exact n m w monitors
@@ -185,7 +185,7 @@ still now after old same are known = record {
   tickets = λ n. refl;
 }
 
--- Who was attached was so behind a change.
+-- Who was attached was so after a change.
 pub was_more : (now : InputData) (c : Change) (n : ℕ) → was_attached n now.monitors ≡ true → was_attached n (changed now (plain_change c)).monitors ≡ true
 was_more now (change.Add f) n was = ap (was_attached n) (kept_by_fragments now (arc_value f).link (λ link fs. put_in (recorded link (arc_value f)) fs)) ∙ was
 was_more now (change.Replace f) n was = ap (was_attached n) (kept_by_fragments now (arc_value f).link (λ link fs. put_in (recorded link (arc_value f)) (without link (arc_value f).number fs))) ∙ was
@@ -217,7 +217,7 @@ was_before now (attach m w) n was = put_back m n (Some w) now.monitors was
 was_before now (retune m limit) n was = put_back m n (option_map (λ w. retuned w limit) (watch_at m now.monitors)) now.monitors was
 was_before now (detach m) n was = put_back m n None now.monitors was
 
--- Behind a change the monitors are those that are attached, where it reached them.
+-- After a change the monitors are those that are attached, where it reached them.
 pub attached_after : (now : InputData) (c : Change) (number : ℕ) (old : BoxesData) → IsStrictlySortedBy nat_cmp (keys_of old.slots) → AreAttached now old → AreKnown now old
     → Keeps (changed now (plain_change c)) old (boxes_after (plain_change c) number old)
 attached_after now (change.Add f) number old order are known = still now (changed now (plain_change (change.Add f))) old (kept_by_fragments now (arc_value f).link (λ link fs. put_in (recorded link (arc_value f)) fs)) are known

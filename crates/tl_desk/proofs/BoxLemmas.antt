@@ -1,4 +1,4 @@
--- Where monitors are, behind one call.
+-- Where monitors are, after one call.
 use Rattle.std.proofs.Common.{◌≡◌, ℕ, ◌⊎◌, inl, inr, true, false, cond, Bool, Option, Some, None, refl, sym, ap, subst, ◌∙◌, arith, Equal, Ordering, Less, Greater}
 use Rattle.std.specs.Prelude.{is_some}
 use Rattle.std.specs.Option.{option_map, option_map_or, option_and_then, IsSome}

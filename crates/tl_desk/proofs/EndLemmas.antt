@@ -1,4 +1,4 @@
--- What the monitors told that ended, behind one step more.
+-- What the monitors told that ended, after one step more.
 use Rattle.std.proofs.Common.{◌≡◌, ℕ, zero, suc, ◌+◌, ◌≤◌, ◌⊎◌, inl, inr, true, false, Bool, List, [], ◌∷◌, ◌++◌, Option, Some, None, length, refl, sym, ap, subst, ◌∙◌, arith}
 use Rattle.std.specs.Prelude.{slice_get, is_some, if◌then◌else◌, nat_le}
 use Rattle.std.specs.Option.{option_map, option_map_or, option_and_then}
@@ -37,7 +37,7 @@ use Rattle.tl_desk.proofs.TicketLemmas.{clash, one_value}
 left_more : (log : LogData) (e : AnEdit) (k : ℕ) → k ≤ length log.edits → left_by (record log { edits = log.edits ++ e ∷ [] }) k ≡ left_by log k
 left_more log e k within = ap (inputs_after log.topo) (take-append-le k log.edits (e ∷ []) within)
 
--- Behind one edit more a monitor's end is what it was.
+-- After one edit more a monitor's end is what it was.
 pub end_more : (log new : LogData) (e : AnEdit) → new ≡ record log { edits = log.edits ++ e ∷ [] } → (n : ℕ) (w : Watch) (edit : ℕ) → IsEndOf log n w edit → IsEndOf new n w edit
 end_more log new e is n w edit end = subst (λ l. IsEndOf l n w edit) (sym is) (record {
   before = end.before;
@@ -70,7 +70,7 @@ end_now log new e m w is had none = record {
 
 -- ---- one who told more
 
--- What is found behind one more is the last, or stood there before.
+-- What is found after one more is the last, or stood there before.
 found_last : (es : List (ℕ × Settlement)) (x : ℕ × Settlement) (at : ℕ) (e : ℕ × Settlement) → slice_get (es ++ x ∷ []) at ≡ Some e → ((at ≡ length es) × (x ≡ e)) ⊎ (slice_get es at ≡ Some e)
 found_last [] x zero e is = inl (refl, one_value (Some x) x e refl is)
 found_last [] x (suc at) e is = absurd (let never : None ≡ Some e = is in cc)
@@ -97,7 +97,7 @@ nobody m n is = absurd (let never : None ≡ Some n = is in cc)
 abbrev pub AreClosing : LogData → BoxesData → Type 0
 AreClosing log boxes = (n edit : ℕ) (away : Away) → away_at n boxes.slots ≡ Some away → away.closing ≡ Some edit → IsEndOf log n away.watch edit
 
--- Behind the edits of the new log ends are what they were, and who was attached was so; but for one monitor no other was.
+-- After the edits of the new log ends are what they were, and who was attached was so; but for one monitor no other was.
 pub record Goes (log new : LogData) (more : Option ℕ) : Type 0 where
   pub was : (n : ℕ) → was_attached n (inputs_after log.topo log.edits).monitors ≡ true → was_attached n (inputs_after new.topo new.edits).monitors ≡ true
   pub ends : (n : ℕ) (w : Watch) (edit : ℕ) → IsEndOf log n w edit → IsEndOf new n w edit

@@ -1,4 +1,4 @@
--- What all monitors told, behind the end of those that were left.
+-- What all monitors told, after the end of those that were left.
 use Rattle.std.proofs.Common.{◌≡◌, ℕ, zero, suc, ◌+◌, ◌<◌, ◌⊎◌, inl, inr, true, false, Bool, cond, List, [], ◌∷◌, ◌++◌, Option, Some, None, map, length, refl, sym, ap, subst, ◌∙◌, arith, Less}
 use Rattle.std.specs.Prelude.{slice_get}
 use Rattle.std.specs.BTreeMap.{is_at}
@@ -23,7 +23,7 @@ use Rattle.tl_desk.specs.Ends.{IsEndOf, IsLastOf, AllHaveEnded}
 use Rattle.tl_desk.proofs.BoxLemmas.{number_exact, number_self, number_apart}
 use Rattle.tl_desk.proofs.TicketLemmas.{clash}
 
--- What is found in two lists is in the first, or so far behind it in the second.
+-- What is found in two lists is in the first, or so far after it in the second.
 found_both : {X : Type 0} (xs ys : List X) (at : ℕ) (e : X) → slice_get (xs ++ ys) at ≡ Some e → (slice_get xs at ≡ Some e) ⊎ ((k : ℕ) × (at ≡ length xs + k) × (slice_get ys k ≡ Some e))
 found_both [] ys at e is = inr (at, (let same : at ≡ 0 + at = omega arith in same), is)
 found_both (x ∷ xs) ys zero e is = inl is

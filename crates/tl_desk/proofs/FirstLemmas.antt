@@ -67,7 +67,7 @@ module _ {S R : Type 0} (H : ℕ → Type 0) (F : Option (ℕ × Option S) → P
           go true t low differ = absurd (differ (eqb-true k.owner e.0.owner t))
           go false t low differ = grind (arith, nat_tests)
 
-  -- The owner of the first one is none of them: all of them come behind it.
+  -- The owner of the first one is none of them: all of them come after it.
   pub pass_over : (o : ℕ) (k : PieceKey) (l : Option (ℕ × Option S)) (es : List (PieceKey × Piece S R)) → Rises es → AreFrom o l es → IsFrom o l es (Some k) → (H k.owner → ⊥) → AreFrom (k.owner + 1) l es
   pass_over o k l [] s from first not = tt
   pass_over o k l (e ∷ es) s from (inl first) not =

@@ -1,4 +1,4 @@
--- Where no monitor is out, none is behind a call that gives no job.
+-- Where no monitor is out, none is after a call that gives no job.
 use Rattle.std.proofs.Common.{◌≡◌, ℕ, inl, inr, true, false, List, [], ◌∷◌, Option, Some, None, refl, sym, ap, subst, ◌∙◌}
 use Rattle.std.specs.Prelude.{is_some}
 use Rattle.std.specs.Option.{option_map, option_and_then}

@@ -1,4 +1,4 @@
--- Desks behind a call on jobs.
+-- Desks after a call on jobs.
 use Rattle.std.proofs.Common.{◌≡◌, ℕ, ◌+◌, ◌⊎◌, inl, inr, List, Option, Some, None, length, refl, sym, ap, subst, ◌∙◌}
 use Rattle.std.specs.Prelude.{is_some, option_map, true}
 use Rattle.std.specs.List.{AllByRecursion}

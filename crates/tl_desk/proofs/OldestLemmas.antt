@@ -36,7 +36,7 @@ all_left core sound = record {
     go ticket (key, inl live) = let own = sound.tickets.live key ticket live in found_some (taken_at ticket core.tickets.out) own.taken own.is
     go ticket (key, inr live) = let own = sound.tickets.watched key ticket live in found_some (taken_at ticket core.tickets.out) own.taken own.is
 
--- Those that stand behind a number in order are above it.
+-- Those that stand after a number in order are above it.
 above : (first ticket : ℕ) (es : List (ℕ × Taken)) → All (λ q. nat_cmp first q ≡ Less) (keys_of es) → is_some (taken_at ticket es) ≡ true → first < ticket
 above first ticket [] all found = absurd (let never : false ≡ true = found in cc)
 above first ticket ((k, v) ∷ es) all found = go (λ f. above first ticket es (All-tail (λ q. nat_cmp first q ≡ Less) k (keys_of es) all) f) (is_at (nat_cmp ticket) k) refl found

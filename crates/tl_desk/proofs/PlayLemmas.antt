@@ -55,7 +55,7 @@ module _ {M : Type 0} where
         | inr h ↦ inr ((λ e. h.0 (omega (arith, e))), h.1)
       ]
 
-  -- Behind one more place a job that is found is the last one's, or stood there before.
+  -- After one more place a job that is found is the last one's, or stood there before.
   pub found_more : (places : List (Place M)) (thing : Place M) (other : ℕ) (job : Job M) → job_at other (places ++ thing ∷ []) ≡ Some job
       → ((other ≡ length places) × (job_of thing ≡ Some job)) ⊎ (job_at other places ≡ Some job)
   found_more [] thing zero job is = inl (refl, is)
@@ -160,7 +160,7 @@ module _ {M : Type 0} where
   first_out (place.Done (a_done.Monitor done)) places core are = are.each 0 (a_job.Monitor done.job) refl
   first_out place.Empty places core are = tt
 
-  -- Behind a call all jobs are still out, or all but one.
+  -- After a call all jobs are still out, or all but one.
   pub out_kept : (places : List (Place M)) (old new : Core) → ((job : Job M) → IsOutHere old job → IsOutHere new job) → AreOut places old → AreOut places new
   out_kept places old new stays are = record {
     each = λ at job is. stays job (are.each at job is);
@@ -181,7 +181,7 @@ module _ {M : Type 0} where
             | inr h ↦ h
           ]
 
-  -- A job that is given gets a place behind the last one, under a ticket that none had.
+  -- A job that is given gets a place after the last one, under a ticket that none had.
   pub out_given : (places : List (Place M)) (job : Job M) (old new : Core) → ticket_of job ≡ old.tickets.last + 1 → AreTickets old.tickets → IsOutHere new job
       → ((one : Job M) → (ticket_of job ≡ ticket_of one → ⊥) → IsOutHere old one → IsOutHere new one) → AreOut places old → AreOut (places ++ place.Job job ∷ []) new
   out_given places job old new next are_tickets fresh stays are = record {
@@ -209,13 +209,13 @@ module _ {M : Type 0} where
       own_of at other one same (inr h) (inl k) equal = absurd (newer at same one k.1 h (sym equal))
       own_of at other one same (inr h) (inr k) equal = are.own at other one same h k equal
 
--- ---- jobs behind a call
+-- ---- jobs after a call
 
 -- What is out for a window is so still.
 out_still : (t : ℕ) (p : APiece) (out after : List (ℕ × Taken)) → taken_at t after ≡ taken_at t out → IsOutFor t p out → IsOutFor t p after
 out_still t p out after same for = (for.0, same ∙ for.1, for.2)
 
--- The monitors behind one that came back.
+-- The monitors after one that came back.
 others_out : (old new : Core) (j : MonitorJobData) → IsBoxes old.boxes → IsOwn old j → new.boxes ≡ brought_back j.task.number j.task.held old.boxes → (n : ℕ) → ((w : ℕ) → monitor_piece j ≡ piece.Monitor n w → ⊥)
     → option_map (λ (a : Away). a.taken) (away_at n new.boxes.slots) ≡ option_map (λ (a : Away). a.taken) (away_at n old.boxes.slots)
 others_out old new j order own is n other = go (away_at j.task.number old.boxes.slots) refl own.watch
@@ -334,7 +334,7 @@ module _ {M : Type 0} (old new : Core) where
   given_next (a_job.Manager j) gives = gives.0.next
   given_next (a_job.Monitor j) gives = gives.0.next
 
--- ---- places behind a call
+-- ---- places after a call
 
 module _ {M : Type 0} where
   pub out_taken : (places : List (Place M)) (job : Job M) (old new : Core) → IsSound old → AreOut places old → Gives old (Some job) new → AreOut (places ++ place.Job job ∷ []) new

@@ -1,4 +1,4 @@
--- Reports behind one edit more, and one report more.
+-- Reports after one edit more, and one report more.
 use Rattle.std.proofs.Common.{◌≡◌, ℕ, zero, suc, ◌+◌, ◌-◌, ◌<◌, ◌≤◌, true, List, [], ◌∷◌, ◌++◌, Option, Some, None, Bor, length, take, get_or, nat_lt, sym, ap, subst, ◌∙◌, arith}
 use Rattle.std.specs.Prelude.{slice_get, is_some}
 use Rattle.std.specs.Option.{IfSome}
@@ -54,7 +54,7 @@ pub next_version : (from : ℕ) (reports : List ReportData) (report : ReportData
 next_version from [] report are is = (let at : report.version ≡ from + 0 = is in let same : report.version ≡ from = omega arith in same, tt)
 next_version from (r ∷ reports) report are is = (are.0, next_version (suc from) reports report are.1 (let at : report.version ≡ from + suc (length reports) = is in omega arith))
 
--- The report at a place has the version behind it.
+-- The report at a place has the version after it.
 pub version_at : (from : ℕ) (reports : List ReportData) (place : ℕ) (report : ReportData) → AreVersions from reports → slice_get reports place ≡ Some report → report.version ≡ from + place
 version_at from [] place report are found = cc
 version_at from (r ∷ reports) zero report are found = let same : r ≡ report = (let both : Some r ≡ Some report = found in cc) in let at : report.version ≡ from = ap (λ (x : ReportData). x.version) (sym same) ∙ are.0 in omega arith

@@ -43,7 +43,7 @@ one_left m h g Is old new here is left = record {
   others = is.others;
 }
 
--- ---- what a window is to start from, behind the check of another
+-- ---- what a window is to start from, after the check of another
 
 module _ {S R : Type 0} (o : ℕ) (q k : PieceKey) (f : Piece S R → Piece S R) (apart : k.owner ≡ o → ⊥) where
   not_own : (x : PieceKey) → k ≡ x → (x.owner == o) ≡ false
@@ -77,7 +77,7 @@ module _ {S R : Type 0} (o : ℕ) (q k : PieceKey) (f : Piece S R → Piece S R)
       behind true rest = ap (λ x. option_or x (cond (e.0.owner == o) (exit_of e.1.result) None)) rest
       behind false rest = rest
 
--- A monitor stands amid a window as before, behind the check of this window or of one of another monitor.
+-- A monitor stands amid a window as before, after the check of this window or of one of another monitor.
 module _ (old : WatchesData) (key : PieceKey) (new : WatchesData) (checked : ChecksWatch old key new) where
   seen_in : (q : PieceKey) → last_exit q.owner (before q (change key (with_checked checked.result) old.board.pieces)) ≡ last_exit q.owner (before q old.board.pieces) → entry_for q new.board ≡ entry_for q old.board
   seen_in q same = ap (λ (d : WatchesData). entry_for q d.board) checked.rest ∙ ap (λ x. option_or x (opening_of q.owner old.board.openings)) same

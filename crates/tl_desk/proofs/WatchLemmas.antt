@@ -23,7 +23,7 @@ checked_one keys start old mid new found key way first is ready same checked =
 pub first_is_here : (boxes : BoxesData) (board : Board Tally (List Row)) (found : Option PieceKey) (key : PieceKey) → NoneIsOut boxes board → IsFirstWanted SameTally board found → found ≡ Some key → IsOut boxes key.owner → ⊥
 first_is_here boxes board found key none first is = first_other SameTally board.openings (IsOut boxes) key None board.pieces none (subst (IsFirstWanted SameTally board) is first)
 
--- Behind its check none that is wanted is of a monitor that is out.
+-- After its check none that is wanted is of a monitor that is out.
 pub none_is_out : (boxes : BoxesData) (old mid new : WatchesData) (found : Option PieceKey) (key : PieceKey) → NoneIsOut boxes old.board → IsFirstWanted SameTally old.board found → found ≡ Some key → mid ≡ old → ChecksWatch mid key new
     → NoneIsOut boxes new.board
 none_is_out boxes old mid new found key none first is same checked =

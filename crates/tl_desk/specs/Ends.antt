@@ -10,7 +10,7 @@ use Rattle.tl_inputs.specs.Log.{LogData, inputs_after}
 use Rattle.tl_monitor.specs.declared.monitor.Settlement.{Settlement}
 use Rattle.tl_desk.specs.Tickets.{left_by}
 
--- The edit of this number detached the monitor: just before it the monitor had this watch, and behind it none.
+-- The edit of this number detached the monitor: just before it the monitor had this watch, and after it none.
 pub record IsEndOf (log : LogData) (number : ℕ) (w : Watch) (edit : ℕ) : Type 0 where
   pub before : ℕ
   pub next : edit ≡ before + 1

@@ -47,7 +47,7 @@ with_spans spans core = record core { windows = record core.windows { spans = sp
 abbrev pub ended : ℕ → TicketsData → TicketsData
 ended ticket tickets = record tickets { out = remove_entry (is_at (nat_cmp ticket)) tickets.out }
 
--- a ticket that is given for a window behind so many edits
+-- a ticket that is given for a window after so many edits
 abbrev pub given : Piece → ℕ → TicketsData → TicketsData
 given piece edits tickets = record { out = insert_entry nat_cmp tickets.out (tickets.last + 1) (record { piece = piece; edits = edits }); last = tickets.last + 1 }
 

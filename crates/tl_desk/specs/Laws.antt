@@ -24,7 +24,7 @@ IsNoEdit (call.HandIn ticket piece found taken) = Unit {0}
 IsNoEdit (call.Abandon ticket piece) = Unit {0}
 IsNoEdit (call.Recall ticket) = Unit {0}
 
--- Where all windows are settled, they are so behind each call that is no edit.
+-- Where all windows are settled, they are so after each call that is no edit.
 abbrev pub OnlyEditsUnsettle : Type 0
 OnlyEditsUnsettle = (old new : Core) (made : Call) → Step old made new → IsNoEdit made → AllSettled old → AllSettled new
 

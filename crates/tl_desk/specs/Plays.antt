@@ -102,7 +102,7 @@ abbrev pub GivesNothing : Core → Core → Type 0
 GivesNothing old new = IsFirstFree SameSpan old.windows.spans.board None × IsFirstFreeWatch old None × (new ≡ old)
 
 module _ {M : Type 0} where
-  -- A job that is given stands in the place behind the last one.
+  -- A job that is given stands in the place after the last one.
   abbrev pub AnswersTake : List (Place M) → Core → Reply → List (Place M) → Core → Type 0
   AnswersTake places old (reply.Took ticket) left new = (job : Job M) × (ticket_of job ≡ ticket) × Gives old (Some job) new × (left ≡ places ++ place.Job job ∷ [])
   AnswersTake places old reply.TookNone left new = GivesNothing old new × (left ≡ places)

@@ -3,7 +3,7 @@
 ghost use Rattle.tl_desk.specs.Alike.{CallsKeepDesksAlike};
 ghost use Rattle.tl_desk.specs.Laws.{OnlyEditsUnsettle, RecallsEndOne, MonitorsAreAccountedFor, BlankWindowsAreGiven};
 
-/// Where all windows are settled, they are so behind each call that is no edit: only an accepted edit makes a desk unsettled.
+/// Where all windows are settled, they are so after each call that is no edit: only an accepted edit makes a desk unsettled.
 pub fn only_edits_unsettle()
     ensures { OnlyEditsUnsettle }
 {}

@@ -89,7 +89,7 @@ impl<M: Monitor> Desk<M> {
         Ok(replies)
     }
 
-    /// Runs steps, one after the other, and puts the reply of each behind those before.
+    /// Runs steps, one after the other, and puts the reply of each after those before.
     fn run(
         &mut self,
         alloc: Global,

@@ -101,7 +101,7 @@ impl<M: Monitor> Desk<M> {
     /// by the beats before them. The tickets of these windows end; every other result and ticket stays. BoxOut with the lowest
     /// number of a monitor that isn't settled and is out, where there is one: then nothing has changed. Memory where there is none
     /// and memory is refused: then some of these windows have their results, and no tickets, and all else is as it was, but for the
-    /// tallies of monitors, each of which is as it was, or that behind some first beats of one of the monitor's windows.
+    /// tallies of monitors, each of which is as it was, or that after some first beats of one of the monitor's windows.
     pub fn recheck_now(&mut self, alloc: Global) -> Result<u64, RecheckFault>
         ensures step { IfOk result (λ count. Step self.old (call.Recheck count) self.new) }
         ensures here { OnOk result (IsFirstOut self.old None) }

@@ -1,4 +1,4 @@
-//! Times windows that go out, are checked and come back, each behind an edit that touches it, on desks of few and of many windows.
+//! Times windows that go out, are checked and come back, each after an edit that touches it, on desks of few and of many windows.
 //! Without words it does a few such rounds, and tells how many windows were taken in.
 #![tactic(auto)]
 

@@ -26,7 +26,7 @@ pub record IsMonitorDone (done : MonitorDoneData) : Type 0 where
   pub pass : IsWatchPassOf done.job.task done.result
   pub entry : done.result.entry ≡ done.job.task.entry
 
--- It is the same job, and its monitor holds the same but for the tally, which is that behind some first beats of the job, or as it was.
+-- It is the same job, and its monitor holds the same but for the tally, which is that after some first beats of the job, or as it was.
 pub record SameJob (job back : MonitorJobData) : Type 0 where
   pub ticket : back.ticket ≡ job.ticket
   pub task : SameButTally job.task back.task

@@ -29,7 +29,7 @@ module _ {M : Type 0} where
   abbrev pub done_window : Done M → Piece
   done_window own = window_of (job_of own)
 
-  -- The same job comes back; of a window of a monitor the monitor holds the same but for its tally, which is that behind some first beats of
+  -- The same job comes back; of a window of a monitor the monitor holds the same but for its tally, which is that after some first beats of
   -- the job, or as it was.
   abbrev pub ComesBack : Job M → Job M → Type 0
   ComesBack (job.Manager old) (job.Manager new) = new ≡ old

@@ -99,7 +99,7 @@ impl<M: Monitor> Done<M> {
 }
 
 /// Checks a job: its ticket and its window stay, and so does a monitor but for its tally. For want of memory the same job comes
-/// back, a monitor with the tally behind some first of its beats, or with the one that it had.
+/// back, a monitor with the tally after some first of its beats, or with the one that it had.
 pub fn work<M: Monitor>(alloc: Global, job: Job<M>) -> Result<Done<M>, Job<M>>
     ensures ok { IfOk result (IsDoneFrom job) }
     ensures pass { IfOk result IsChecked }

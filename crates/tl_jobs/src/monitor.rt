@@ -141,7 +141,7 @@ impl<M: Monitor> MonitorDone<M> {
     }
 }
 
-/// Checks a job. For want of memory the same job comes back, its monitor with the tally behind some first of its beats, or with the
+/// Checks a job. For want of memory the same job comes back, its monitor with the tally after some first of its beats, or with the
 /// one that it had.
 pub(crate) fn work_monitor<M: Monitor>(
     alloc: Global,

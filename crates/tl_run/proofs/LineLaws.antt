@@ -45,7 +45,7 @@ front_more old now lines more (n, le, has) =
     let long = length-append lines more in
     (n, omega (arith, long, le), subst (λ l. Appends old now l) (sym (take-append-le n lines more le)) has)
 
--- ---- one text behind another
+-- ---- one text after another
 
 pub writes_more : {E : Type 0} (a b c : Known) (front rest : List ℕ) (f g h : ℕ) (r : Result (Unit {0}) E) → g ≡ f → Appends a b front → Writes rest b c g h r → Writes (front ++ rest) a c f h r
 writes_more a b c front rest f g h (Ok done) same has w = (w.0 ∙ same, Appends-trans a b c front rest has w.1)
@@ -76,7 +76,7 @@ pub when_failed : {A E X Y : Type 0} (r : Result A E) → (X → Y) → OnErr r 
 when_failed (Ok done) f x = tt
 when_failed (Err e) f x = f x
 
--- what a stop's line leaves behind lines that were gathered
+-- what a stop's line leaves after lines that were gathered
 pub said_now : (a b : Known) (gathered left : List ℕ) → left ≡ [] → ((old : Known) (lines : List ℕ) → IsSaid old a gathered lines → IsSaid old b left lines)
     → (old : Known) (lines : List ℕ) → IsSaid old a gathered lines → Appends old b lines
 said_now a b gathered left empty written old lines said = said_written old b lines (subst (λ l. IsSaid old b l lines) empty (written old lines said))

@@ -74,7 +74,7 @@ ran_more noted topo script rest done boxes left after now next old new then gath
 one_back : (n : ℕ) → (n + 1) - 1 ≡ n
 one_back n = omega arith
 
--- what stands behind so many others is found at their number
+-- what stands after so many others is found at their number
 got_there : {X : Type 0} (before : List X) (x : X) (rest : List X) (count : ℕ) → length before ≡ count → slice_get ((before ++ x ∷ []) ++ rest) count ≡ Some x
 got_there {X} before x rest count counted = ap (slice_get ((before ++ x ∷ []) ++ rest)) (sym counted) ∙ go before
   where

@@ -70,7 +70,7 @@ here_behind_edit old new c (Err fault) kept step same all = subst (λ (core : Co
 
 -- ---- reports
 
--- the last of reports behind which one more stands
+-- the last of reports after which one more stands
 last_is : (reports : List ReportData) (report : ReportData) → latest_of (reports ++ report ∷ []) ≡ Some report
 last_is reports report = ap (slice_get (reports ++ report ∷ [])) place ∙ go reports
   where

@@ -100,7 +100,7 @@ LacksBox boxes asking = (left : List Watch) → TakesBox boxes asking left → �
 abbrev pub Advances : RunData → Command → RunData → (List ℕ → Type 0) → Type 0
 Advances old c new IsTold = (line : List ℕ) × IsStep old.topo old.now (asked c) line new.now × TakesBox old.boxes (asked c) new.boxes × IsTold line
 
--- Commands, one behind the other.
+-- Commands, one after the other.
 abbrev pub IsOutput : Topology → Progress → List Command → List ℕ → Progress → Type 0
 IsOutput topo now [] text next = (text ≡ []) × (next ≡ now)
 IsOutput topo now (c ∷ cs) text next = (line : List ℕ) × (rest : List ℕ) × (then : Progress) × IsStep topo now (asked c) line then
@@ -113,7 +113,7 @@ OneOutput = (topo : Topology) (now : Progress) (commands : List Command) (one tw
 
 -- ---- the edits alone
 
--- the accepted edits behind one command, and behind several
+-- the accepted edits after one command, and after several
 abbrev pub edits_with : Topology → List AnEdit → Asking → List AnEdit
 edits_with topo edits (an_edit e) = option_map_or (λ why. edits) (refusal (length edits) (inputs_after topo edits) e) (edits ++ e ∷ [])
 edits_with topo edits (no_fragment fault) = edits

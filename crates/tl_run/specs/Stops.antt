@@ -63,7 +63,7 @@ pub record IsUnboxed (boxes : List Watch) (script : Script) (command : ℕ) : Ty
   pub others : boxes ≡ watches_of (take (command - 1) script.commands) ++ left
   pub lacks : LacksBox left (asked it)
 
--- A run stops at the fault of its script, at a command that lacks its monitor, or at a command, or behind the last, for want of memory.
+-- A run stops at the fault of its script, at a command that lacks its monitor, or at a command, or after the last, for want of memory.
 abbrev pub StopsFor : List Watch → Script → StopCause → ℕ → Type 0
 StopsFor boxes script cause.Memory command = (0 < command) × (command ≤ length script.commands + 1)
 StopsFor boxes script cause.BadCommand command = fault_of script ≡ Some (command, fault.BadCommand)

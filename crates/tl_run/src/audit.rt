@@ -1,4 +1,4 @@
-//! What checking everything anew finds behind some edits of a script.
+//! What checking everything anew finds after some edits of a script.
 
 ghost use Rattle.std.specs.Prelude.{◌≡◌, ◌+◌, ◌<◌, ◌≤◌, ◌^◌, [], ℕ, List, Option, Some, None, IfOk, IfErr, OnOk, length, take};
 ghost use Rattle.std.specs.Result.{IsErrOf};

@@ -38,7 +38,7 @@ pub fn read_script<I: ByteIn>(alloc: Global, input: &mut I) -> Result<Vec<u8>, T
     read_text(alloc, input, MOST_SCRIPT)
 }
 
-/// The lines of one command, before which so many bytes of the script are left, put behind those that are gathered. Memory and
+/// The lines of one command, before which so many bytes of the script are left, put after those that are gathered. Memory and
 /// WrongBox write nothing.
 fn run_command<S: Runner, O: ByteOut>(
     alloc: Global,
@@ -190,7 +190,7 @@ pub fn run_nothing<O: ByteOut>(alloc: Global, out: &mut O) -> Result<Outcome, Wr
 }
 
 /// Runs a script on a topology, with the monitors that its commands attach, in their order, and writes its lines as it goes, those
-/// of a report at once. A run that stops writes the line of its stop, without taking memory, and nothing behind it: Memory at the
+/// of a report at once. A run that stops writes the line of its stop, without taking memory, and nothing after it: Memory at the
 /// command where memory is refused, at the first where there is none for a run; WrongBox at a command that attaches a monitor,
 /// where the next one is missing or watches something else; BadCommand and Truncated at the command that they are of. At the end
 /// each monitor that is still attached is closed with the number of the last edit, and all are dropped. WriteFault where a write

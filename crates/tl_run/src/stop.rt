@@ -45,7 +45,7 @@ impl From<ScriptFault> for StopCause {
     }
 }
 
-/// Where a run stops before the end of its script: no line of the command is written, nor of those behind it.
+/// Where a run stops before the end of its script: no line of the command is written, nor of those after it.
 #[derive(Clone, Copy, Debug, PartialEq, Eq)]
 pub struct Stop {
     /// Why.

@@ -46,7 +46,7 @@ unfoldable pub place_text_of : Topology → Placed → List ℕ
 place_text_of topo p =
     joined ((link_at topo p.link).name ∷ codes " fragment " ∷ decimal p.fragment ∷ codes " line " ∷ decimal p.line ∷ codes ", cycle " ∷ decimal p.beat.cycle ∷ codes ": " ∷ words_of topo p ∷ [])
 
--- The line of an earlier beat behind what it is.
+-- The line of an earlier beat after what it is.
 unfoldable pub named_line_of : List ℕ → Topology → Placed → List ℕ
 named_line_of label topo p = joined (codes "  " ∷ label ∷ codes ": " ∷ place_text_of topo p ∷ newline ∷ [])
 

@@ -1,4 +1,4 @@
--- The rows of a report, each with its lines behind it.
+-- The rows of a report, each with its lines after it.
 use Rattle.std.specs.Prelude.{ℕ, ◌≡◌, ◌+◌, ◌-◌, ◌==◌, ◌&&◌, Bool, true, false, List, [], ◌∷◌, ◌++◌, codes, Option, Some, None, if◌then◌else◌, find, length, take, drop, reverse, min, map, slice_index_or}
 use Rattle.std.specs.Fmt.{decimal}
 use Rattle.std.specs.List.{flat_map}
@@ -38,7 +38,7 @@ is_of_rule row told = (rule_number told.row.rule == rule_number row.rule) && sam
 abbrev pub is_row : Row → Told → Bool
 is_row row told = is_of_beat row told && is_of_rule row told
 
--- The lines behind a row, and the row with them.
+-- The lines after a row, and the row with them.
 abbrev pub lines_for : Topology → List Told → Row → List ℕ
 lines_for topo told row = option_map_or (told_lines_of topo) (find (is_row row) told) []
 
@@ -69,7 +69,7 @@ shown_count rows = min (length rows) 1000
 unfoldable pub shown_rows : Topology → List Told → List Row → List ℕ
 shown_rows topo told rows = flat_map (shown_row topo told) (take (shown_count rows) rows) ++ flat_map (row_text topo) (drop (shown_count rows) rows)
 
--- The same behind a first line, then how many are not shown, and how much was checked.
+-- The same after a first line, then how many are not shown, and how much was checked.
 unfoldable pub shown_bytes : Topology → List ℕ → List Told → Counts → List Row → List ℕ
 shown_bytes topo head told counts rows = joined (head ∷ shown_rows topo told rows ∷ rest_line_of (length rows - shown_count rows) ∷ counts_line_of counts ∷ [])
 
@@ -83,7 +83,7 @@ manager_of topo manager = manager_with topo (slice_index_or (map (λ p. p.1) top
 abbrev pub told_in : Topology → List Recorded → List Row → ℕ → List Told
 told_in topo fragments rows manager = told_after (manager_of topo manager) rows [] (manager_beats topo fragments manager)
 
--- Those of all managers, one behind the other; from a number on.
+-- Those of all managers, one after the other; from a number on.
 abbrev pub told_from : {X : Type 0} → Topology → List Recorded → List Row → ℕ → List X → List Told
 told_from topo fragments rows number [] = []
 told_from topo fragments rows number (manager ∷ managers) = told_in topo fragments rows number ++ told_from topo fragments rows (number + 1) managers
@@ -99,6 +99,6 @@ pub record IsSurvey (topo : Topology) (fragments : List Recorded) (manager : ℕ
   pub windows : (windows : List ℕ) × AreWindows (manager_beats topo fragments manager) windows × (survey.counts.windows ≡ length windows)
   pub still_open : AreOpen (manager_of topo manager) (reverse (manager_beats topo fragments manager)) survey.counts.still_open
 
--- The text of rows behind a first line: each of the first 1,000 with what the beats of these fragments tell of it.
+-- The text of rows after a first line: each of the first 1,000 with what the beats of these fragments tell of it.
 abbrev pub IsShown : Topology → List Recorded → List ℕ → List Row → List ℕ → Type 0
 IsShown topo fragments head rows text = (counts : Counts) × (text ≡ shown_bytes topo head (told_of_all topo fragments (take (shown_count rows) rows)) counts rows)

@@ -62,7 +62,7 @@ fn place_text(alloc: Global, topo: &Topo, place: &Placed) -> Result<String, Allo
     format!(in alloc; "{link} fragment {fragment} line {line}, cycle {cycle}: {text}")
 }
 
-/// The line of an earlier beat behind what it is.
+/// The line of an earlier beat after what it is.
 #[tactic(auto, unfolding(crate::specs::Lines::named_line_of))]
 fn named_line(alloc: Global, label: &str, topo: &Topo, place: &Placed) -> Result<String, AllocError>
     requires link { place.now.link < length topo.now.links }

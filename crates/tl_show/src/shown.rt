@@ -1,4 +1,4 @@
-//! Rows, each with its lines behind it.
+//! Rows, each with its lines after it.
 
 ghost use Rattle.std.specs.Prelude.{◌≡◌, ◌<◌, ◌≤◌, ◌++◌, find, IfOk, OnOk, length, string_bytes};
 ghost use Rattle.std.specs.List.{All, flat_map};
@@ -196,7 +196,7 @@ fn counts_line(alloc: Global, counts: &Counts) -> Result<String, AllocError>
     format!(in alloc; "{checked}{asked}{given}")
 }
 
-/// Rows behind a first line, where the beats tell of these rows.
+/// Rows after a first line, where the beats tell of these rows.
 #[tactic(auto, unfolding(crate::specs::Shown::shown_bytes))]
 fn shown_text(
     alloc: Global,
@@ -215,7 +215,7 @@ fn shown_text(
     format!(in alloc; "{head}{shown}{rest}{counts}")
 }
 
-/// Rows behind a first line: each of the first 1,000 with its lines behind it, then the others without, how many these are, and
+/// Rows after a first line: each of the first 1,000 with its lines after it, then the others without, how many these are, and
 /// how much was checked.
 fn with_lines(
     alloc: Global,
@@ -235,7 +235,7 @@ fn with_lines(
     shown_text(alloc, topo, head, rows, &survey)
 }
 
-/// The text of a report whose rows are shown, with notes alone between the lines of the report: each of the first 1,000 with its lines behind it, which are its beat in words, its
+/// The text of a report whose rows are shown, with notes alone between the lines of the report: each of the first 1,000 with its lines after it, which are its beat in words, its
 /// rule, the earlier beat that makes it so, and what was expected; then the others without, how many these are, and how much was
 /// checked. The fragments that are present are those that the report is of, and the topology has the links of its rows.
 /// AllocError where memory is refused.

@@ -12,7 +12,7 @@ use tl_reasons::{OpenCounts, Told, tell};
 use tl_topology::Topo;
 use tl_windows::Present;
 
-/// How much was checked, and what is open behind the last beat.
+/// How much was checked, and what is open after the last beat.
 #[derive(Clone, Copy, Debug, PartialEq)]
 pub struct Counts {
     /// Beats.

@@ -30,7 +30,7 @@ pub(crate) enum Content {
 }
 
 impl Content {
-    /// One of seven brings a row, and one of seven brings one to the window behind it.
+    /// One of seven brings a row, and one of seven brings one to the window after it.
     pub(crate) fn of(number: u32) -> Content {
         match number % 7 {
             0 => Content::Misaligned,

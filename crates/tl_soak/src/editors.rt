@@ -65,7 +65,7 @@ fn edit_once<'a, R: Wait>(
     submit(rt, alloc, seat, adds)
 }
 
-/// Goes so many rounds of edits, and has workers check windows behind each.
+/// Goes so many rounds of edits, and has workers check windows after each.
 pub(crate) fn edit<R: Wait>(
     rt: &R,
     alloc: Global,

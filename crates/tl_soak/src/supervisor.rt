@@ -24,7 +24,7 @@ impl Oldest {
         }
     }
 
-    /// The same behind one more look, which saw this one.
+    /// The same after one more look, which saw this one.
     fn then(self, ticket: Option<u64>) -> Oldest {
         if self.ticket == ticket {
             let looks = self.looks.saturating_add(1);

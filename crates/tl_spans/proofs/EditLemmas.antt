@@ -59,7 +59,7 @@ span_kept now after manager window result same beats is = record {
       (subst (λ ps. IsPass (judging (manager_in now manager)) (record { entry = is.entry; beats = ps; exit = is.exit; rows = result.rows })) (sym beats) is.pass);
 }
 
--- ---- the windows behind one edit more
+-- ---- the windows after one edit more
 
 pub stands : (old : SpansData) (e : AnEdit) (log : LogData) (board : Board SpanState (List Row)) → log ≡ record old.log { edits = old.log.edits ++ e ∷ [] }
     → standing (record { log = log; board = board }) ≡ changed (standing old) e

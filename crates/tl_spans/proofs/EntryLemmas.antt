@@ -17,7 +17,7 @@ module _ {K : Type 0} (R : K → K → Ordering) (total : IsTotalOrder R) (exact
       go Equal e h = exact x y e
       go Greater e h = cc
 
-  -- Behind an entry's coming its key finds its value, and every other key what it found before.
+  -- After an entry's coming its key finds its value, and every other key what it found before.
   pub lookup_put : {V : Type 0} (q k : K) (v : V) (es : List (K × V)) → lookup (is_at (R q)) (insert_entry R es k v) ≡ cond (is_at (R q) k) (Some v) (lookup (is_at (R q)) es)
   lookup_put {V} q k v [] = refl
   lookup_put {V} q k v (e ∷ es) = go (lookup_put q k v es) (R k e.0) refl

@@ -245,7 +245,7 @@ module _ {S R : Type 0} where
 -- ---- in the middle of it
 
 module _ {S R : Type 0} (same : S → S → Type 0) where
-  -- These windows were checked so far, and all that are wanted stand behind them.
+  -- These windows were checked so far, and all that are wanted stand after them.
   pub record IsUnderWay (keys : List PieceKey) (old now : Board S R) : Type 0 where
     pub checked : ChecksThese same keys old now
     pub board : IsBoard now

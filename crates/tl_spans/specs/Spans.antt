@@ -1,4 +1,4 @@
--- The windows of all managers behind a log of edits, as plain data.
+-- The windows of all managers after a log of edits, as plain data.
 use Rattle.std.specs.Prelude.{ℕ, ◌≡◌, List, [], length, nat_lt, is_some, Option, None, Some}
 use Rattle.tl_topology.specs.Regions.{Area}
 use Rattle.tl_topology.specs.Topology.{Topology}

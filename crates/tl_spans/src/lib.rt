@@ -1,4 +1,4 @@
-//! The windows of all managers, each with its result, behind a log of edits.
+//! The windows of all managers, each with its result, after a log of edits.
 #![tactic(auto)]
 
 mod checking;

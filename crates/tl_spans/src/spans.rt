@@ -1,4 +1,4 @@
-//! The windows of all managers behind a log of edits.
+//! The windows of all managers after a log of edits.
 
 ghost use Rattle.std.specs.Prelude.{◌≡◌, ◌<◌, [], length, IfOk, IfSome, OnErr, Some, is_some, true};
 ghost use Rattle.std.specs.Bool.{Decides};

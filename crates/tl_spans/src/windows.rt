@@ -26,7 +26,7 @@ pub fn keys_of(alloc: Global, owners: &[u32], windows: &[u64]) -> Result<Vec<Pie
     Ok(keys)
 }
 
-/// Puts the keys of an owner with these windows behind others. AllocError where memory is refused.
+/// Puts the keys of an owner with these windows after others. AllocError where memory is refused.
 fn push_keys(owner: u32, windows: &[u64], keys: &mut Vec<PieceKey>) -> Result<(), AllocError>
     ensures { OnOk result (keys.new.items ≡ keys.old.items ++ map (key_of owner) windows.now) }
 {

@@ -61,7 +61,7 @@ without_monitor task = record { number = task.number; window = task.window; watc
 abbrev pub SameButTally : WatchTaskData → WatchTaskData → Type 0
 SameButTally old new = new ≡ record old { held = record old.held { tally = new.held.tally } }
 
--- A monitor has this tally amid these beats: that behind the first of them, none or all of them at most, from an entry.
+-- A monitor has this tally amid these beats: that after the first of them, none or all of them at most, from an entry.
 pub record IsAmid (number : ℕ) (w : Watch) (entry : Tally) (beats : List Placed) (tally : ℕ) : Type 0 where
   pub seen : List Placed
   pub rest : List Placed

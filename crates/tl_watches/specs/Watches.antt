@@ -1,4 +1,4 @@
--- The windows of managers and of monitors behind a log of edits, as plain data.
+-- The windows of managers and of monitors after a log of edits, as plain data.
 use Rattle.std.specs.Prelude.{ℕ, ◌≡◌, List, [], is_some, Some}
 use Rattle.std.specs.Option.{option_map_or}
 use Rattle.tl_beats.specs.declared.Placed.{Placed}

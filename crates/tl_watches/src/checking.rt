@@ -25,7 +25,7 @@ use tl_spans::{Rows, gathered, keep};
 impl Watches {
     /// Checks a window of a monitor, which is given, from what the windows of the monitor before it leave; the window's ticket
     /// ends. AllocError where memory is refused: then no window has changed. The monitor keeps its watch, and its tally is that
-    /// behind the window's beats, or, where memory is refused, behind some first of them, or was not touched.
+    /// after the window's beats, or, where memory is refused, after some first of them, or was not touched.
     pub fn check_watch<M: Monitor>(
         &mut self,
         alloc: Global,

@@ -1,4 +1,4 @@
-//! The windows of all managers and of all monitors that are attached, each with its result, behind a log of edits. The monitors
+//! The windows of all managers and of all monitors that are attached, each with its result, after a log of edits. The monitors
 //! themselves are elsewhere: a check of a monitor's window is given the monitor, and a window that goes out to be checked takes its
 //! monitor along.
 #![tactic(auto)]

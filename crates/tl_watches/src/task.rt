@@ -109,7 +109,7 @@ impl WatchWindow {
     }
 
     /// The pass of its beats by the watch of a monitor, which has its watch, from its entry. AllocError where memory is refused. In
-    /// both cases the monitor stays the same but for its tally, which is then that behind some first beats of the window (all of
+    /// both cases the monitor stays the same but for its tally, which is then that after some first beats of the window (all of
     /// them where it was checked), or was not touched.
     pub fn check<M: Monitor>(
         &self,
@@ -197,7 +197,7 @@ impl<M: Monitor> WatchTask<M> {
     }
 
     /// The pass of its beats by the watch of its monitor, from its entry. AllocError where memory is refused. In both cases the task
-    /// stays the same but for the tally of its monitor, which is then that behind some first beats of it, or was not touched.
+    /// stays the same but for the tally of its monitor, which is then that after some first beats of it, or was not touched.
     pub fn check(&mut self, alloc: Global) -> Result<Stored<Tally, Rows>, AllocError>
         ensures pass { IfOk result (λ stored. IsWatchPassOf self.old (pass_of stored)) }
         ensures entry { IfOk result (λ stored. arc_value stored.entry ≡ self.old.entry) }

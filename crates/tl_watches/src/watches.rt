@@ -1,4 +1,4 @@
-//! The windows of managers and of monitors behind a log of edits.
+//! The windows of managers and of monitors after a log of edits.
 
 ghost use Rattle.std.specs.Prelude.{◌≡◌, ◌<◌, [], length, IfOk, IfSome, is_some, true};
 ghost use Rattle.std.specs.Bool.{Decides};

@@ -1,9 +1,11 @@
 //! What `--deny` makes a fault: that something was refused, or that no beat was checked.
 
+use crate::pasts::inputs_left;
 use std::alloc::{AllocError, Global};
 use std::fmt;
 use std::sync::Arc;
 use tl_beats::Fragment;
+use tl_inputs::Inputs;
 use tl_run::{AuditFault, log_of};
 use tl_script::{Command, Spot, Visitor, visit_all};
 use tl_topology::Topo;
@@ -85,6 +87,25 @@ fn is_edit_refused(
     Ok(asked.edits > log.len())
 }
 
+/// Whether a link has a beat.
+fn has_beat(alloc: Global, inputs: &Inputs, link: u16) -> Result<bool, AllocError> {
+    let windows = inputs.present().windows(alloc, &[link])?;
+    Ok(!windows.is_empty())
+}
+
+/// Whether no link has a beat.
+fn is_beatless(alloc: Global, inputs: &Inputs) -> Result<bool, AuditFault> {
+    for link in 0..u16::MAX {
+        if usize::from(link) >= inputs.topo().link_count() {
+            return Ok(true);
+        }
+        if has_beat(alloc, inputs, link)? {
+            return Ok(false);
+        }
+    }
+    Ok(true)
+}
+
 /// Whether what a script leaves, or its first so many accepted edits, has no beat.
 fn has_no_beat(
     alloc: Global,
@@ -92,18 +113,8 @@ fn has_no_beat(
     script: &[u8],
     edit: Option<u64>,
 ) -> Result<bool, AuditFault> {
-    let log = log_of(alloc, topo, script)?;
-    let inputs = log.inputs_at(alloc, edit.unwrap_or(log.len()))?;
-    let present = inputs.present();
-    for link in 0..u16::MAX {
-        if usize::from(link) >= topo.link_count() {
-            return Ok(true);
-        }
-        if !present.windows(alloc, &[link])?.is_empty() {
-            return Ok(false);
-        }
-    }
-    Ok(true)
+    let inputs = inputs_left(alloc, topo, script, edit)?;
+    is_beatless(alloc, &inputs)
 }
 
 impl Deny {

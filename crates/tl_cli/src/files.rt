@@ -49,6 +49,17 @@ fn fragment_of<R: Files + AllocGlobal>(rt: &R, path: &str) -> Result<Fragment, F
     Ok(fragment)
 }
 
+/// Puts the fragment that a file's whole text is after those of the files before it.
+fn push_fragment<R: Files + AllocGlobal>(
+    rt: &R,
+    path: &str,
+    fragments: &mut Vec<Arc<Fragment>>,
+) -> Result<(), Fault> {
+    let fragment = Arc::new(rt.alloc(), fragment_of(rt, path)?)?;
+    fragments.push(fragment)?;
+    Ok(())
+}
+
 /// The fragments of files, each read and parsed before the next is opened.
 pub(crate) fn fragments_of<R: Files + AllocGlobal>(
     rt: &R,
@@ -56,8 +67,7 @@ pub(crate) fn fragments_of<R: Files + AllocGlobal>(
 ) -> Result<Vec<Arc<Fragment>>, Fault> {
     let mut fragments = Vec::new(rt.alloc());
     for path in paths {
-        let fragment = Arc::new(rt.alloc(), fragment_of(rt, path)?)?;
-        fragments.push(fragment)?;
+        push_fragment(rt, *path, &mut fragments)?;
     }
     Ok(fragments)
 }
@@ -96,22 +106,8 @@ fn unseen(error: &io::Error) -> Seen {
     }
 }
 
-/// What stands at the path of a file of this role, which is read again.
-pub(crate) fn seen_at<R: Files + AllocGlobal>(
-    rt: &R,
-    path: &str,
-    role: Role,
-) -> Result<Seen, Fault> {
-    let found = match fs::metadata(rt, path) {
-        Ok(found) => found,
-        Err(error) => return Ok(unseen(&error)),
-    };
-    if found.is_dir() {
-        return Ok(Seen::Folder);
-    }
-    if !found.is_file() {
-        return Ok(Seen::Stream);
-    }
+/// What a file of this role holds, which is read again.
+fn seen_in<R: Files + AllocGlobal>(rt: &R, path: &str, role: Role) -> Result<Seen, Fault> {
     let Ok(file) = fs::open(rt, path) else {
         return Ok(Seen::Closed);
     };
@@ -120,5 +116,33 @@ pub(crate) fn seen_at<R: Files + AllocGlobal>(
         Err(TextFault::ReadFault) => Ok(Seen::Closed),
         Err(TextFault::TooLong) => Ok(Seen::TooLong),
         Err(TextFault::Memory) => Err(Fault::MEMORY),
+    }
+}
+
+/// What is found at the path of a file of this role, which is read again.
+fn seen_there<R: Files + AllocGlobal>(
+    rt: &R,
+    path: &str,
+    role: Role,
+    found: &fs::Metadata,
+) -> Result<Seen, Fault> {
+    if found.is_dir() {
+        Ok(Seen::Folder)
+    } else if found.is_file() {
+        seen_in(rt, path, role)
+    } else {
+        Ok(Seen::Stream)
+    }
+}
+
+/// What stands at the path of a file of this role, which is read again.
+pub(crate) fn seen_at<R: Files + AllocGlobal>(
+    rt: &R,
+    path: &str,
+    role: Role,
+) -> Result<Seen, Fault> {
+    match fs::metadata(rt, path) {
+        Ok(found) => seen_there(rt, path, role, &found),
+        Err(error) => Ok(unseen(&error)),
     }
 }

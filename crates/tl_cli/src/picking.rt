@@ -1,8 +1,10 @@
 //! Runs of which the words choose the rows that are written.
 
-ghost use Rattle.std.specs.Prelude.{◌<◌, ◌^◌};
+ghost use Rattle.std.specs.Prelude.{◌<◌, ◌^◌, length};
+ghost use Rattle.std.specs.List.{All};
 
 use crate::fault::Fault;
+use crate::pasts::inputs_left;
 use crate::view::View;
 use std::alloc::{AllocError, AllocFailed, Global};
 use std::fs;
@@ -14,7 +16,6 @@ use tl_inputs::Inputs;
 use tl_pick::{Pick, Waiver, WaiverFault, read_waivers};
 use tl_plain::scratch;
 use tl_report::all_added;
-use tl_run::{AuditFault, log_of};
 use tl_text::{ByteOut, CountedReader, TextFault, read_text, write_all};
 use tl_topology::{Name, Topo};
 
@@ -146,22 +147,31 @@ pub(crate) fn order_of<'a, R: Files + AllocGlobal>(
     topo: &Topo,
     view: &View<'a>,
 ) -> Result<Order<'a>, Trouble> {
-    let links = links_of(rt.alloc(), topo, &view.links)?;
-    let waivers = waivers_of(rt, topo, view.waive)?;
-    let rules = Vec::from_slice(rt.alloc(), &view.rules)?;
+    let pick = Pick {
+        links: links_of(rt.alloc(), topo, &view.links)?,
+        waivers: waivers_of(rt, topo, view.waive)?,
+        rules: Vec::from_slice(rt.alloc(), &view.rules)?,
+        cycles: view.cycles,
+    };
     Ok(Order {
         format: view.format,
-        pick: Pick {
-            rules,
-            links,
-            cycles: view.cycles,
-            waivers,
-        },
+        pick,
         waive: view.waive,
     })
 }
 
-/// Puts a line for each waiver that accepts none of the rows behind a text.
+/// Puts the line of a waiver that accepts no row after a text.
+fn push_line(
+    alloc: Global,
+    path: &str,
+    number: u64,
+    notes: &mut String,
+) -> Result<(), AllocError> {
+    let line = format!(in alloc; "tlcheck: {path} line {number} fits no row\n")?;
+    notes.push_str(line.as_str())
+}
+
+/// Puts a line for each waiver that accepts none of the rows after a text.
 fn push_unused(
     alloc: Global,
     path: &str,
@@ -169,11 +179,33 @@ fn push_unused(
     notes: &mut String,
 ) -> Result<(), AllocError> {
     for waiver in unused {
-        let number = waiver.line;
-        let line = format!(in alloc; "tlcheck: {path} line {number} fits no row\n")?;
-        notes.push_str(line.as_str())?;
+        push_line(alloc, path, waiver.line, notes)?;
     }
     Ok(())
+}
+
+/// How many rows are waived, in a line.
+fn waived_line(
+    alloc: Global,
+    path: &str,
+    pick: &Pick,
+    rows: &[Row],
+) -> Result<String, AllocError> {
+    let waived = pick.waived(alloc, rows)?.len();
+    let found = rows.len();
+    format!(in alloc; "tlcheck: {path} waives {waived} of {found} rows\n")
+}
+
+/// Puts a line for each waiver of a pick that accepts none of the rows after a text.
+fn push_idle(
+    alloc: Global,
+    path: &str,
+    pick: &Pick,
+    rows: &[Row],
+    notes: &mut String,
+) -> Result<(), AllocError> {
+    let unused = pick.unused(alloc, rows)?;
+    push_unused(alloc, path, &unused, notes)
 }
 
 /// How many rows are waived, and which waivers accept none.
@@ -186,12 +218,43 @@ fn notes_of(
     let Some(path) = path else {
         return Ok(String::new(alloc));
     };
-    let waived = pick.waived(alloc, rows)?.len();
-    let found = rows.len();
-    let mut notes = format!(in alloc; "tlcheck: {path} waives {waived} of {found} rows\n")?;
-    let unused = pick.unused(alloc, rows)?;
-    push_unused(alloc, path, &unused, &mut notes)?;
+    let mut notes = waived_line(alloc, path, pick, rows)?;
+    push_idle(alloc, path, pick, rows, &mut notes)?;
     Ok(notes)
+}
+
+/// Writes those of these rows that are wanted, and answers how many they are.
+fn write_left<O: ByteOut>(
+    alloc: Global,
+    title: Title,
+    inputs: &Inputs,
+    order: &Order<'_>,
+    rows: &[Row],
+    out: &mut O,
+) -> Result<u64, Fault>
+    requires out { O.failure_count out.old < 2 ^ 63 }
+    requires links { All (λ row. row.link < length inputs.now.topo.links) rows.now }
+{
+    let printed = print_rows(alloc, order.format, title, &order.pick, inputs, rows)?;
+    write_all(out, printed.text.as_bytes())?;
+    Ok(printed.rows)
+}
+
+/// Writes those of these rows that are wanted.
+fn write_rows<O: ByteOut>(
+    alloc: Global,
+    title: Title,
+    inputs: &Inputs,
+    order: &Order<'_>,
+    rows: &[Row],
+    out: &mut O,
+) -> Result<Written, Fault>
+    requires out { O.failure_count out.old < 2 ^ 63 }
+    requires links { All (λ row. row.link < length inputs.now.topo.links) rows.now }
+{
+    let notes = notes_of(alloc, order.waive, &order.pick, rows)?;
+    let rows = write_left(alloc, title, inputs, order, rows, out)?;
+    Ok(Written { rows, notes })
 }
 
 /// Writes those rows of what stands that are wanted.
@@ -205,13 +268,7 @@ fn write_found<O: ByteOut>(
     requires { O.failure_count out.old < 2 ^ 63 }
 {
     let rows = scratch(alloc, inputs)?;
-    let notes = notes_of(alloc, order.waive, &order.pick, &rows)?;
-    let printed = print_rows(alloc, order.format, title, &order.pick, inputs, &rows)?;
-    write_all(out, printed.text.as_bytes())?;
-    Ok(Written {
-        rows: printed.rows,
-        notes,
-    })
+    write_rows(alloc, title, inputs, order, &rows, out)
 }
 
 /// Writes those rows of the report of fragments that are wanted.
@@ -232,12 +289,6 @@ pub(crate) fn write_once<O: ByteOut>(
     write_found(alloc, title, log.inputs(), order, out)
 }
 
-/// What the first so many accepted edits of a script leave.
-fn past_of(alloc: Global, topo: &Topo, script: &[u8], edit: u64) -> Result<Inputs, AuditFault> {
-    let log = log_of(alloc, topo, script)?;
-    Ok(log.inputs_at(alloc, edit)?)
-}
-
 /// Writes those rows that are wanted of what checking everything anew after so many accepted edits of a script finds.
 pub(crate) fn write_audit<O: ByteOut>(
     alloc: Global,
@@ -249,6 +300,6 @@ pub(crate) fn write_audit<O: ByteOut>(
 ) -> Result<Written, Fault>
     requires { O.failure_count out.old < 2 ^ 63 }
 {
-    let inputs = past_of(alloc, topo, script, edit)?;
+    let inputs = inputs_left(alloc, topo, script, Some(edit))?;
     write_found(alloc, Title::Audit { edit }, &inputs, order, out)
 }

@@ -2,7 +2,7 @@
 
 ghost use Rattle.std.specs.Prelude.{◌<◌, ◌^◌};
 
-use crate::denial::Denial;
+use crate::denial::{Denial, Deny};
 use crate::fault::Fault;
 use crate::files::{fragments_of, script_of, topology_of};
 use crate::picking::{Trouble, Written, order_of, write_audit, write_once};
@@ -67,6 +67,11 @@ pub(crate) fn ending_of(outcome: Outcome, denial: Option<Denial>) -> Ending {
     }
 }
 
+/// How a command ends that wrote chosen rows.
+fn ending_with(written: Result<Written, Fault>) -> Result<Ending, Fault> {
+    Ok(Ending::Picked(written?, None))
+}
+
 /// The rows of the report of fragments that are wanted.
 fn once_picked<R: Files + AllocGlobal, O: ByteOut>(
     rt: &R,
@@ -78,10 +83,7 @@ fn once_picked<R: Files + AllocGlobal, O: ByteOut>(
     requires { O.failure_count out.old < 2 ^ 63 }
 {
     match order_of(rt, topo, view) {
-        Ok(order) => {
-            let written = write_once(rt.alloc(), topo, fragments, &order, out)?;
-            Ok(Ending::Picked(written, None))
-        }
+        Ok(order) => ending_with(write_once(rt.alloc(), topo, fragments, &order, out)),
         Err(trouble) => ending_without(trouble),
     }
 }
@@ -106,7 +108,37 @@ fn once_of<R: Files + AllocGlobal, O: ByteOut>(
     Ok(Ending::Came(report_of(rows)))
 }
 
-/// The report of files' fragments.
+/// The report of fragments, which is denied or not.
+fn once_denied<R: Files + AllocGlobal, O: ByteOut>(
+    rt: &R,
+    topo: &Topo,
+    fragments: &[Arc<Fragment>],
+    deny: Deny,
+    view: &View<'_>,
+    out: &mut O,
+) -> Result<Ending, Fault>
+    requires { O.failure_count out.old < 2 ^ 63 }
+{
+    let ending = once_of(rt, topo, fragments, view, out)?;
+    Ok(ending.denied_by(deny.of_fragments(fragments)))
+}
+
+/// The report of files' fragments on a topology.
+fn once_on<R: Files + AllocGlobal, O: ByteOut>(
+    rt: &R,
+    topo: &Topo,
+    fragments: &[&str],
+    deny: Deny,
+    view: &View<'_>,
+    out: &mut O,
+) -> Result<Ending, Fault>
+    requires { O.failure_count out.old < 2 ^ 63 }
+{
+    let fragments = fragments_of(rt, fragments)?;
+    once_denied(rt, topo, &fragments, deny, view, out)
+}
+
+/// The report of files' fragments on a file's topology.
 pub(crate) fn once_of_files<R: Files + AllocGlobal, O: ByteOut>(
     rt: &R,
     topology: &str,
@@ -118,9 +150,7 @@ pub(crate) fn once_of_files<R: Files + AllocGlobal, O: ByteOut>(
     requires { O.failure_count out.old < 2 ^ 63 }
 {
     let topo = topology_of(rt, topology)?;
-    let fragments = fragments_of(rt, fragments)?;
-    let ending = once_of(rt, &topo, &fragments, view, out)?;
-    Ok(ending.denied_by(how.deny.of_fragments(&fragments)))
+    once_on(rt, &topo, fragments, how.deny, view, out)
 }
 
 /// The edits that an audit looks at.
@@ -134,22 +164,29 @@ pub(crate) struct Past<'a> {
     pub(crate) edit: u64,
 }
 
+/// An audit of a script on a topology.
+#[derive(Clone, Copy)]
+struct Audit<'a> {
+    /// The topology.
+    topo: &'a Topo,
+    /// The script's text.
+    script: &'a [u8],
+    /// How many of its accepted edits.
+    edit: u64,
+}
+
 /// The rows of an audit that are wanted.
 fn audit_picked<R: Files + AllocGlobal, O: ByteOut>(
     rt: &R,
-    topo: &Topo,
-    script: &[u8],
-    edit: u64,
+    audit: Audit<'_>,
     view: &View<'_>,
     out: &mut O,
 ) -> Result<Ending, Fault>
     requires { O.failure_count out.old < 2 ^ 63 }
 {
+    let Audit { topo, script, edit } = audit;
     match order_of(rt, topo, view) {
-        Ok(order) => {
-            let written = write_audit(rt.alloc(), topo, script, edit, &order, out)?;
-            Ok(Ending::Picked(written, None))
-        }
+        Ok(order) => ending_with(write_audit(rt.alloc(), topo, script, edit, &order, out)),
         Err(trouble) => ending_without(trouble),
     }
 }
@@ -157,17 +194,16 @@ fn audit_picked<R: Files + AllocGlobal, O: ByteOut>(
 /// What checking everything anew finds after so many accepted edits of a script.
 fn audit_of<R: Files + AllocGlobal, O: ByteOut>(
     rt: &R,
-    topo: &Topo,
-    script: &[u8],
-    edit: u64,
+    audit: Audit<'_>,
     view: &View<'_>,
     out: &mut O,
 ) -> Result<Ending, Fault>
     requires { O.failure_count out.old < 2 ^ 63 }
 {
     if !view.is_whole() {
-        return audit_picked(rt, topo, script, edit, view, out);
+        return audit_picked(rt, audit, view, out);
     }
+    let Audit { topo, script, edit } = audit;
     let rows = match view.format {
         Format::Shown => audit_script_as(rt.alloc(), topo, script, edit, &Shown, out)?,
         _ => audit_script(rt.alloc(), topo, script, edit, out)?,
@@ -175,7 +211,42 @@ fn audit_of<R: Files + AllocGlobal, O: ByteOut>(
     Ok(Ending::Came(report_of(rows)))
 }
 
-/// What checking everything anew finds after so many accepted edits of a file's script.
+/// What an audit finds, which is denied or not.
+fn audit_denied<R: Files + AllocGlobal, O: ByteOut>(
+    rt: &R,
+    audit: Audit<'_>,
+    deny: Deny,
+    view: &View<'_>,
+    out: &mut O,
+) -> Result<Ending, Fault>
+    requires { O.failure_count out.old < 2 ^ 63 }
+{
+    let ending = audit_of(rt, audit, view, out)?;
+    let denial = deny.of_audit(rt.alloc(), audit.topo, audit.script, audit.edit)?;
+    Ok(ending.denied_by(denial))
+}
+
+/// What checking everything anew finds after so many accepted edits of a file's script, on a topology.
+fn audit_on<R: Files + AllocGlobal, O: ByteOut>(
+    rt: &R,
+    topo: &Topo,
+    past: Past<'_>,
+    deny: Deny,
+    view: &View<'_>,
+    out: &mut O,
+) -> Result<Ending, Fault>
+    requires { O.failure_count out.old < 2 ^ 63 }
+{
+    let script = script_of(rt, past.script)?;
+    let audit = Audit {
+        topo,
+        script: &script,
+        edit: past.edit,
+    };
+    audit_denied(rt, audit, deny, view, out)
+}
+
+/// What checking everything anew finds after so many accepted edits of a file's script, on a file's topology.
 pub(crate) fn audit_of_files<R: Files + AllocGlobal, O: ByteOut>(
     rt: &R,
     past: Past<'_>,
@@ -186,8 +257,5 @@ pub(crate) fn audit_of_files<R: Files + AllocGlobal, O: ByteOut>(
     requires { O.failure_count out.old < 2 ^ 63 }
 {
     let topo = topology_of(rt, past.topology)?;
-    let script = script_of(rt, past.script)?;
-    let ending = audit_of(rt, &topo, &script, past.edit, view, out)?;
-    let denial = how.deny.of_audit(rt.alloc(), &topo, &script, past.edit)?;
-    Ok(ending.denied_by(denial))
+    audit_on(rt, &topo, past, how.deny, view, out)
 }

@@ -6,28 +6,23 @@ ghost use Rattle.tl_cli.specs.Status.{status_of};
 use crate::denial::Denial;
 use crate::explain::titles;
 use crate::fault::Fault;
-use crate::files::{script_of, topology_of};
-use crate::monitors::{attached_in, settlement_lines};
 use crate::picking::Written;
-use crate::reports::{Ending, Past, audit_of_files, ending_of, once_of_files, report_of};
+use crate::reports::{Ending, Past, audit_of_files, once_of_files, report_of};
 use crate::screen::Screen;
+use crate::scripts::{run_of_files, run_of_input};
 use crate::telling::{
     Suspect, input_sentence, input_sentences, once_sentence, run_sentences, script_sentence,
 };
-use crate::words::{Command, How, not_utf8, read_words};
+use crate::words::{Command, not_utf8, read_words};
 use clap::error::ErrorKind;
 use std::alloc::Global;
 use std::io;
 use std::rt::Files;
-use std::sync::{Arc, Wait};
+use std::sync::Wait;
 use std::thread::Threads;
 use tl_advice::More;
-use tl_beats::Watch;
-use tl_monitor::{After, Budget, Monitor};
 use tl_run::Outcome;
 use tl_text::{ByteIn, ByteOut, read_text, write_all};
-use tl_topology::{Topo, read_topo};
-use tl_workers::{Script, run_with, show_with};
 
 /// The most bytes of standard input.
 const MOST_INPUT: u64 = 67_108_864;
@@ -51,83 +46,6 @@ fn status_of(outcome: Outcome) -> u8
         None if outcome.last_rows == 0 => NO_ROWS,
         None => SOME_ROWS,
     }
-}
-
-/// The run of a script with the monitors that it attaches, and after a run that did not stop what each of them told. So many
-/// workers check windows beside it.
-fn run_of_script<R: Threads + Wait + Sync + AllocGlobal, O: ByteOut>(
-    rt: &R,
-    topo: &Topo,
-    script: &[u8],
-    workers: u8,
-    show: bool,
-    out: &mut O,
-) -> Result<Outcome, Fault>
-    requires workers { workers ≤ 16 }
-    requires out { O.failure_count out.old < 2 ^ 63 }
-{
-    let alloc = rt.alloc();
-    let attached = attached_in(alloc, script)?;
-    let mut boxes: Vec<Box<dyn Monitor + Send>> = Vec::new(alloc);
-    for monitor in &attached {
-        let cell = Arc::try_clone(&monitor.cell)?;
-        let boxed: Box<dyn Monitor + Send> = match monitor.watch {
-            Watch::Budget { link, class, limit } => {
-                Box::new(alloc, Budget::new(link, class, limit, cell))?
-            }
-            Watch::After {
-                link,
-                first,
-                second,
-            } => Box::new(alloc, After::new(link, first, second, cell))?,
-        };
-        boxes.push(boxed)?;
-    }
-    let run = Script::new(topo, script, boxes);
-    let outcome = if show {
-        show_with(rt, alloc, run, out, workers)?
-    } else {
-        run_with(rt, alloc, run, out, workers)?
-    };
-    if outcome.stop.is_none() {
-        let lines = settlement_lines(alloc, &attached)?;
-        write_all(out, lines.as_bytes())?;
-    }
-    Ok(outcome)
-}
-
-/// The run of a file's script.
-fn run_of_files<R: Files + Threads + Wait + Sync + AllocGlobal, O: ByteOut>(
-    rt: &R,
-    topology: &str,
-    script: &str,
-    workers: u8,
-    how: How,
-    out: &mut O,
-) -> Result<Ending, Fault>
-    requires workers { workers ≤ 16 }
-    requires out { O.failure_count out.old < 2 ^ 63 }
-{
-    let topo = topology_of(rt, topology)?;
-    let script = script_of(rt, script)?;
-    let outcome = run_of_script(rt, &topo, &script, workers, how.show, out)?;
-    if outcome.stop.is_some() {
-        return Ok(Ending::Came(outcome));
-    }
-    let denial = how.deny.of_run(rt.alloc(), &topo, &script)?;
-    Ok(ending_of(outcome, denial))
-}
-
-/// The run of a script behind its topology's text.
-fn run_of_input<R: Threads + Wait + Sync + AllocGlobal, O: ByteOut>(
-    rt: &R,
-    text: &[u8],
-    out: &mut O,
-) -> Result<Outcome, Fault>
-    requires { O.failure_count out.old < 2 ^ 63 }
-{
-    let (topo, used) = read_topo(rt.alloc(), text)?;
-    run_of_script(rt, &topo, &text[used..], 0, false, out)
 }
 
 /// Runs a script behind its topology, and at a terminal tells what was refused.
@@ -457,6 +375,80 @@ fn run_input<R: Threads + Wait + Sync + AllocGlobal, I: ByteIn, O: ByteOut, E: B
     }
 }
 
+/// Tells how a command that has files ended, and answers the exit status.
+fn tell_ending<R: Files + AllocGlobal, E: ByteOut>(
+    rt: &R,
+    err: &mut E,
+    ending: Result<Ending, Fault>,
+    command: &Command<'_>,
+    screen: Screen,
+) -> u8
+    requires { E.failure_count err.old < 2 ^ 63 }
+    ensures { result ≤ 2 }
+{
+    match ending {
+        Ok(Ending::Came(outcome)) => {
+            tell_refusals(rt, err, command, screen);
+            status_of(outcome)
+        }
+        Ok(Ending::Denied(denial)) => tell_denial(rt, err, denial, command, screen),
+        Ok(Ending::Picked(written, denial)) => {
+            tell_picked(rt, err, &written, denial, command, screen)
+        }
+        Ok(Ending::Objected(text)) => tell_objection(err, text.as_str()),
+        Err(fault) => tell_fault(rt, err, fault, command, screen),
+    }
+}
+
+/// Does what a command asks for, and answers the exit status.
+fn do_command<
+    R: Files + Threads + Wait + Sync + AllocGlobal,
+    I: ByteIn,
+    O: ByteOut,
+    E: ByteOut,
+>(rt: &R, command: &Command<'_>, input: &mut I, out: &mut O, err: &mut E, screen: Screen) -> u8
+    requires reads { I.read_count input.old < 2 ^ 63 }
+    requires failures { I.failure_count input.old < 2 ^ 63 }
+    requires out { O.failure_count out.old < 2 ^ 63 }
+    requires err { E.failure_count err.old < 2 ^ 63 }
+    ensures { result ≤ 2 }
+{
+    let ending = match command {
+        Command::Input => return run_input(rt, input, out, err, screen),
+        Command::Explain { entry } => return tell_entry(rt.alloc(), out, err, *entry),
+        Command::Once {
+            topology,
+            fragments,
+            how,
+            view,
+        } => once_of_files(rt, *topology, fragments, *how, view, out),
+        Command::Run {
+            topology,
+            script,
+            workers,
+            how,
+        } => {
+            let workers = (*workers).min(MOST_WORKERS);
+            run_of_files(rt, *topology, *script, workers, *how, out)
+        }
+        Command::Audit {
+            topology,
+            script,
+            edit,
+            how,
+            view,
+        } => {
+            let past = Past {
+                topology: *topology,
+                script: *script,
+                edit: *edit,
+            };
+            audit_of_files(rt, past, *how, view, out)
+        }
+    };
+    tell_ending(rt, err, ending, command, screen)
+}
+
 /// Does what the words ask for, the first of which is the program's own, and answers the exit status: 0 where the last report
 /// has no rows, there is none, or a text was asked for; 1 where it has some rows; 2 for a script that stops, for a fault, which is
 /// told in one line on `err`, and for words that are refused, of which `clap` tells on `err` in lines of its own. `input`
@@ -474,57 +466,8 @@ pub fn run_words_at<
     requires err { E.failure_count err.old < 2 ^ 63 }
     ensures { result ≤ 2 }
 {
-    let command = match read_words(rt.alloc(), words) {
-        Ok(command) => command,
-        Err(error) => return tell_words(rt.alloc(), out, err, &error),
-    };
-    let ending = match &command {
-        Command::Input => return run_input(rt, input, out, err, screen),
-        Command::Once {
-            topology,
-            fragments,
-            how,
-            view,
-        } => once_of_files(rt, *topology, fragments, *how, view, out),
-        Command::Run {
-            topology,
-            script,
-            workers,
-            how,
-        } => run_of_files(
-            rt,
-            *topology,
-            *script,
-            (*workers).min(MOST_WORKERS),
-            *how,
-            out,
-        ),
-        Command::Audit {
-            topology,
-            script,
-            edit,
-            how,
-            view,
-        } => {
-            let past = Past {
-                topology: *topology,
-                script: *script,
-                edit: *edit,
-            };
-            audit_of_files(rt, past, *how, view, out)
-        }
-        Command::Explain { entry } => return tell_entry(rt.alloc(), out, err, *entry),
-    };
-    match ending {
-        Ok(Ending::Came(outcome)) => {
-            tell_refusals(rt, err, &command, screen);
-            status_of(outcome)
-        }
-        Ok(Ending::Denied(denial)) => tell_denial(rt, err, denial, &command, screen),
-        Ok(Ending::Picked(written, denial)) => {
-            tell_picked(rt, err, &written, denial, &command, screen)
-        }
-        Ok(Ending::Objected(text)) => tell_objection(err, text.as_str()),
-        Err(fault) => tell_fault(rt, err, fault, &command, screen),
+    match read_words(rt.alloc(), words) {
+        Ok(command) => do_command(rt, &command, input, out, err, screen),
+        Err(error) => tell_words(rt.alloc(), out, err, &error),
     }
 }

@@ -163,7 +163,17 @@ fn added_cause<'a>(path: &str, before: &[&str], fault: EditFault, topo: &'a Topo
     }
 }
 
-/// Adds a fragment behind those of the files before it; the sentence of its refusal, if that is the fault.
+/// Why a fragment can't be added to a log; None where it can, and now is.
+fn refusal_of(alloc: Global, fragment: Fragment, log: &mut Log) -> Result<Option<EditFault>, Fault> {
+    let shared = Arc::new(alloc, fragment)?;
+    match log.push(Edit::Change(Change::Add(shared))) {
+        Ok(_) => Ok(None),
+        Err(EditFault::Memory) => Err(Fault::MEMORY),
+        Err(own) => Ok(Some(own)),
+    }
+}
+
+/// Adds a fragment after those of the files before it; the sentence of its refusal, if that is the fault.
 fn added_sentence(
     alloc: Global,
     suspect: Suspect<'_>,
@@ -172,17 +182,10 @@ fn added_sentence(
     fragment: Fragment,
     log: &mut Log,
 ) -> Result<Option<String>, Fault> {
-    let shared = Arc::new(alloc, fragment)?;
-    let own = match log.push(Edit::Change(Change::Add(shared))) {
-        Ok(_) => return Ok(None),
-        Err(own) => own,
+    let own = match refusal_of(alloc, fragment, log)? {
+        Some(own) if suspect.fault.code == own.code() => own,
+        _ => return Ok(None),
     };
-    if own == EditFault::Memory {
-        return Err(Fault::MEMORY);
-    }
-    if suspect.fault.code != own.code() {
-        return Ok(None);
-    }
     let cause = added_cause(suspect.path, before, own, log.inputs().topo());
     let sentence = suspect.line_sentence(alloc, text, 1, cause)?;
     Ok(Some(sentence))
@@ -224,26 +227,45 @@ fn fragment_again<R: Files + AllocGlobal>(
     }
 }
 
+/// The sentence of the first of these fragments' files that the fault is of, each read again and added after those before it.
+fn first_again<R: Files + AllocGlobal>(
+    rt: &R,
+    topology: Suspect<'_>,
+    fragments: &[&str],
+    log: &mut Log,
+) -> Result<Option<String>, Fault> {
+    for (place, path) in fragments.iter().enumerate() {
+        let suspect = Suspect::new(*path, topology.fault, topology.look);
+        let before = fragments.get(..place).unwrap_or(fragments);
+        if let Some(sentence) = fragment_again(rt, suspect, before, log)? {
+            return Ok(Some(sentence));
+        }
+    }
+    Ok(None)
+}
+
+/// The sentence of the first of these fragments' files that the fault is of, on a sound topology.
+fn fragments_again<R: Files + AllocGlobal>(
+    rt: &R,
+    topology: Suspect<'_>,
+    fragments: &[&str],
+    topo: Topo,
+) -> Result<Option<String>, Fault> {
+    let mut log = Log::new(rt.alloc(), topo)?;
+    first_again(rt, topology, fragments, &mut log)
+}
+
 /// The sentence of a fault of `once`, whose files are read again: that of the first that it is of. None where it is of none.
 pub(crate) fn once_sentence<R: Files + AllocGlobal>(
     rt: &R,
     topology: Suspect<'_>,
     fragments: &[&str],
 ) -> Result<Option<String>, Fault> {
-    let topo = match topology_again(rt, topology)? {
-        Again::Told(sentence) => return Ok(Some(sentence)),
-        Again::Sound(topo) => topo,
-        Again::Unknown => return Ok(None),
-    };
-    let mut log = Log::new(rt.alloc(), topo)?;
-    for (place, path) in fragments.iter().enumerate() {
-        let suspect = Suspect::new(*path, topology.fault, topology.look);
-        let before = fragments.get(..place).unwrap_or(fragments);
-        if let Some(sentence) = fragment_again(rt, suspect, before, &mut log)? {
-            return Ok(Some(sentence));
-        }
+    match topology_again(rt, topology)? {
+        Again::Told(sentence) => Ok(Some(sentence)),
+        Again::Sound(topo) => fragments_again(rt, topology, fragments, topo),
+        Again::Unknown => Ok(None),
     }
-    Ok(None)
 }
 
 /// The code of a script that stops at a bad line.
@@ -254,6 +276,22 @@ const TRUNCATED: u8 = 42;
 
 /// The code of an edit that a script has not.
 const NO_SUCH_EDIT: u8 = 43;
+
+/// How many edits of a script are accepted.
+fn accepted_in(alloc: Global, topo: &Topo, bytes: &[u8]) -> Result<u64, Fault> {
+    let log = log_of(alloc, topo, bytes)?;
+    Ok(log.len())
+}
+
+/// What a script refused and where it stopped, in sentences.
+fn script_text(
+    alloc: Global,
+    topo: &Topo,
+    bytes: &[u8],
+    script: Script<'_>,
+) -> Result<String, Fault> {
+    Ok(script_sentences(alloc, topo, bytes, script)?)
+}
 
 /// The sentence of an audit's fault that its script has.
 fn audited_sentence(
@@ -270,14 +308,26 @@ fn audited_sentence(
                 most: 0,
                 look: suspect.look,
             };
-            Ok(Some(script_sentences(alloc, topo, bytes, script)?))
+            Ok(Some(script_text(alloc, topo, bytes, script)?))
         }
         (NO_SUCH_EDIT, Some(asked)) => {
-            let accepted = log_of(alloc, topo, bytes)?.len();
+            let accepted = accepted_in(alloc, topo, bytes)?;
             let cause = Cause::Edits { asked, accepted };
             Ok(Some(suspect.sentence(alloc, Place::File, cause)?))
         }
         _ => Ok(None),
+    }
+}
+
+/// The sentence of a fault of a script's file, which is read again. None where it is none of it.
+fn script_again<R: Files + AllocGlobal>(
+    rt: &R,
+    suspect: Suspect<'_>,
+    topo: &Topo,
+) -> Result<Option<String>, Fault> {
+    match seen_at(rt, suspect.path, Role::Script)? {
+        Seen::Text(bytes) => audited_sentence(rt.alloc(), suspect, topo, &bytes),
+        seen => seen_sentence(rt.alloc(), suspect, &seen, Role::Script),
     }
 }
 
@@ -287,16 +337,35 @@ pub(crate) fn script_sentence<R: Files + AllocGlobal>(
     topology: Suspect<'_>,
     script: &str,
 ) -> Result<Option<String>, Fault> {
-    let topo = match topology_again(rt, topology)? {
-        Again::Told(sentence) => return Ok(Some(sentence)),
-        Again::Sound(topo) => topo,
-        Again::Unknown => return Ok(None),
-    };
-    let suspect = Suspect::new(script, topology.fault, topology.look);
-    match seen_at(rt, script, Role::Script)? {
-        Seen::Text(bytes) => audited_sentence(rt.alloc(), suspect, &topo, &bytes),
-        seen => seen_sentence(rt.alloc(), suspect, &seen, Role::Script),
+    match topology_again(rt, topology)? {
+        Again::Told(sentence) => Ok(Some(sentence)),
+        Again::Sound(topo) => {
+            script_again(rt, Suspect::new(script, topology.fault, topology.look), &topo)
+        }
+        Again::Unknown => Ok(None),
     }
+}
+
+/// What the run of a script's file refused and where it stopped, in sentences; the file is read again. None where it can't be.
+fn refusals_on<R: Files + AllocGlobal>(
+    rt: &R,
+    topo: &Topo,
+    script: Script<'_>,
+) -> Result<Option<String>, Fault> {
+    match seen_at(rt, script.path, Role::Script)? {
+        Seen::Text(bytes) => Ok(Some(script_text(rt.alloc(), topo, &bytes, script)?)),
+        _ => Ok(None),
+    }
+}
+
+/// What the run of a script's file refused and where it stopped, in sentences, on the topology that a text is.
+fn refusals_after<R: Files + AllocGlobal>(
+    rt: &R,
+    text: &[u8],
+    script: Script<'_>,
+) -> Result<Option<String>, Fault> {
+    let topo = whole_topology(rt.alloc(), text)?;
+    refusals_on(rt, &topo, script)
 }
 
 /// What the run of a file's script refused and where it stopped, in sentences; the files are read again. None where they can't be.
@@ -306,20 +375,16 @@ pub(crate) fn run_sentences<R: Files + AllocGlobal>(
     script: &str,
     look: Look,
 ) -> Result<Option<String>, Fault> {
-    let Seen::Text(text) = seen_at(rt, topology, Role::Topology)? else {
-        return Ok(None);
-    };
-    let topo = whole_topology(rt.alloc(), &text)?;
-    let Seen::Text(bytes) = seen_at(rt, script, Role::Script)? else {
-        return Ok(None);
-    };
     let script = Script {
         path: script,
         first: 1,
         most: MOST_TOLD,
         look,
     };
-    Ok(Some(script_sentences(rt.alloc(), &topo, &bytes, script)?))
+    match seen_at(rt, topology, Role::Topology)? {
+        Seen::Text(text) => refusals_after(rt, &text, script),
+        _ => Ok(None),
+    }
 }
 
 /// What standard input is called.
@@ -349,5 +414,5 @@ pub(crate) fn input_sentences(alloc: Global, text: &[u8], look: Look) -> Result<
         most: MOST_TOLD,
         look,
     };
-    Ok(script_sentences(alloc, &topo, &text[used..], script)?)
+    script_text(alloc, &topo, &text[used..], script)
 }

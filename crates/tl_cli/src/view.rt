@@ -116,17 +116,31 @@ fn format_asked(found: &ArgMatches<'_>) -> Format {
     }
 }
 
-/// The rule of a word; another word is refused.
-fn rule_asked<'a>(
+/// What is told of words that are refused, with how the program is used.
+pub(crate) fn refusal(program: &mut clap::Command<'_>, text: &str) -> Result<Error, Error> {
+    Ok(program.error(ErrorKind::InvalidValue, text)?)
+}
+
+/// What is told of a word that is no rule.
+fn unknown_rule(
     alloc: Global,
-    program: &mut clap::Command<'a>,
+    program: &mut clap::Command<'_>,
+    word: &str,
+) -> Result<Error, Error> {
+    let text = format!(in alloc; "'{word}' is no rule: tlcheck explain lists them")?;
+    refusal(program, text.as_str())
+}
+
+/// The rule of a word; another word is refused.
+fn rule_asked(
+    alloc: Global,
+    program: &mut clap::Command<'_>,
     word: &str,
 ) -> Result<Rule, Error> {
-    if let Some(rule) = rule_named(word.as_bytes()) {
-        return Ok(rule);
+    match rule_named(word.as_bytes()) {
+        Some(rule) => Ok(rule),
+        None => Err(unknown_rule(alloc, program, word)?),
     }
-    let text = format!(in alloc; "'{word}' is no rule: tlcheck explain lists them")?;
-    Err(program.error(ErrorKind::InvalidValue, text.as_str())?)
 }
 
 /// The rules that the words name.
@@ -162,10 +176,7 @@ fn cycles_asked<'a>(
     let first = found.get_one("from").unwrap_or(Cycles::ALL.first);
     let last = found.get_one("to").unwrap_or(Cycles::ALL.last);
     if last < first {
-        return Err(program.error(
-            ErrorKind::InvalidValue,
-            "the cycle of --from is after that of --to",
-        )?);
+        return Err(refusal(program, "the cycle of --from is after that of --to")?);
     }
     Ok(Cycles { first, last })
 }

@@ -2,9 +2,8 @@
 
 use crate::denial::Deny;
 use crate::explain::entry_of;
-use crate::view::{View, view_asked, with_view};
+use crate::view::{View, refusal, view_asked, with_view};
 use clap::builder::ValueParser;
-use clap::error::ErrorKind;
 use clap::{Arg, ArgAction, ArgMatches, Error};
 use std::alloc::Global;
 
@@ -124,61 +123,73 @@ fn deny<'a>(alloc: Global) -> Arg<'a> {
         )
 }
 
-fn once<'a>(alloc: Global) -> Result<clap::Command<'a>, Error> {
-    let fragments = word(
+/// A command with the options of how it is to be done.
+fn with_how<'a>(
+    alloc: Global,
+    command: clap::Command<'a>,
+) -> Result<clap::Command<'a>, Error> {
+    let command = command
+        .arg(show(alloc))?
+        .arg(explain_faults(alloc))?
+        .arg(deny(alloc))?;
+    Ok(command)
+}
+
+fn fragments<'a>(alloc: Global) -> Arg<'a> {
+    word(
         alloc,
         "FRAGMENT",
         "Path of a fragment text, at most 8,388,608 bytes; each is one edit",
     )
     .action(ArgAction::Append)
-    .num_args(1..);
+    .num_args(1..)
+}
+
+fn once<'a>(alloc: Global) -> Result<clap::Command<'a>, Error> {
     let once = clap::Command::new(alloc, "once")
         .about("Checks the fragments of a capture together and writes the report")
         .after_help(ONCE_EXAMPLE)
         .arg(topology(alloc))?
-        .arg(fragments)?
-        .arg(show(alloc))?
-        .arg(explain_faults(alloc))?
-        .arg(deny(alloc))?;
-    with_view(alloc, once)
+        .arg(fragments(alloc))?;
+    with_view(alloc, with_how(alloc, once)?)
 }
 
-fn run<'a>(alloc: Global) -> Result<clap::Command<'a>, Error> {
-    let workers = Arg::new(alloc, "workers")
+fn workers<'a>(alloc: Global) -> Arg<'a> {
+    Arg::new(alloc, "workers")
         .long("workers")
         .value_name("N")
         .action(ArgAction::Set)
         .value_parser(ValueParser::unsigned(0, MOST_WORKERS))
-        .help("How many threads check windows beside the first, 0 to 16; 0 without this option");
+        .help("How many threads check windows beside the first, 0 to 16; 0 without this option")
+}
+
+fn run<'a>(alloc: Global) -> Result<clap::Command<'a>, Error> {
     let run = clap::Command::new(alloc, "run")
         .about("Runs a script of edits and publishes, and writes what each comes to")
         .after_help(RUN_EXAMPLE)
         .arg(topology(alloc))?
         .arg(script(alloc))?
-        .arg(workers)?
-        .arg(show(alloc))?
-        .arg(explain_faults(alloc))?
-        .arg(deny(alloc))?;
-    Ok(run)
+        .arg(workers(alloc))?;
+    with_how(alloc, run)
 }
 
-fn audit<'a>(alloc: Global) -> Result<clap::Command<'a>, Error> {
-    let edit = word(
+fn edit<'a>(alloc: Global) -> Arg<'a> {
+    word(
         alloc,
         "EDIT",
         "How many accepted edits of the script to check, a whole number below 2^63",
     )
-    .value_parser(ValueParser::unsigned(0, MOST_EDIT));
+    .value_parser(ValueParser::unsigned(0, MOST_EDIT))
+}
+
+fn audit<'a>(alloc: Global) -> Result<clap::Command<'a>, Error> {
     let audit = clap::Command::new(alloc, "audit")
         .about("Checks anew what the first accepted edits of a script leave")
         .after_help(AUDIT_EXAMPLE)
         .arg(topology(alloc))?
         .arg(script(alloc))?
-        .arg(edit)?
-        .arg(show(alloc))?
-        .arg(explain_faults(alloc))?
-        .arg(deny(alloc))?;
-    with_view(alloc, audit)
+        .arg(edit(alloc))?;
+    with_view(alloc, with_how(alloc, audit)?)
 }
 
 fn explain<'a>(alloc: Global) -> Result<clap::Command<'a>, Error> {
@@ -192,17 +203,24 @@ fn explain<'a>(alloc: Global) -> Result<clap::Command<'a>, Error> {
     Ok(explain)
 }
 
+/// The program with one more command.
+fn with_command<'a>(
+    program: clap::Command<'a>,
+    command: Result<clap::Command<'a>, Error>,
+) -> Result<clap::Command<'a>, Error> {
+    Ok(program.subcommand(command?)?)
+}
+
 fn program<'a>(alloc: Global) -> Result<clap::Command<'a>, Error> {
     let program = clap::Command::new(alloc, "tlcheck")
         .about("Checks recorded beats of SiFive TileLink 1.8")
         .version(VERSION)
         .after_help(HELP)
-        .subcommand_required(true)
-        .subcommand(once(alloc)?)?
-        .subcommand(run(alloc)?)?
-        .subcommand(audit(alloc)?)?
-        .subcommand(explain(alloc)?)?;
-    Ok(program)
+        .subcommand_required(true);
+    let program = with_command(program, once(alloc))?;
+    let program = with_command(program, run(alloc))?;
+    let program = with_command(program, audit(alloc))?;
+    with_command(program, explain(alloc))
 }
 
 const VERSION: &str = "0.1.0";
@@ -301,6 +319,16 @@ fn audit_asked<'a>(
     })
 }
 
+/// What is told of a word that `explain` doesn't know.
+fn unknown_word(
+    alloc: Global,
+    program: &mut clap::Command<'_>,
+    word: &str,
+) -> Result<Error, Error> {
+    let text = format!(in alloc; "'{word}' is no rule and no code of a refusal")?;
+    refusal(program, text.as_str())
+}
+
 /// The entry that the words of `explain` name, or none; another word is refused.
 fn explain_asked<'a>(
     alloc: Global,
@@ -310,11 +338,37 @@ fn explain_asked<'a>(
     let Some(word) = found.get_str("WORD") else {
         return Ok(Command::Explain { entry: None });
     };
-    let Some(entry) = entry_of(word) else {
-        let text = format!(in alloc; "'{word}' is no rule and no code of a refusal")?;
-        return Err(program.error(ErrorKind::InvalidValue, text.as_str())?);
+    match entry_of(word) {
+        Some(entry) => Ok(Command::Explain { entry: Some(entry) }),
+        None => Err(unknown_word(alloc, program, word)?),
+    }
+}
+
+/// The command that was found in the words.
+fn command_found<'a>(
+    alloc: Global,
+    program: &mut clap::Command<'a>,
+    matches: &ArgMatches<'a>,
+) -> Result<Command<'a>, Error> {
+    let Some((name, found)) = matches.subcommand() else {
+        return Ok(Command::Input);
     };
-    Ok(Command::Explain { entry: Some(entry) })
+    match name.as_bytes() {
+        b"run" => Ok(run_asked(found)),
+        b"audit" => audit_asked(alloc, program, found),
+        b"explain" => explain_asked(alloc, program, found),
+        _ => once_asked(alloc, program, found),
+    }
+}
+
+/// The command that the program finds in the words.
+fn command_of<'a>(
+    alloc: Global,
+    program: &mut clap::Command<'a>,
+    words: &'a [String],
+) -> Result<Command<'a>, Error> {
+    let matches = program.try_get_matches_from_mut(words)?;
+    command_found(alloc, program, &matches)
 }
 
 /// The command that the words name; the first word is the program's own.
@@ -323,20 +377,11 @@ pub(crate) fn read_words<'a>(alloc: Global, words: &'a [String]) -> Result<Comma
         return Ok(Command::Input);
     }
     let mut program = program(alloc)?;
-    let matches = program.try_get_matches_from_mut(words)?;
-    let Some((name, found)) = matches.subcommand() else {
-        return Ok(Command::Input);
-    };
-    match name.as_bytes() {
-        b"run" => Ok(run_asked(found)),
-        b"audit" => audit_asked(alloc, &mut program, found),
-        b"explain" => explain_asked(alloc, &mut program, found),
-        _ => once_asked(alloc, &mut program, found),
-    }
+    command_of(alloc, &mut program, words)
 }
 
 /// What is told of words of which one is no UTF-8 text.
 pub(crate) fn not_utf8(alloc: Global) -> Result<Error, Error> {
     let mut program = program(alloc)?;
-    Ok(program.error(ErrorKind::InvalidValue, "a word is no UTF-8 text")?)
+    refusal(&mut program, "a word is no UTF-8 text")
 }

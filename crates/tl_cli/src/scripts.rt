@@ -1,0 +1,208 @@
+//! Runs of scripts, with the monitors that they attach.
+
+ghost use Rattle.std.specs.Prelude.{◌≡◌, ◌<◌, ◌≤◌, ◌^◌, OnOk};
+
+use crate::denial::Deny;
+use crate::fault::Fault;
+use crate::files::{script_of, topology_of};
+use crate::monitors::{Attached, attached_in, settlement_lines};
+use crate::reports::{Ending, ending_of};
+use crate::words::How;
+use std::alloc::{AllocError, Global};
+use std::rt::Files;
+use std::sync::{Arc, Wait};
+use std::thread::Threads;
+use tl_beats::Watch;
+use tl_monitor::{After, Budget, Monitor};
+use tl_run::Outcome;
+use tl_text::{ByteOut, WriteFault, write_all};
+use tl_topology::{Topo, read_topo};
+use tl_workers::{Script, run_with, show_with};
+
+/// A script that is run.
+#[derive(Clone, Copy)]
+struct ScriptRun<'a> {
+    /// The topology that it runs on.
+    topo: &'a Topo,
+    /// The script's text.
+    text: &'a [u8],
+    /// Whether its reports are shown.
+    show: bool,
+}
+
+/// A monitor as a run takes it; it leaves in its cell what it tells at its end.
+fn boxed(alloc: Global, monitor: &Attached) -> Result<Box<dyn Monitor + Send>, AllocError> {
+    let cell = Arc::try_clone(&monitor.cell)?;
+    let boxed: Box<dyn Monitor + Send> = match monitor.watch {
+        Watch::Budget { link, class, limit } => {
+            Box::new(alloc, Budget::new(link, class, limit, cell))?
+        }
+        Watch::After {
+            link,
+            first,
+            second,
+        } => Box::new(alloc, After::new(link, first, second, cell))?,
+    };
+    Ok(boxed)
+}
+
+/// Puts a monitor after those that a run takes.
+fn push_box(
+    alloc: Global,
+    monitor: &Attached,
+    boxes: &mut Vec<Box<dyn Monitor + Send>>,
+) -> Result<(), AllocError> {
+    boxes.push(boxed(alloc, monitor)?)?;
+    Ok(())
+}
+
+/// The monitors that a run takes.
+fn boxes_of(
+    alloc: Global,
+    attached: &[Attached],
+) -> Result<Vec<Box<dyn Monitor + Send>>, AllocError> {
+    let mut boxes = Vec::new(alloc);
+    for monitor in attached {
+        push_box(alloc, monitor, &mut boxes)?;
+    }
+    Ok(boxes)
+}
+
+/// The run of a script with these monitors, shown or not.
+fn outcome_of<R: Threads + Wait + Sync + AllocGlobal, O: ByteOut>(
+    rt: &R,
+    script: Script<'_, Box<dyn Monitor + Send>>,
+    workers: u8,
+    show: bool,
+    out: &mut O,
+) -> Result<Outcome, WriteFault>
+    requires workers { workers ≤ 16 }
+    requires out { O.failure_count out.old < 2 ^ 63 }
+    ensures { OnOk result (O.failure_count out.new ≡ O.failure_count out.old) }
+{
+    if show {
+        show_with(rt, rt.alloc(), script, out, workers)
+    } else {
+        run_with(rt, rt.alloc(), script, out, workers)
+    }
+}
+
+/// Writes what these monitors told at their end, a line each.
+fn write_settlements<O: ByteOut>(
+    alloc: Global,
+    attached: &[Attached],
+    out: &mut O,
+) -> Result<(), Fault>
+    requires { O.failure_count out.old < 2 ^ 63 }
+{
+    let lines = settlement_lines(alloc, attached)?;
+    write_all(out, lines.as_bytes())?;
+    Ok(())
+}
+
+/// The run of a script with the monitors that it attaches, and after a run that did not stop what each of them told.
+fn run_attached<R: Threads + Wait + Sync + AllocGlobal, O: ByteOut>(
+    rt: &R,
+    run: ScriptRun<'_>,
+    attached: &[Attached],
+    workers: u8,
+    out: &mut O,
+) -> Result<Outcome, Fault>
+    requires workers { workers ≤ 16 }
+    requires out { O.failure_count out.old < 2 ^ 63 }
+{
+    let boxes = boxes_of(rt.alloc(), attached)?;
+    let script = Script::new(run.topo, run.text, boxes);
+    let outcome = outcome_of(rt, script, workers, run.show, out)?;
+    if outcome.stop.is_none() {
+        write_settlements(rt.alloc(), attached, out)?;
+    }
+    Ok(outcome)
+}
+
+/// The run of a script, for which it makes the monitors that it attaches. So many workers check windows beside it.
+fn run_of_script<R: Threads + Wait + Sync + AllocGlobal, O: ByteOut>(
+    rt: &R,
+    run: ScriptRun<'_>,
+    workers: u8,
+    out: &mut O,
+) -> Result<Outcome, Fault>
+    requires workers { workers ≤ 16 }
+    requires out { O.failure_count out.old < 2 ^ 63 }
+{
+    let attached = attached_in(rt.alloc(), run.text)?;
+    run_attached(rt, run, &attached, workers, out)
+}
+
+/// The run of a script that is denied or not.
+fn run_denied<R: Threads + Wait + Sync + AllocGlobal, O: ByteOut>(
+    rt: &R,
+    run: ScriptRun<'_>,
+    deny: Deny,
+    workers: u8,
+    out: &mut O,
+) -> Result<Ending, Fault>
+    requires workers { workers ≤ 16 }
+    requires out { O.failure_count out.old < 2 ^ 63 }
+{
+    let outcome = run_of_script(rt, run, workers, out)?;
+    if outcome.stop.is_some() {
+        return Ok(Ending::Came(outcome));
+    }
+    let denial = deny.of_run(rt.alloc(), run.topo, run.text)?;
+    Ok(ending_of(outcome, denial))
+}
+
+/// The run of a file's script on a topology.
+fn run_on<R: Files + Threads + Wait + Sync + AllocGlobal, O: ByteOut>(
+    rt: &R,
+    topo: &Topo,
+    script: &str,
+    workers: u8,
+    how: How,
+    out: &mut O,
+) -> Result<Ending, Fault>
+    requires workers { workers ≤ 16 }
+    requires out { O.failure_count out.old < 2 ^ 63 }
+{
+    let text = script_of(rt, script)?;
+    let run = ScriptRun {
+        topo,
+        text: &text,
+        show: how.show,
+    };
+    run_denied(rt, run, how.deny, workers, out)
+}
+
+/// The run of a file's script on a file's topology.
+pub(crate) fn run_of_files<R: Files + Threads + Wait + Sync + AllocGlobal, O: ByteOut>(
+    rt: &R,
+    topology: &str,
+    script: &str,
+    workers: u8,
+    how: How,
+    out: &mut O,
+) -> Result<Ending, Fault>
+    requires workers { workers ≤ 16 }
+    requires out { O.failure_count out.old < 2 ^ 63 }
+{
+    let topo = topology_of(rt, topology)?;
+    run_on(rt, &topo, script, workers, how, out)
+}
+
+/// The run of a script after its topology's text.
+pub(crate) fn run_of_input<R: Threads + Wait + Sync + AllocGlobal, O: ByteOut>(
+    rt: &R,
+    text: &[u8],
+    out: &mut O,
+) -> Result<Outcome, Fault>
+    requires { O.failure_count out.old < 2 ^ 63 }
+{
+    let (topo, used) = read_topo(rt.alloc(), text)?;
+    let run = ScriptRun {
+        topo: &topo,
+        text: &text[used..],
+        show: false,
+    };
+    run_of_script(rt, run, 0, out)
+}

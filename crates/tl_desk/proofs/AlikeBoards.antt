@@ -1,15 +1,15 @@
 -- What each call makes of windows that are the same.
-use Rattle.std.proofs.Common.{◌≡◌, ℕ, ◌<◌, ◌⊎◌, inl, inr, ◌==◌, true, false, cond, Bool, List, [], ◌∷◌, ◌++◌, Option, Some, None, length, refl, sym, ap, subst, ◌∙◌, arith, nat_lt}
+use Rattle.std.proofs.Common.{◌≡◌, ℕ, inl, inr, ◌==◌, true, false, cond, Bool, List, [], ◌∷◌, ◌++◌, Option, Some, None, length, refl, sym, ap, subst, ◌∙◌, arith, nat_lt}
 use Rattle.std.specs.Prelude.{is_some, slice_index_or}
 use Rattle.tl_beats.specs.declared.Row.{Row}
 use Rattle.tl_definitions.specs.Captures.{manager_beats}
 use Rattle.tl_definitions.specs.Managers.{manager_at}
 use Rattle.tl_inputs.specs.Edits.{AnEdit}
-use Rattle.tl_inputs.specs.Inputs.{InputData, watch_at}
+use Rattle.tl_inputs.specs.Inputs.{InputData}
 use Rattle.tl_inputs.specs.Log.{LogData, inputs_after}
 use Rattle.tl_pieces.specs.declared.key.PieceKey.{PieceKey}
 use Rattle.tl_pieces.specs.Keys.{value_at, change}
-use Rattle.tl_pieces.specs.Pieces.{Board, Piece, Pass, IsBoard, IsAt, IsFirst, IsFree, IsGood, Follows, IsWanted, IsWantedAt, ChainsFrom, opening_of, exit_before, left_by, piece_at, result_of, live_of, with_live}
+use Rattle.tl_pieces.specs.Pieces.{Board, Piece, Pass, IsBoard, IsAt, IsFirst, IsGood, Follows, IsWanted, IsWantedAt, ChainsFrom, opening_of, exit_before, left_by, piece_at, result_of, live_of, with_live}
 use Rattle.tl_span.specs.Links.{SameLink}
 use Rattle.tl_span.specs.States.{SameSpan, StandsFor}
 use Rattle.tl_span.specs.declared.links.LinkState.{LinkState}
@@ -27,9 +27,9 @@ use Rattle.tl_watches.specs.Edits.{EditsBoth}
 use Rattle.tl_watches.specs.Outside.{HandsInWatch}
 use Rattle.tl_watches.specs.Tally.{SameTally}
 use Rattle.tl_watches.specs.Touch.{TouchesWatch}
-use Rattle.tl_watches.specs.Watches.{WatchesData, AreWatches, beats_for}
+use Rattle.tl_watches.specs.Watches.{WatchesData, AreWatches}
 use Rattle.tl_windows.specs.Windows.{HasBeat}
-use Rattle.tl_desk.specs.Jobs.{IsLiveAt, IsLiveAtWatch, Unmarks, UnmarksWatch}
+use Rattle.tl_desk.specs.Jobs.{Unmarks, UnmarksWatch}
 use Rattle.tl_desk.proofs.TicketLemmas.{clash, one_value}
 
 -- ---- one window after an edit, which either touched it or not

@@ -2,9 +2,6 @@
 use Rattle.std.proofs.Common.{◌≡◌, ℕ, ◌⊎◌, inl, inr, List, [], ◌∷◌, ◌++◌, Option, Some, None, refl, sym, ap, ◌∙◌}
 use Rattle.std.specs.Prelude.{is_some}
 use Rattle.std.specs.Option.{option_map, option_map_or, option_and_then}
-use Rattle.std.specs.Ordering.{nat_cmp}
-use Rattle.std.specs.List.Sorted.{IsStrictlySortedBy}
-use Rattle.std.specs.Map.{keys_of}
 use Rattle.tl_beats.specs.declared.watch.Watch.{Watch}
 use Rattle.tl_boxes.specs.Boxes.{BoxesData, IsBoxes, place_at, held_at, away_at, placed_at, attached_at, retuned_at, detached_from, detached_at, taken_at, back_with, brought_back}
 use Rattle.tl_boxes.specs.Places.{Place, Here, Out, held_of, away_of, limit_of, tuned, place_tuned, place_left, leaving}

@@ -1,5 +1,5 @@
 -- One call leads desks that have the same to desks that have the same.
-use Rattle.std.proofs.Common.{◌≡◌, ℕ, ◌⊎◌, inl, inr, true, false, List, [], ◌∷◌, ◌++◌, Option, Some, None, length, refl, sym, ap, subst, ◌∙◌}
+use Rattle.std.proofs.Common.{◌≡◌, ℕ, inl, inr, true, false, List, [], ◌∷◌, ◌++◌, Option, Some, None, length, refl, sym, ap, subst, ◌∙◌}
 use Rattle.tl_beats.specs.declared.Row.{Row}
 use Rattle.std.specs.Option.{option_map}
 use Rattle.tl_boxes.specs.Boxes.{BoxesData, away_at, brought_back}
@@ -23,18 +23,17 @@ use Rattle.tl_spans.specs.Tickets.{HandsIn}
 use Rattle.tl_spans.specs.Windows.{key_of}
 use Rattle.tl_tickets.specs.declared.piece.Piece.{Piece as APiece}
 use Rattle.tl_tickets.specs.declared.piece.Piece.TheVariants as piece
-use Rattle.tl_tickets.specs.Tickets.{TicketsData, IsOutFor}
+use Rattle.tl_tickets.specs.Tickets.{IsOutFor}
 use Rattle.tl_topology.specs.Topology.{Topology}
 use Rattle.tl_watches.specs.declared.tally.Tally.{Tally}
 use Rattle.tl_watches.specs.Outside.{HandsInWatch}
 use Rattle.tl_watches.specs.Tally.{SameTally}
 use Rattle.tl_watches.specs.Watches.{WatchesData, AreWatches}
-use Rattle.tl_desk.specs.Alike.{HaveSameMonitors, AreAlike, ChecksNothing, CallsKeepDesksAlike}
+use Rattle.tl_desk.specs.Alike.{HaveSameMonitors, AreAlike, CallsKeepDesksAlike}
 use Rattle.tl_desk.specs.Core.{Core, IsDesk, IsNew, AllSettled, log_of, standing}
-use Rattle.tl_desk.specs.Jobs.{IsHere, IsFirstFreeWatch, Takes, TakesWatch, Accepts, AcceptsWatch, Ends, EndsWatch, Recalls, RecallsWatch, Unmarks, UnmarksWatch, IsLiveAt, IsLiveAtWatch, IsOwn, key_for, watch_key_for, given, ended}
-use Rattle.tl_desk.specs.Steps.{Step, Edits, Publishes, boxes_after, of_span, of_watch}
+use Rattle.tl_desk.specs.Jobs.{IsHere, IsFirstFreeWatch, Takes, TakesWatch, Accepts, AcceptsWatch, Ends, EndsWatch, Recalls, RecallsWatch, Unmarks, UnmarksWatch, IsOwn, key_for, watch_key_for, given, ended}
+use Rattle.tl_desk.specs.Steps.{Edits, Publishes, boxes_after, of_span, of_watch}
 use Rattle.tl_desk.specs.Tickets.{window_of, watch_window_of}
-use Rattle.tl_desk.specs.declared.call.Call.{Call}
 use Rattle.tl_desk.specs.declared.call.Call.TheVariants as call
 use Rattle.tl_desk.specs.declared.call.Outcome.{Outcome}
 use Rattle.tl_desk.specs.declared.call.Outcome.TheVariants as outcome

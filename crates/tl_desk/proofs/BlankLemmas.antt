@@ -11,7 +11,7 @@ use Rattle.tl_pieces.proofs.OrderLemmas.{key_exact}
 use Rattle.tl_span.specs.States.{SameSpan}
 use Rattle.tl_span.specs.declared.state.SpanState.{SpanState}
 use Rattle.tl_spans.specs.Windows.{key_of}
-use Rattle.tl_desk.specs.Core.{Core, log_of}
+use Rattle.tl_desk.specs.Core.{log_of}
 use Rattle.tl_desk.specs.Laws.{BlankWindowsAreGiven}
 use Rattle.tl_desk.proofs.TicketLemmas.{one_value}
 

@@ -1,5 +1,5 @@
 -- One history leads to one desk.
-use Rattle.std.proofs.Common.{List, [], ◌∷◌, Some, None, inl, inr, map, subst}
+use Rattle.std.proofs.Common.{List, [], ◌∷◌, None, inl, inr, map, subst}
 use Rattle.tl_desk.specs.Alike.{AreAlike, ChecksNothing}
 use Rattle.tl_desk.specs.Core.{Core, IsDesk}
 use Rattle.tl_desk.specs.Jobs.{HasFree, IsHere}

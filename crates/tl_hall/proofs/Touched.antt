@@ -1,10 +1,10 @@
 -- What the last entries of a history leave.
-use Rattle.std.proofs.Common.{◌≡◌, ℕ, ◌<◌, List, [], ◌∷◌, ◌++◌, Option, Some, None, length, map, refl, sym, ap, subst, ◌∙◌}
+use Rattle.std.proofs.Common.{◌≡◌, ◌<◌, List, [], ◌∷◌, ◌++◌, Option, Some, None, length, map, refl, sym, ap, subst, ◌∙◌}
 use mathlib.Core.List.{map-append}
 use Rattle.tl_definitions.specs.Captures.{manager_beats}
 use Rattle.tl_inputs.specs.Edits.{AnEdit, plain_change, attach}
 use Rattle.tl_inputs.specs.Inputs.{InputData}
-use Rattle.tl_inputs.specs.Log.{LogData, inputs_after}
+use Rattle.tl_inputs.specs.Log.{inputs_after}
 use Rattle.tl_pieces.specs.declared.key.PieceKey.{PieceKey}
 use Rattle.tl_pieces.specs.Pieces.{piece_at, result_of, live_of}
 use Rattle.tl_spans.specs.Edits.{EditsTo}
@@ -23,7 +23,7 @@ use Rattle.tl_desk.proofs.SettledLemmas.{only_edits_unsettle}
 use Rattle.tl_hall.specs.declared.entry.Entry.{Entry}
 use Rattle.tl_hall.specs.Desks.{IsEdit, AreEdits, AreNoEdits, left_behind, TouchedWindowsAreGiven, ReportsStayReady}
 use Rattle.tl_hall.specs.History.{entry, call_of, Runs, Leads}
-use Rattle.tl_hall.specs.Telling.{Told, told_by}
+use Rattle.tl_hall.specs.Telling.{Told}
 use Rattle.tl_hall.proofs.Running.{leads_desk}
 use Rattle.tl_hall.proofs.Tellings.{histories_tell}
 use Rattle.tl_hall.proofs.Tickets.{clash}

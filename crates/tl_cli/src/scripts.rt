@@ -81,10 +81,9 @@ fn outcome_of<R: Threads + Wait + Sync + AllocGlobal, O: ByteOut>(
     ensures { OnOk result (O.failure_count out.new ≡ O.failure_count out.old) }
 {
     if show {
-        show_with(rt, rt.alloc(), script, out, workers)
-    } else {
-        run_with(rt, rt.alloc(), script, out, workers)
+        return show_with(rt, rt.alloc(), script, out, workers);
     }
+    run_with(rt, rt.alloc(), script, out, workers)
 }
 
 /// Writes what these monitors told at their end, a line each.

@@ -45,7 +45,7 @@ fn bring<R: Wait>(
 /// What a supervisor sees and does.
 #[derive(Clone, Copy, PartialEq)]
 struct Rescue {
-    /// The oldest live ticket: at first, behind the first recalls, and behind the last.
+    /// The oldest live ticket: at first, after the first recalls, and after the last.
     oldest: (Option<u64>, Option<u64>, Option<u64>),
     /// Whether ticket 1 was live as it was called back, and as that was done again, and whether ticket 2 was.
     were_live: (bool, bool, bool),

@@ -15,7 +15,7 @@ use tl_monitor::Budget;
 use tl_tables::{Chan, Rule};
 use tl_topology::Name;
 
-/// Stops its workers behind so many jobs.
+/// Stops its workers after so many jobs.
 #[derive(Drop)]
 struct Enough {
     jobs: u64,

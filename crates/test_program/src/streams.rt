@@ -5,7 +5,7 @@ use std::alloc::Global;
 use std::io;
 use std::io::{Read, Write};
 
-/// Gives one byte of the input a read, and fails behind so many.
+/// Gives one byte of the input a read, and fails after so many.
 #[derive(Drop)]
 pub(crate) struct Breaking {
     pub(crate) at: usize,

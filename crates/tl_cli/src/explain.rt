@@ -105,14 +105,14 @@ pub(crate) fn entry_of(word: &str) -> Option<&'static str> {
     }
 }
 
-/// Puts the first line of an entry behind a text.
+/// Puts the first line of an entry after a text.
 fn push_title(text: &mut String, entry: &str) -> Result<(), AllocError> {
     let title = entry.lines().next().unwrap_or("");
     text.push_str(title)?;
     text.push('\n')
 }
 
-/// Puts the first line of each refusal's entry behind a text.
+/// Puts the first line of each refusal's entry after a text.
 fn push_refusals(text: &mut String) -> Result<(), AllocError> {
     for code in 0..=MOST_CODE {
         if let Some(entry) = refusal_entry(code) {

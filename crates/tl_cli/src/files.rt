@@ -13,7 +13,7 @@ use tl_run::read_script;
 use tl_text::{CountedReader, TextFault, read_text};
 use tl_topology::{Topo, TopoFault, read_topo};
 
-/// The topology that a file's whole text is; bytes behind its last line are BadLine of the next.
+/// The topology that a file's whole text is; bytes after its last line are BadLine of the next.
 pub(crate) fn topology_of<R: Files + AllocGlobal>(rt: &R, path: &str) -> Result<Topo, Fault> {
     let Ok(file) = fs::open(rt, path) else {
         return Err(Fault::FILE);
@@ -24,13 +24,13 @@ pub(crate) fn topology_of<R: Files + AllocGlobal>(rt: &R, path: &str) -> Result<
     Ok(topo)
 }
 
-/// The number of the line that begins behind these lines.
+/// The number of the line that begins after these lines.
 pub(crate) fn line_after(lines: &[u8]) -> u64 {
     let ends = lines.iter().filter(|byte| **byte == b'\n').count();
     ends as u64 + 1
 }
 
-/// The topology that a whole text is; bytes behind its last line are BadLine of the next.
+/// The topology that a whole text is; bytes after its last line are BadLine of the next.
 pub(crate) fn whole_topology(alloc: Global, text: &[u8]) -> Result<Topo, TopoFault> {
     let (topo, used) = read_topo(alloc, text)?;
     if used == text.len() {

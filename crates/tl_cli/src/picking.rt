@@ -96,7 +96,7 @@ fn file_text<R: Files + AllocGlobal>(rt: &R, path: &str) -> Result<Vec<u8>, Text
     read_text(rt.alloc(), &mut CountedReader::new(file), MOST_WAIVERS)
 }
 
-/// The text of a file of waivers, with a newline behind it, which its last line may lack.
+/// The text of a file of waivers, with a newline after it, which its last line may lack.
 fn waiver_text<R: Files + AllocGlobal>(rt: &R, path: &str) -> Result<Vec<u8>, Trouble> {
     let alloc = rt.alloc();
     match file_text(rt, path) {
@@ -161,12 +161,7 @@ pub(crate) fn order_of<'a, R: Files + AllocGlobal>(
 }
 
 /// Puts the line of a waiver that accepts no row after a text.
-fn push_line(
-    alloc: Global,
-    path: &str,
-    number: u64,
-    notes: &mut String,
-) -> Result<(), AllocError> {
+fn push_line(alloc: Global, path: &str, number: u64, notes: &mut String) -> Result<(), AllocError> {
     let line = format!(in alloc; "tlcheck: {path} line {number} fits no row\n")?;
     notes.push_str(line.as_str())
 }
@@ -185,12 +180,7 @@ fn push_unused(
 }
 
 /// How many rows are waived, in a line.
-fn waived_line(
-    alloc: Global,
-    path: &str,
-    pick: &Pick,
-    rows: &[Row],
-) -> Result<String, AllocError> {
+fn waived_line(alloc: Global, path: &str, pick: &Pick, rows: &[Row]) -> Result<String, AllocError> {
     let waived = pick.waived(alloc, rows)?.len();
     let found = rows.len();
     format!(in alloc; "tlcheck: {path} waives {waived} of {found} rows\n")

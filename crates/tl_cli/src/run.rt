@@ -48,7 +48,7 @@ fn status_of(outcome: Outcome) -> u8
     }
 }
 
-/// Runs a script behind its topology, and at a terminal tells what was refused.
+/// Runs a script after its topology, and at a terminal tells what was refused.
 fn do_input<R: Threads + Wait + Sync + AllocGlobal, O: ByteOut, E: ByteOut>(
     rt: &R,
     text: &[u8],
@@ -89,7 +89,7 @@ fn tell<E: ByteOut>(alloc: Global, err: &mut E, fault: Fault) -> u8
     FAULT
 }
 
-/// What is told behind the line of a fault.
+/// What is told after the line of a fault.
 fn told_behind(
     alloc: Global,
     fault: Fault,
@@ -101,7 +101,7 @@ fn told_behind(
     }
 }
 
-/// Tells of a fault in one line, and behind it in a sentence, or where it has none by the last line of each; in one line alone where
+/// Tells of a fault in one line, and after it in a sentence, or where it has none by the last line of each; in one line alone where
 /// the sentence finds no memory. That this can't be written changes nothing.
 fn tell_both<E: ByteOut>(
     alloc: Global,
@@ -156,7 +156,7 @@ fn tell_refusals<R: Files + AllocGlobal, E: ByteOut>(
     }
 }
 
-/// Tells in one line why a run is denied, and what it refused behind that; that this can't be written changes nothing.
+/// Tells in one line why a run is denied, and what it refused after that; that this can't be written changes nothing.
 fn tell_denial<R: Files + AllocGlobal, E: ByteOut>(
     rt: &R,
     err: &mut E,
@@ -237,7 +237,7 @@ fn sentence_of<R: Files + AllocGlobal>(
     }
 }
 
-/// Tells of a fault in one line, and where faults are explained in a sentence behind that.
+/// Tells of a fault in one line, and where faults are explained in a sentence after that.
 fn tell_fault<R: Files + AllocGlobal, E: ByteOut>(
     rt: &R,
     err: &mut E,
@@ -401,12 +401,14 @@ fn tell_ending<R: Files + AllocGlobal, E: ByteOut>(
 }
 
 /// Does what a command asks for, and answers the exit status.
-fn do_command<
-    R: Files + Threads + Wait + Sync + AllocGlobal,
-    I: ByteIn,
-    O: ByteOut,
-    E: ByteOut,
->(rt: &R, command: &Command<'_>, input: &mut I, out: &mut O, err: &mut E, screen: Screen) -> u8
+fn do_command<R: Files + Threads + Wait + Sync + AllocGlobal, I: ByteIn, O: ByteOut, E: ByteOut>(
+    rt: &R,
+    command: &Command<'_>,
+    input: &mut I,
+    out: &mut O,
+    err: &mut E,
+    screen: Screen,
+) -> u8
     requires reads { I.read_count input.old < 2 ^ 63 }
     requires failures { I.failure_count input.old < 2 ^ 63 }
     requires out { O.failure_count out.old < 2 ^ 63 }

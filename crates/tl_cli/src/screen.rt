@@ -36,7 +36,7 @@ impl Screen {
         self.is_terminal() || command.how().is_some_and(|how| how.explain_faults)
     }
 
-    /// Whether the sentence of a fault is told behind its line.
+    /// Whether the sentence of a fault is told after its line.
     pub(crate) fn has_faults(self, command: &Command<'_>) -> bool {
         self.has_sentences(command) || command.how().is_some_and(|how| how.show)
     }

@@ -124,10 +124,7 @@ fn deny<'a>(alloc: Global) -> Arg<'a> {
 }
 
 /// A command with the options of how it is to be done.
-fn with_how<'a>(
-    alloc: Global,
-    command: clap::Command<'a>,
-) -> Result<clap::Command<'a>, Error> {
+fn with_how<'a>(alloc: Global, command: clap::Command<'a>) -> Result<clap::Command<'a>, Error> {
     let command = command
         .arg(show(alloc))?
         .arg(explain_faults(alloc))?

@@ -33,7 +33,7 @@ made z z' v w m c d call Told same saw leads of_hall step desk told is =
       leads = leads_more v.topo w.0.seen w.0.number c call d leads of_hall step desk;
     }
 
--- The history behind a call, however its words are written.
+-- The history after a call, however its words are written.
 pub recorded_as : (now : View) (c d : Core) (call same : Call) → call ≡ same → Leads now.topo now.seen c → IsOfHall call → Step c call d → IsDesk d → Leads now.topo (now.seen ++ entry now.number same ∷ []) d
 recorded_as now c d call same is leads of_hall step desk = subst (λ (k : Call). Leads now.topo (now.seen ++ entry now.number k ∷ []) d) is (leads_more now.topo now.seen now.number c call d leads of_hall step desk)
 

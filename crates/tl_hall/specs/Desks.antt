@@ -25,11 +25,11 @@ use Rattle.tl_hall.specs.Telling.{told_by}
 abbrev pub OneHistoryLeadsToOneDesk : Type 0
 OneHistoryLeadsToOneDesk = (topo : Topology) (log : List Entry) (one other : Core) → Leads topo log one → Leads topo log other → AreAlike one other
 
--- Where a history leads to a desk that has a window to take, no None is true behind it.
+-- Where a history leads to a desk that has a window to take, no None is true after it.
 abbrev pub FreeWindowsAreGiven : Type 0
 FreeWindowsAreGiven = (p q : PassData) (core : Core) → Looked p HasNone q → Leads p.topo q.seen core → HasFree core → ⊥
 
--- Where a history leads to a desk whose windows are all checked, no NotReady is true behind it.
+-- Where a history leads to a desk whose windows are all checked, no NotReady is true after it.
 abbrev pub CheckedDesksAreReady : Type 0
 CheckedDesksAreReady = (p q : PassData) (core : Core) → Looked p (IsUnready publish_fault.NotReady) q → Leads p.topo q.seen core → AllSettled core → ⊥
 
@@ -47,7 +47,7 @@ abbrev pub AreNoEdits : List Entry → Type 0
 AreNoEdits [] = Unit {0}
 AreNoEdits (e ∷ es) = IsNoEdit e.call × AreNoEdits es
 
--- what stands behind a history, and the beats of a manager in it
+-- what stands after a history, and the beats of a manager in it
 abbrev pub left_behind : Topology → List Entry → InputData
 left_behind topo log = inputs_after topo (told_by log).edits
 

@@ -185,7 +185,7 @@ impl<M: Monitor> Hall<M> {
         self.table.shared.store::<Leave>(seat, 1, 0);
     }
 
-    /// The same behind a call that becomes an entry, which the caller picks by what it tells.
+    /// The same after a call that becomes an entry, which the caller picks by what it tells.
     pub(crate) fn leave_with<C: Said, T>(&self, seat: &mut Place<M>, desk: Desk<M>, told: &T)
         requires hall { seat.old.table_id ≡ self.now.hall }
         requires inside { IsInside seat.old.me }

@@ -30,18 +30,18 @@ pub fn one_history_leads_to_one_desk()
     ensures { OneHistoryLeadsToOneDesk }
 {}
 
-/// Where a history leads to a desk that has a window to take, no None of a take is true behind it.
+/// Where a history leads to a desk that has a window to take, no None of a take is true after it.
 pub fn free_windows_are_given()
     ensures { FreeWindowsAreGiven }
 {}
 
-/// Where a history leads to a desk whose windows are all checked, no NotReady of a publish is true behind it.
+/// Where a history leads to a desk whose windows are all checked, no NotReady of a publish is true after it.
 pub fn checked_desks_are_ready()
     ensures { CheckedDesksAreReady }
 {}
 
 /// Where a history ends with edits, of which the first touches a window of a manager that has a beat there in the end, no None of a
-/// take is true behind it.
+/// take is true after it.
 pub fn touched_windows_are_given()
     ensures { TouchedWindowsAreGiven }
 {}

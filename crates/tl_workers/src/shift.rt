@@ -25,7 +25,7 @@ const NO_MANAGER: u64 = u64::MAX;
 /// A worker that sleeps knows calls apart by the lowest 32 bits of their number.
 const SLEEPERS_SEE: u64 = 1 << 32;
 
-/// The most publishes that the script's thread does alone behind one whose guesses were wrong.
+/// The most publishes that the script's thread does alone after one whose guesses were wrong.
 const MOST_ALONE: u64 = 1_024;
 
 /// What workers are called for.
@@ -130,7 +130,7 @@ impl<'s, 'a, G: Gate> Shift<'s, 'a, G> {
         }
     }
 
-    /// Sends the workers to rest behind a publish.
+    /// Sends the workers to rest after a publish.
     pub(crate) fn rest(&self) {
         self.state.store(RESTING, Ordering::SeqCst);
         self.manager.store(NO_MANAGER, Ordering::SeqCst);
@@ -164,7 +164,7 @@ impl<'s, 'a, G: Gate> Shift<'s, 'a, G> {
         }
     }
 
-    /// Waits for a call behind that of this number: what it is for, and its number.
+    /// Waits for a call after that of this number: what it is for, and its number.
     pub(crate) fn next_call<R: Wait>(&self, rt: &R, served: u64) -> (Call, u64) {
         for _ in rt.forever() {
             let number = self.calls.load(Ordering::SeqCst);

@@ -1,4 +1,4 @@
-//! Windows that one thread checks, one behind the other.
+//! Windows that one thread checks, one after the other.
 
 ghost use Rattle.std.specs.Prelude.{◌≡◌};
 ghost use Rattle.tl_workers.specs.Crew.{GoesOn};

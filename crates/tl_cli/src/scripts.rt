@@ -68,23 +68,24 @@ fn boxes_of(
     Ok(boxes)
 }
 
-/// The run of a script with these monitors, shown or not.
+/// The run of a script with these monitors.
 fn outcome_of<R: Threads + Wait + Sync + AllocGlobal, O: ByteOut>(
     rt: &R,
-    script: Script<'_, Box<dyn Monitor + Send>>,
+    run: ScriptRun<'_>,
+    boxes: Vec<Box<dyn Monitor + Send>>,
     workers: u8,
-    show: bool,
     out: &mut O,
 ) -> Result<Outcome, WriteFault>
     requires workers { workers ≤ 16 }
     requires out { O.failure_count out.old < 2 ^ 63 }
     ensures { OnOk result (O.failure_count out.new ≡ O.failure_count out.old) }
 {
+    let ScriptRun { topo, text, show } = run;
     if show {
-        return show_with(rt, rt.alloc(), script, out, workers);
+        show_with(rt, rt.alloc(), Script { topo, text, boxes }, out, workers)
+    } else {
+        run_with(rt, rt.alloc(), topo, text, boxes, out, workers)
     }
-    let Script { topo, text, boxes } = script;
-    run_with(rt, rt.alloc(), topo, text, boxes, out, workers)
 }
 
 /// Writes what these monitors told at their end, a line each.
@@ -111,12 +112,8 @@ fn run_attached<R: Threads + Wait + Sync + AllocGlobal, O: ByteOut>(
     requires workers { workers ≤ 16 }
     requires out { O.failure_count out.old < 2 ^ 63 }
 {
-    let script = Script {
-        topo: run.topo,
-        text: run.text,
-        boxes: boxes_of(rt.alloc(), attached)?,
-    };
-    let outcome = outcome_of(rt, script, workers, run.show, out)?;
+    let boxes = boxes_of(rt.alloc(), attached)?;
+    let outcome = outcome_of(rt, run, boxes, workers, out)?;
     if outcome.stop.is_none() {
         write_settlements(rt.alloc(), attached, out)?;
     }

@@ -335,20 +335,30 @@ fn explain_asked<'a>(
     }
 }
 
+/// What the words of the command with this name ask for.
+fn command_named<'a>(
+    alloc: Global,
+    program: &mut clap::Command<'a>,
+    name: &str,
+    found: &ArgMatches<'a>,
+) -> Result<Command<'a>, Error> {
+    match name.as_bytes() {
+        b"run" => Ok(run_asked(found)),
+        b"audit" => audit_asked(alloc, program, found),
+        b"explain" => explain_asked(alloc, program, found),
+        _ => once_asked(alloc, program, found),
+    }
+}
+
 /// The command that was found in the words.
 fn command_found<'a>(
     alloc: Global,
     program: &mut clap::Command<'a>,
     matches: &ArgMatches<'a>,
 ) -> Result<Command<'a>, Error> {
-    let Some((name, found)) = matches.subcommand() else {
-        return Ok(Command::Input);
-    };
-    match name.as_bytes() {
-        b"run" => Ok(run_asked(found)),
-        b"audit" => audit_asked(alloc, program, found),
-        b"explain" => explain_asked(alloc, program, found),
-        _ => once_asked(alloc, program, found),
+    match matches.subcommand() {
+        Some((name, found)) => command_named(alloc, program, name, found),
+        None => Ok(Command::Input),
     }
 }
 

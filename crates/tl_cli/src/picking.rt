@@ -161,12 +161,7 @@ pub(crate) fn order_of<'a, R: Files + AllocGlobal>(
 }
 
 /// Puts the line of a waiver that accepts no row after a text.
-fn push_line(
-    alloc: Global,
-    path: &str,
-    number: u64,
-    notes: &mut String,
-) -> Result<(), AllocError> {
+fn push_line(alloc: Global, path: &str, number: u64, notes: &mut String) -> Result<(), AllocError> {
     let line = format!(in alloc; "tlcheck: {path} line {number} fits no row\n")?;
     notes.push_str(line.as_str())
 }
@@ -185,12 +180,7 @@ fn push_unused(
 }
 
 /// How many rows are waived, in a line.
-fn waived_line(
-    alloc: Global,
-    path: &str,
-    pick: &Pick,
-    rows: &[Row],
-) -> Result<String, AllocError> {
+fn waived_line(alloc: Global, path: &str, pick: &Pick, rows: &[Row]) -> Result<String, AllocError> {
     let waived = pick.waived(alloc, rows)?.len();
     let found = rows.len();
     format!(in alloc; "tlcheck: {path} waives {waived} of {found} rows\n")

@@ -420,12 +420,14 @@ fn tell_ending<R: Files + AllocGlobal, E: ByteOut>(
 }
 
 /// Does what a command asks for, and answers the exit status.
-fn do_command<
-    R: Files + Threads + Wait + Sync + AllocGlobal,
-    I: ByteIn,
-    O: ByteOut,
-    E: ByteOut,
->(rt: &R, command: &Command<'_>, input: &mut I, out: &mut O, err: &mut E, screen: Screen) -> u8
+fn do_command<R: Files + Threads + Wait + Sync + AllocGlobal, I: ByteIn, O: ByteOut, E: ByteOut>(
+    rt: &R,
+    command: &Command<'_>,
+    input: &mut I,
+    out: &mut O,
+    err: &mut E,
+    screen: Screen,
+) -> u8
     requires reads { I.read_count input.old < 2 ^ 63 }
     requires failures { I.failure_count input.old < 2 ^ 63 }
     requires out { O.failure_count out.old < 2 ^ 63 }

@@ -164,7 +164,11 @@ fn added_cause<'a>(path: &str, before: &[&str], fault: EditFault, topo: &'a Topo
 }
 
 /// Why a fragment can't be added to a log; None where it can, and now is.
-fn refusal_of(alloc: Global, fragment: Fragment, log: &mut Log) -> Result<Option<EditFault>, Fault> {
+fn refusal_of(
+    alloc: Global,
+    fragment: Fragment,
+    log: &mut Log,
+) -> Result<Option<EditFault>, Fault> {
     let shared = Arc::new(alloc, fragment)?;
     match log.push(Edit::Change(Change::Add(shared))) {
         Ok(_) => Ok(None),
@@ -340,7 +344,11 @@ pub(crate) fn script_sentence<R: Files + AllocGlobal>(
     match topology_again(rt, topology)? {
         Again::Told(sentence) => Ok(Some(sentence)),
         Again::Sound(topo) => {
-            script_again(rt, Suspect::new(script, topology.fault, topology.look), &topo)
+            script_again(
+                rt,
+                Suspect::new(script, topology.fault, topology.look),
+                &topo,
+            )
         }
         Again::Unknown => Ok(None),
     }

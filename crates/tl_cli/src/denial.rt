@@ -14,7 +14,7 @@ use tl_topology::Topo;
 const MOST_REPORTS: u64 = 65_536;
 
 /// What is denied.
-#[derive(Clone, Copy, Debug)]
+#[derive(Clone, Copy)]
 pub(crate) struct Deny {
     /// That an edit or a report is refused.
     pub(crate) refused: bool,
@@ -23,7 +23,7 @@ pub(crate) struct Deny {
 }
 
 /// Why a run is denied.
-#[derive(Clone, Copy, Debug)]
+#[derive(Clone, Copy)]
 pub(crate) enum Denial {
     /// An edit or a report was refused.
     Refused,

@@ -17,6 +17,7 @@ mod run;
 mod screen;
 mod scripts;
 mod telling;
+mod usage;
 mod view;
 mod words;
 

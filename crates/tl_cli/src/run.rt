@@ -20,7 +20,7 @@ use std::io;
 use std::rt::Files;
 use std::sync::Wait;
 use std::thread::Threads;
-use tl_advice::More;
+use tl_advice::{Look, More};
 use tl_run::Outcome;
 use tl_text::{ByteIn, ByteOut, read_text, write_all};
 
@@ -205,18 +205,13 @@ fn tell_objection<E: ByteOut>(err: &mut E, text: &str) -> u8
     FAULT
 }
 
-/// A fault of a command's files in a sentence; None where it is of none of them. Want of memory is no file's fault, nor is a write
-/// that fails.
-fn sentence_of<R: Files + AllocGlobal>(
+/// The fault of a command's files in a sentence; None where it is of none of them.
+fn file_sentence<R: Files + AllocGlobal>(
     rt: &R,
     fault: Fault,
     command: &Command<'_>,
-    screen: Screen,
+    look: Look,
 ) -> Result<Option<String>, Fault> {
-    if fault == Fault::MEMORY || fault == Fault::WRITE {
-        return Ok(None);
-    }
-    let look = screen.look();
     match command {
         Command::Once {
             topology,
@@ -227,13 +222,27 @@ fn sentence_of<R: Files + AllocGlobal>(
             topology,
             script,
             ..
-        }
-        | Command::Audit {
+        } => script_sentence(rt, Suspect::new(*topology, fault, look), *script),
+        Command::Audit {
             topology,
             script,
             ..
         } => script_sentence(rt, Suspect::new(*topology, fault, look), *script),
         Command::Input | Command::Explain { .. } => Ok(None),
+    }
+}
+
+/// A fault in a sentence, if it is of a command's files. Want of memory is no file's fault, nor is a write that fails.
+fn sentence_of<R: Files + AllocGlobal>(
+    rt: &R,
+    fault: Fault,
+    command: &Command<'_>,
+    screen: Screen,
+) -> Result<Option<String>, Fault> {
+    if fault == Fault::MEMORY || fault == Fault::WRITE {
+        Ok(None)
+    } else {
+        file_sentence(rt, fault, command, screen.look())
     }
 }
 
@@ -353,6 +362,18 @@ pub fn run_words<R: Files + Threads + Wait + Sync + AllocGlobal, I: ByteIn, O: B
     run_words_at(rt, words, input, out, err, Screen::None)
 }
 
+/// Tells that standard input can't be read, and at a terminal where to look.
+fn tell_unread<E: ByteOut>(alloc: Global, err: &mut E, fault: Fault, screen: Screen) -> u8
+    requires { E.failure_count err.old < 2 ^ 63 }
+    ensures { result ≡ 2 }
+{
+    if screen.is_terminal() {
+        tell_both(alloc, err, fault, Ok(None))
+    } else {
+        tell(alloc, err, fault)
+    }
+}
+
 /// Runs what stands on standard input.
 fn run_input<R: Threads + Wait + Sync + AllocGlobal, I: ByteIn, O: ByteOut, E: ByteOut>(
     rt: &R,
@@ -367,11 +388,9 @@ fn run_input<R: Threads + Wait + Sync + AllocGlobal, I: ByteIn, O: ByteOut, E: B
     requires err { E.failure_count err.old < 2 ^ 63 }
     ensures { result ≤ 2 }
 {
-    let alloc = rt.alloc();
-    match read_text(alloc, input, MOST_INPUT) {
+    match read_text(rt.alloc(), input, MOST_INPUT) {
         Ok(text) => do_input(rt, &text, out, err, screen),
-        Err(found) if screen.is_terminal() => tell_both(alloc, err, found.into(), Ok(None)),
-        Err(found) => tell(alloc, err, found.into()),
+        Err(found) => tell_unread(rt.alloc(), err, found.into(), screen),
     }
 }
 

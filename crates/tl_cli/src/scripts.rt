@@ -8,7 +8,7 @@ use crate::files::{script_of, topology_of};
 use crate::monitors::{Attached, attached_in, settlement_lines};
 use crate::reports::{Ending, ending_of};
 use crate::words::How;
-use std::alloc::{AllocError, Global};
+use std::alloc::Global;
 use std::rt::Files;
 use std::sync::{Arc, Wait};
 use std::thread::Threads;
@@ -30,60 +30,55 @@ struct ScriptRun<'a> {
     show: bool,
 }
 
-/// A monitor as a run takes it; it leaves in its cell what it tells at its end.
-fn boxed(alloc: Global, monitor: &Attached) -> Result<Box<dyn Monitor + Send>, AllocError> {
-    let cell = Arc::try_clone(&monitor.cell)?;
-    let boxed: Box<dyn Monitor + Send> = match monitor.watch {
-        Watch::Budget { link, class, limit } => {
-            Box::new(alloc, Budget::new(link, class, limit, cell))?
-        }
-        Watch::After {
-            link,
-            first,
-            second,
-        } => Box::new(alloc, After::new(link, first, second, cell))?,
-    };
-    Ok(boxed)
-}
-
-/// Puts a monitor after those that a run takes.
-fn push_box(
-    alloc: Global,
-    monitor: &Attached,
-    boxes: &mut Vec<Box<dyn Monitor + Send>>,
-) -> Result<(), AllocError> {
-    boxes.push(boxed(alloc, monitor)?)?;
-    Ok(())
-}
-
-/// The monitors that a run takes.
-fn boxes_of(
-    alloc: Global,
-    attached: &[Attached],
-) -> Result<Vec<Box<dyn Monitor + Send>>, AllocError> {
-    let mut boxes = Vec::new(alloc);
-    for monitor in attached {
-        push_box(alloc, monitor, &mut boxes)?;
-    }
-    Ok(boxes)
-}
-
-/// The run of a script with these monitors, shown or not.
+/// The run of a script with these monitors.
 fn outcome_of<R: Threads + Wait + Sync + AllocGlobal, O: ByteOut>(
     rt: &R,
-    script: Script<'_, Box<dyn Monitor + Send>>,
+    run: ScriptRun<'_>,
+    boxes: Vec<Box<dyn Monitor + Send>>,
     workers: u8,
-    show: bool,
     out: &mut O,
 ) -> Result<Outcome, WriteFault>
     requires workers { workers ≤ 16 }
     requires out { O.failure_count out.old < 2 ^ 63 }
     ensures { OnOk result (O.failure_count out.new ≡ O.failure_count out.old) }
 {
-    if show {
-        return show_with(rt, rt.alloc(), script, out, workers);
+    let script = Script::new(run.topo, run.text, boxes);
+    if run.show {
+        show_with(rt, rt.alloc(), script, out, workers)
+    } else {
+        run_with(rt, rt.alloc(), script, out, workers)
     }
-    run_with(rt, rt.alloc(), script, out, workers)
+}
+
+/// The run of a script with the monitors that it attaches, which leave in their cells what they tell at their end.
+fn run_boxed<R: Threads + Wait + Sync + AllocGlobal, O: ByteOut>(
+    rt: &R,
+    run: ScriptRun<'_>,
+    attached: &[Attached],
+    workers: u8,
+    out: &mut O,
+) -> Result<Outcome, Fault>
+    requires workers { workers ≤ 16 }
+    requires out { O.failure_count out.old < 2 ^ 63 }
+    ensures { OnOk result (O.failure_count out.new ≡ O.failure_count out.old) }
+{
+    let alloc = rt.alloc();
+    let mut boxes: Vec<Box<dyn Monitor + Send>> = Vec::new(alloc);
+    for monitor in attached {
+        let cell = Arc::try_clone(&monitor.cell)?;
+        let boxed: Box<dyn Monitor + Send> = match monitor.watch {
+            Watch::Budget { link, class, limit } => {
+                Box::new(alloc, Budget::new(link, class, limit, cell))?
+            }
+            Watch::After {
+                link,
+                first,
+                second,
+            } => Box::new(alloc, After::new(link, first, second, cell))?,
+        };
+        boxes.push(boxed)?;
+    }
+    Ok(outcome_of(rt, run, boxes, workers, out)?)
 }
 
 /// Writes what these monitors told at their end, a line each.
@@ -110,9 +105,7 @@ fn run_attached<R: Threads + Wait + Sync + AllocGlobal, O: ByteOut>(
     requires workers { workers ≤ 16 }
     requires out { O.failure_count out.old < 2 ^ 63 }
 {
-    let boxes = boxes_of(rt.alloc(), attached)?;
-    let script = Script::new(run.topo, run.text, boxes);
-    let outcome = outcome_of(rt, script, workers, run.show, out)?;
+    let outcome = run_boxed(rt, run, attached, workers, out)?;
     if outcome.stop.is_none() {
         write_settlements(rt.alloc(), attached, out)?;
     }

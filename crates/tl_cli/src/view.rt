@@ -1,5 +1,6 @@
 //! Which rows the words want to be written, and how.
 
+use crate::usage::{Draft, setting};
 use clap::builder::ValueParser;
 use clap::error::ErrorKind;
 use clap::{Arg, ArgAction, ArgMatches, Error};
@@ -9,7 +10,7 @@ use tl_pick::{Cycles, rule_named};
 use tl_tables::Rule;
 
 /// Which rows are to be written, and how.
-#[derive(Debug, Drop)]
+#[derive(Drop)]
 pub(crate) struct View<'a> {
     /// The format.
     pub(crate) format: Format,
@@ -38,72 +39,66 @@ impl View<'_> {
 const FORMATS: &[&str] = &["text", "json", "junit"];
 
 fn format_option<'a>(alloc: Global) -> Arg<'a> {
-    Arg::new(alloc, "format")
-        .long("format")
-        .value_name("FORMAT")
-        .action(ArgAction::Set)
-        .value_parser(FORMATS)
-        .hide_possible_values(true)
-        .help(
-            "Writes rows as text, as JSON, a line for each (json), or as a JUnit report (junit); text without this option",
-        )
+    setting(
+        alloc,
+        "format",
+        "FORMAT",
+        "Writes rows as text, as JSON, a line for each (json), or as a JUnit report (junit); text without this option",
+    )
+    .value_parser(FORMATS)
+    .hide_possible_values(true)
 }
 
 fn rule_option<'a>(alloc: Global) -> Arg<'a> {
-    Arg::new(alloc, "rule")
-        .long("rule")
-        .value_name("RULE")
-        .action(ArgAction::Append)
-        .help("Writes only rows of this rule, named in any case, or of one of several")
+    setting(
+        alloc,
+        "rule",
+        "RULE",
+        "Writes only rows of this rule, named in any case, or of one of several",
+    )
+    .action(ArgAction::Append)
 }
 
 fn link_option<'a>(alloc: Global) -> Arg<'a> {
-    Arg::new(alloc, "link")
-        .long("link")
-        .value_name("NAME")
-        .action(ArgAction::Append)
-        .help("Writes only rows of this link, or of one of several")
+    setting(
+        alloc,
+        "link",
+        "NAME",
+        "Writes only rows of this link, or of one of several",
+    )
+    .action(ArgAction::Append)
 }
 
-fn from_option<'a>(alloc: Global) -> Arg<'a> {
-    Arg::new(alloc, "from")
-        .long("from")
-        .value_name("CYCLE")
-        .action(ArgAction::Set)
-        .value_parser(ValueParser::unsigned(0, u64::MAX))
-        .help("Writes only rows of this cycle and those after it")
-}
-
-fn to_option<'a>(alloc: Global) -> Arg<'a> {
-    Arg::new(alloc, "to")
-        .long("to")
-        .value_name("CYCLE")
-        .action(ArgAction::Set)
-        .value_parser(ValueParser::unsigned(0, u64::MAX))
-        .help("Writes only rows of this cycle and those before it")
+fn cycle_option<'a>(alloc: Global, name: &'a str, help: &'a str) -> Arg<'a> {
+    setting(alloc, name, "CYCLE", help).value_parser(ValueParser::unsigned(0, u64::MAX))
 }
 
 fn waive_option<'a>(alloc: Global) -> Arg<'a> {
-    Arg::new(alloc, "waive")
-        .long("waive")
-        .value_name("FILE")
-        .action(ArgAction::Set)
-        .help("Leaves out rows that a line of this file accepts: RULE LINK FROM TO and a reason")
+    setting(
+        alloc,
+        "waive",
+        "FILE",
+        "Leaves out rows that a line of this file accepts: RULE LINK FROM TO and a reason",
+    )
 }
 
 /// A command with what chooses the rows that are written, and how.
-pub(crate) fn with_view<'a>(
-    alloc: Global,
-    command: clap::Command<'a>,
-) -> Result<clap::Command<'a>, Error> {
-    let command = command
-        .arg(format_option(alloc))?
-        .arg(rule_option(alloc))?
-        .arg(link_option(alloc))?
-        .arg(from_option(alloc))?
-        .arg(to_option(alloc))?
-        .arg(waive_option(alloc))?;
-    Ok(command)
+pub(crate) fn with_view<'a>(alloc: Global, command: Draft<'a>) -> Draft<'a> {
+    command
+        .arg(format_option(alloc))
+        .arg(rule_option(alloc))
+        .arg(link_option(alloc))
+        .arg(cycle_option(
+            alloc,
+            "from",
+            "Writes only rows of this cycle and those after it",
+        ))
+        .arg(cycle_option(
+            alloc,
+            "to",
+            "Writes only rows of this cycle and those before it",
+        ))
+        .arg(waive_option(alloc))
 }
 
 /// The format that the words want.

@@ -2,13 +2,14 @@
 
 use crate::denial::Deny;
 use crate::explain::entry_of;
+use crate::usage::{Draft, flag, setting, word};
 use crate::view::{View, refusal, view_asked, with_view};
 use clap::builder::ValueParser;
 use clap::{Arg, ArgAction, ArgMatches, Error};
-use std::alloc::Global;
+use std::alloc::{AllocError, Global};
 
 /// How a command is to be done.
-#[derive(Clone, Copy, Debug)]
+#[derive(Clone, Copy)]
 pub(crate) struct How {
     /// Whether rows are shown.
     pub(crate) show: bool,
@@ -19,7 +20,7 @@ pub(crate) struct How {
 }
 
 /// What the words ask for.
-#[derive(Debug, Drop)]
+#[derive(Drop)]
 pub(crate) enum Command<'a> {
     /// No words: a topology and a script on standard input.
     Input,
@@ -69,13 +70,6 @@ const MOST_EDIT: u64 = (1 << 63) - 1;
 /// The most threads that check windows beside the first.
 const MOST_WORKERS: u64 = 16;
 
-fn word<'a>(alloc: Global, id: &'a str, help: &'a str) -> Arg<'a> {
-    Arg::new(alloc, id)
-        .required(true)
-        .action(ArgAction::Set)
-        .help(help)
-}
-
 fn topology<'a>(alloc: Global) -> Arg<'a> {
     word(
         alloc,
@@ -93,43 +87,51 @@ fn script<'a>(alloc: Global) -> Arg<'a> {
 }
 
 fn show<'a>(alloc: Global) -> Arg<'a> {
-    Arg::new(alloc, "show")
-        .long("show")
-        .action(ArgAction::SetTrue)
-        .help("Puts behind each row its beat in words and the earlier beat that makes it so")
+    flag(
+        alloc,
+        "show",
+        "Puts behind each row its beat in words and the earlier beat that makes it so",
+    )
 }
 
 fn explain_faults<'a>(alloc: Global) -> Arg<'a> {
-    Arg::new(alloc, "explain-faults")
-        .long("explain-faults")
-        .action(ArgAction::SetTrue)
-        .help(
-            "Says on standard error what is wrong in a file and what would be right, as at a terminal",
-        )
+    flag(
+        alloc,
+        "explain-faults",
+        "Says on standard error what is wrong in a file and what would be right, as at a terminal",
+    )
 }
 
 /// What can be denied.
 const DENIED: &[&str] = &["refused", "empty"];
 
 fn deny<'a>(alloc: Global) -> Arg<'a> {
-    Arg::new(alloc, "deny")
-        .long("deny")
-        .value_name("WHAT")
-        .action(ArgAction::Append)
-        .value_parser(DENIED)
-        .hide_possible_values(true)
-        .help(
-            "Ends with status 2 where an edit or a report was refused (refused) or no beat was checked (empty)",
-        )
+    setting(
+        alloc,
+        "deny",
+        "WHAT",
+        "Ends with status 2 where an edit or a report was refused (refused) or no beat was checked (empty)",
+    )
+    .action(ArgAction::Append)
+    .value_parser(DENIED)
+    .hide_possible_values(true)
 }
 
 /// A command with the options of how it is to be done.
-fn with_how<'a>(alloc: Global, command: clap::Command<'a>) -> Result<clap::Command<'a>, Error> {
-    let command = command
-        .arg(show(alloc))?
-        .arg(explain_faults(alloc))?
-        .arg(deny(alloc))?;
-    Ok(command)
+fn with_how<'a>(alloc: Global, command: Draft<'a>) -> Draft<'a> {
+    command
+        .arg(show(alloc))
+        .arg(explain_faults(alloc))
+        .arg(deny(alloc))
+}
+
+/// A command with these words in its help.
+fn described<'a>(alloc: Global, name: &'a str, about: &'a str, example: &'a str) -> Draft<'a> {
+    Draft::new(
+        clap::Command::new(alloc, name)
+            .about(about)
+            .after_help(example),
+    )
 }
 
 fn fragments<'a>(alloc: Global) -> Arg<'a> {
@@ -142,31 +144,30 @@ fn fragments<'a>(alloc: Global) -> Arg<'a> {
     .num_args(1..)
 }
 
-fn once<'a>(alloc: Global) -> Result<clap::Command<'a>, Error> {
-    let once = clap::Command::new(alloc, "once")
-        .about("Checks the fragments of a capture together and writes the report")
-        .after_help(ONCE_EXAMPLE)
-        .arg(topology(alloc))?
-        .arg(fragments(alloc))?;
-    with_view(alloc, with_how(alloc, once)?)
+fn once<'a>(alloc: Global) -> Draft<'a> {
+    let about = "Checks the fragments of a capture together and writes the report";
+    let once = described(alloc, "once", about, ONCE_EXAMPLE)
+        .arg(topology(alloc))
+        .arg(fragments(alloc));
+    with_view(alloc, with_how(alloc, once))
 }
 
 fn workers<'a>(alloc: Global) -> Arg<'a> {
-    Arg::new(alloc, "workers")
-        .long("workers")
-        .value_name("N")
-        .action(ArgAction::Set)
-        .value_parser(ValueParser::unsigned(0, MOST_WORKERS))
-        .help("How many threads check windows beside the first, 0 to 16; 0 without this option")
+    setting(
+        alloc,
+        "workers",
+        "N",
+        "How many threads check windows beside the first, 0 to 16; 0 without this option",
+    )
+    .value_parser(ValueParser::unsigned(0, MOST_WORKERS))
 }
 
-fn run<'a>(alloc: Global) -> Result<clap::Command<'a>, Error> {
-    let run = clap::Command::new(alloc, "run")
-        .about("Runs a script of edits and publishes, and writes what each comes to")
-        .after_help(RUN_EXAMPLE)
-        .arg(topology(alloc))?
-        .arg(script(alloc))?
-        .arg(workers(alloc))?;
+fn run<'a>(alloc: Global) -> Draft<'a> {
+    let about = "Runs a script of edits and publishes, and writes what each comes to";
+    let run = described(alloc, "run", about, RUN_EXAMPLE)
+        .arg(topology(alloc))
+        .arg(script(alloc))
+        .arg(workers(alloc));
     with_how(alloc, run)
 }
 
@@ -179,45 +180,38 @@ fn edit<'a>(alloc: Global) -> Arg<'a> {
     .value_parser(ValueParser::unsigned(0, MOST_EDIT))
 }
 
-fn audit<'a>(alloc: Global) -> Result<clap::Command<'a>, Error> {
-    let audit = clap::Command::new(alloc, "audit")
-        .about("Checks anew what the first accepted edits of a script leave")
-        .after_help(AUDIT_EXAMPLE)
-        .arg(topology(alloc))?
-        .arg(script(alloc))?
-        .arg(edit(alloc))?;
-    with_view(alloc, with_how(alloc, audit)?)
+fn audit<'a>(alloc: Global) -> Draft<'a> {
+    let about = "Checks anew what the first accepted edits of a script leave";
+    let audit = described(alloc, "audit", about, AUDIT_EXAMPLE)
+        .arg(topology(alloc))
+        .arg(script(alloc))
+        .arg(edit(alloc));
+    with_view(alloc, with_how(alloc, audit))
 }
 
-fn explain<'a>(alloc: Global) -> Result<clap::Command<'a>, Error> {
-    let word = Arg::new(alloc, "WORD").action(ArgAction::Set).help(
+fn entry<'a>(alloc: Global) -> Arg<'a> {
+    Arg::new(alloc, "WORD").action(ArgAction::Set).help(
         "Name of a rule, in any case, or code of a refusal; without it all are listed, one line each",
-    );
-    let explain = clap::Command::new(alloc, "explain")
-        .about("Says what a rule or a refusal means, and what to look at")
-        .after_help(EXPLAIN_EXAMPLE)
-        .arg(word)?;
-    Ok(explain)
+    )
 }
 
-/// The program with one more command.
-fn with_command<'a>(
-    program: clap::Command<'a>,
-    command: Result<clap::Command<'a>, Error>,
-) -> Result<clap::Command<'a>, Error> {
-    Ok(program.subcommand(command?)?)
+fn explain<'a>(alloc: Global) -> Draft<'a> {
+    let about = "Says what a rule or a refusal means, and what to look at";
+    described(alloc, "explain", about, EXPLAIN_EXAMPLE).arg(entry(alloc))
 }
 
-fn program<'a>(alloc: Global) -> Result<clap::Command<'a>, Error> {
+fn program<'a>(alloc: Global) -> Result<clap::Command<'a>, AllocError> {
     let program = clap::Command::new(alloc, "tlcheck")
         .about("Checks recorded beats of SiFive TileLink 1.8")
         .version(VERSION)
         .after_help(HELP)
         .subcommand_required(true);
-    let program = with_command(program, once(alloc))?;
-    let program = with_command(program, run(alloc))?;
-    let program = with_command(program, audit(alloc))?;
-    with_command(program, explain(alloc))
+    Draft::new(program)
+        .subcommand(once(alloc))
+        .subcommand(run(alloc))
+        .subcommand(audit(alloc))
+        .subcommand(explain(alloc))
+        .finish()
 }
 
 const VERSION: &str = "0.1.0";
@@ -341,20 +335,30 @@ fn explain_asked<'a>(
     }
 }
 
+/// What the words of the command with this name ask for.
+fn command_named<'a>(
+    alloc: Global,
+    program: &mut clap::Command<'a>,
+    name: &str,
+    found: &ArgMatches<'a>,
+) -> Result<Command<'a>, Error> {
+    match name.as_bytes() {
+        b"run" => Ok(run_asked(found)),
+        b"audit" => audit_asked(alloc, program, found),
+        b"explain" => explain_asked(alloc, program, found),
+        _ => once_asked(alloc, program, found),
+    }
+}
+
 /// The command that was found in the words.
 fn command_found<'a>(
     alloc: Global,
     program: &mut clap::Command<'a>,
     matches: &ArgMatches<'a>,
 ) -> Result<Command<'a>, Error> {
-    let Some((name, found)) = matches.subcommand() else {
-        return Ok(Command::Input);
-    };
-    match name.as_bytes() {
-        b"run" => Ok(run_asked(found)),
-        b"audit" => audit_asked(alloc, program, found),
-        b"explain" => explain_asked(alloc, program, found),
-        _ => once_asked(alloc, program, found),
+    match matches.subcommand() {
+        Some((name, found)) => command_named(alloc, program, name, found),
+        None => Ok(Command::Input),
     }
 }
 

@@ -96,21 +96,27 @@ fn file_text<R: Files + AllocGlobal>(rt: &R, path: &str) -> Result<Vec<u8>, Text
     read_text(rt.alloc(), &mut CountedReader::new(file), MOST_WAIVERS)
 }
 
+/// Why the text of a file of waivers can't be had.
+fn waiver_trouble(alloc: Global, path: &str, fault: TextFault) -> Result<Trouble, AllocError> {
+    let text = match fault {
+        TextFault::Memory => return Ok(Trouble::Fault(Fault::MEMORY)),
+        TextFault::ReadFault => format!(in alloc; "tlcheck: {path} can't be read\n")?,
+        TextFault::TooLong => format!(in alloc; "tlcheck: {path} has more than 1,048,576 bytes\n")?,
+    };
+    Ok(Trouble::Objection(text))
+}
+
+/// A text with a newline after it.
+fn with_newline(mut text: Vec<u8>) -> Result<Vec<u8>, AllocError> {
+    text.push(b'\n')?;
+    Ok(text)
+}
+
 /// The text of a file of waivers, with a newline after it, which its last line may lack.
 fn waiver_text<R: Files + AllocGlobal>(rt: &R, path: &str) -> Result<Vec<u8>, Trouble> {
-    let alloc = rt.alloc();
     match file_text(rt, path) {
-        Ok(mut text) => {
-            text.push(b'\n')?;
-            Ok(text)
-        }
-        Err(TextFault::Memory) => Err(Trouble::Fault(Fault::MEMORY)),
-        Err(TextFault::ReadFault) => Err(Trouble::Objection(format!(in alloc;
-            "tlcheck: {path} can't be read\n"
-        )?)),
-        Err(TextFault::TooLong) => Err(Trouble::Objection(format!(in alloc;
-            "tlcheck: {path} has more than 1,048,576 bytes\n"
-        )?)),
+        Ok(text) => Ok(with_newline(text)?),
+        Err(fault) => Err(waiver_trouble(rt.alloc(), path, fault)?),
     }
 }
 

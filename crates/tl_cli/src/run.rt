@@ -64,7 +64,7 @@ fn do_input<R: Threads + Wait + Sync + AllocGlobal, O: ByteOut, E: ByteOut>(
     match run_of_input(rt, text, out) {
         Ok(outcome) => {
             if screen.is_terminal()
-                && let Ok(sentences) = input_sentences(alloc, text, screen.look())
+                && let Ok(Some(sentences)) = input_sentences(alloc, text, screen.look())
             {
                 let _ = write_all(err, sentences.as_bytes());
             }

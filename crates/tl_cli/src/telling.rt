@@ -143,14 +143,19 @@ fn topology_text(alloc: Global, suspect: Suspect<'_>, text: &[u8]) -> Result<Aga
     Ok(Again::Told(sentence))
 }
 
+/// What came of a topology's file that has no text of one.
+fn topology_lost(alloc: Global, suspect: Suspect<'_>, seen: &Seen) -> Result<Again, Fault> {
+    match seen_sentence(alloc, suspect, seen, Role::Topology)? {
+        Some(sentence) => Ok(Again::Told(sentence)),
+        None => Ok(Again::Unknown),
+    }
+}
+
 /// What came of reading a topology's file again.
 fn topology_again<R: Files + AllocGlobal>(rt: &R, suspect: Suspect<'_>) -> Result<Again, Fault> {
-    match seen_at(rt, suspect.path, Role::Topology)? {
-        Seen::Text(text) => topology_text(rt.alloc(), suspect, &text),
-        seen => match seen_sentence(rt.alloc(), suspect, &seen, Role::Topology)? {
-            Some(sentence) => Ok(Again::Told(sentence)),
-            None => Ok(Again::Unknown),
-        },
+    match &seen_at(rt, suspect.path, Role::Topology)? {
+        Seen::Text(text) => topology_text(rt.alloc(), suspect, text),
+        seen => topology_lost(rt.alloc(), suspect, seen),
     }
 }
 
@@ -225,9 +230,9 @@ fn fragment_again<R: Files + AllocGlobal>(
     before: &[&str],
     log: &mut Log,
 ) -> Result<Option<String>, Fault> {
-    match seen_at(rt, suspect.path, Role::Fragment)? {
-        Seen::Text(text) => fragment_text(rt.alloc(), suspect, before, &text, log),
-        seen => seen_sentence(rt.alloc(), suspect, &seen, Role::Fragment),
+    match &seen_at(rt, suspect.path, Role::Fragment)? {
+        Seen::Text(text) => fragment_text(rt.alloc(), suspect, before, text, log),
+        seen => seen_sentence(rt.alloc(), suspect, seen, Role::Fragment),
     }
 }
 
@@ -293,8 +298,8 @@ fn script_text(
     topo: &Topo,
     bytes: &[u8],
     script: Script<'_>,
-) -> Result<String, Fault> {
-    Ok(script_sentences(alloc, topo, bytes, script)?)
+) -> Result<Option<String>, Fault> {
+    Ok(Some(script_sentences(alloc, topo, bytes, script)?))
 }
 
 /// The sentence of an audit's fault that its script has.
@@ -312,7 +317,7 @@ fn audited_sentence(
                 most: 0,
                 look: suspect.look,
             };
-            Ok(Some(script_text(alloc, topo, bytes, script)?))
+            script_text(alloc, topo, bytes, script)
         }
         (NO_SUCH_EDIT, Some(asked)) => {
             let accepted = accepted_in(alloc, topo, bytes)?;
@@ -329,9 +334,9 @@ fn script_again<R: Files + AllocGlobal>(
     suspect: Suspect<'_>,
     topo: &Topo,
 ) -> Result<Option<String>, Fault> {
-    match seen_at(rt, suspect.path, Role::Script)? {
-        Seen::Text(bytes) => audited_sentence(rt.alloc(), suspect, topo, &bytes),
-        seen => seen_sentence(rt.alloc(), suspect, &seen, Role::Script),
+    match &seen_at(rt, suspect.path, Role::Script)? {
+        Seen::Text(bytes) => audited_sentence(rt.alloc(), suspect, topo, bytes),
+        seen => seen_sentence(rt.alloc(), suspect, seen, Role::Script),
     }
 }
 
@@ -360,8 +365,8 @@ fn refusals_on<R: Files + AllocGlobal>(
     topo: &Topo,
     script: Script<'_>,
 ) -> Result<Option<String>, Fault> {
-    match seen_at(rt, script.path, Role::Script)? {
-        Seen::Text(bytes) => Ok(Some(script_text(rt.alloc(), topo, &bytes, script)?)),
+    match &seen_at(rt, script.path, Role::Script)? {
+        Seen::Text(bytes) => script_text(rt.alloc(), topo, bytes, script),
         _ => Ok(None),
     }
 }
@@ -389,8 +394,8 @@ pub(crate) fn run_sentences<R: Files + AllocGlobal>(
         most: MOST_TOLD,
         look,
     };
-    match seen_at(rt, topology, Role::Topology)? {
-        Seen::Text(text) => refusals_after(rt, &text, script),
+    match &seen_at(rt, topology, Role::Topology)? {
+        Seen::Text(text) => refusals_after(rt, text, script),
         _ => Ok(None),
     }
 }
@@ -414,7 +419,11 @@ pub(crate) fn input_sentence(
 }
 
 /// What the run of the script on standard input refused and where it stopped, in sentences.
-pub(crate) fn input_sentences(alloc: Global, text: &[u8], look: Look) -> Result<String, Fault> {
+pub(crate) fn input_sentences(
+    alloc: Global,
+    text: &[u8],
+    look: Look,
+) -> Result<Option<String>, Fault> {
     let (topo, used) = read_topo(alloc, text)?;
     let script = Script {
         path: INPUT,

@@ -342,11 +342,14 @@ fn command_named<'a>(
     name: &str,
     found: &ArgMatches<'a>,
 ) -> Result<Command<'a>, Error> {
-    match name.as_bytes() {
-        b"run" => Ok(run_asked(found)),
-        b"audit" => audit_asked(alloc, program, found),
-        b"explain" => explain_asked(alloc, program, found),
-        _ => once_asked(alloc, program, found),
+    if name == "run" {
+        Ok(run_asked(found))
+    } else if name == "audit" {
+        audit_asked(alloc, program, found)
+    } else if name == "explain" {
+        explain_asked(alloc, program, found)
+    } else {
+        once_asked(alloc, program, found)
     }
 }
 

@@ -174,7 +174,7 @@ impl<'a, M: Monitor> Model for Script<'a, M> {
 impl<'a, M: Monitor> Script<'a, M> {
     /// The script of a text on a topology, with the monitors that its commands attach, in their order.
     pub fn new(topo: &'a Topo, text: &'a [u8], boxes: Vec<M>) -> Script<'a, M>
-        ensures { result ≡ record { topo = topo.now; text = text.now; boxes = watches_in M.held boxes.entry.items } }
+        ensures { result ≡ record { topo = topo.now; text = text.now; boxes = watches_in M.held boxes.items } }
     {
         Script { topo, text, boxes }
     }

@@ -30,11 +30,11 @@ struct ScriptRun<'a> {
     show: bool,
 }
 
-/// The run of a script with these monitors.
-fn outcome_of<R: Threads + Wait + Sync + AllocGlobal, O: ByteOut>(
+/// The run of a script with these monitors, of whatever kind: a script of boxes is not seen through by the borrow checker.
+fn outcome_of<R: Threads + Wait + Sync + AllocGlobal, M: Monitor + Send, O: ByteOut>(
     rt: &R,
     run: ScriptRun<'_>,
-    boxes: Vec<Box<dyn Monitor + Send>>,
+    boxes: Vec<M>,
     workers: u8,
     out: &mut O,
 ) -> Result<Outcome, WriteFault>

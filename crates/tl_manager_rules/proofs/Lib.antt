@@ -1,3 +1,4 @@
 pub mod ClientLaws
 pub mod ManagerLaws
 pub mod StandLaws
+pub mod DeclaredLaws

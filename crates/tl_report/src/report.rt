@@ -101,8 +101,8 @@ pub fn head_text(alloc: Global, report: &Report) -> Result<String, AllocError>
     format!(in alloc; "report {version} edit {edit} rows {count}\n")
 }
 
-/// Rows behind a first line.
-fn listed(alloc: Global, topo: &Topo, head: String, rows: &[Row]) -> Result<String, AllocError>
+/// The lines of rows after a text. AllocError where memory is refused.
+pub fn listed(alloc: Global, topo: &Topo, head: String, rows: &[Row]) -> Result<String, AllocError>
     requires { All (λ row. row.link < length topo.now.links) rows.now }
     ensures { IfOk result (λ text. string_bytes text ≡ string_bytes head ++ flat_map (row_text topo.now) rows.now) }
 {

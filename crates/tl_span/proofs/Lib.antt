@@ -2,6 +2,5 @@ pub mod ListLaws
 pub mod LinkLaws
 pub mod StateLaws
 pub mod StepLaws
-pub mod JobLaws
 pub mod JoinLaws
 pub mod WalkedLaws

@@ -1,5 +1,5 @@
 -- Jobs and their results, as plain data.
-use Rattle.std.specs.Prelude.{ℕ, ◌<◌, List, length}
+use Rattle.std.specs.Prelude.{ℕ, ◌≡◌, ◌<◌, List, length}
 use Rattle.std.specs.List.{All, Contains}
 use Rattle.std.specs.List.Sorted.{IsStrictlySortedBy}
 use Rattle.tl_topology.specs.Regions.{Area}
@@ -11,7 +11,7 @@ use Rattle.tl_beats.specs.declared.Row.{Row}
 use Rattle.tl_definitions.specs.Positions.{position_order, links_of}
 use Rattle.tl_definitions.specs.Rules.{Manager}
 use Rattle.tl_definitions.specs.Judging.{Snapshot, judging}
-use Rattle.tl_definitions.specs.Passes.{Pass, IsPass}
+use Rattle.tl_definitions.specs.Passes.{Pass, IsPass, rows_judged, left_after}
 use Rattle.tl_manager_rules.specs.Manager as managers
 use Rattle.tl_span.specs.declared.state.SpanState.{SpanState}
 use Rattle.tl_span.specs.States.{shown, IsOf}
@@ -60,3 +60,9 @@ pub record IsResult (result : Checked) : Type 0 where
 -- Judging these beats of a manager from a state leaves a state of the manager and these rows.
 abbrev pub Judges : Manager → SpanState → List Placed → SpanState → List Row → Type 0
 Judges m entry beats exit rows = IsOf m exit × IsPass (judging m) (record { entry = shown entry; beats = beats; exit = shown exit; rows = rows })
+
+-- A state of a manager goes on after these beats, and these are the rows of what they break, in the order of positions.
+pub record GoesOn (m : Manager) (old : SpanState) (beats : List Placed) (new : SpanState) (rows : List Row) : Type 0 where
+  pub is_of : IsOf m new
+  pub left : shown new ≡ left_after (judging m) (shown old) beats
+  pub found : rows ≡ rows_judged (judging m) (shown old) beats

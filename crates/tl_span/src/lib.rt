@@ -11,4 +11,4 @@ mod walked;
 pub use sorted::sort_rows;
 pub use state::SpanState;
 pub use tl_beats::{Placed, Row};
-pub use walked::check_window;
+pub use walked::{check_window, go_on};

@@ -18,7 +18,7 @@ use Rattle.tl_windows.specs.Windows.{window_of, HasBeat, AreWindows}
 use Rattle.tl_windows.proofs.LawLemmas.{one_link_is_its_own}
 use Rattle.tl_spans.specs.Touch.{OnLink, StandsIn}
 use Rattle.tl_spans.specs.Touched.{IsLinkOf}
-use Rattle.tl_spans.proofs.TouchLemmas.{declared_is_client, client_is_declared}
+use Rattle.tl_manager_rules.proofs.DeclaredLaws.{declared_is_client, client_is_declared}
 
 -- Of which link and number the beats are, and where they are written, tells nothing of windows.
 moved : (link number line other name place : ℕ) (beats : List Beat) (window : ℕ) → HasBeat (placed_from link number line beats) window → HasBeat (placed_from other name place beats) window

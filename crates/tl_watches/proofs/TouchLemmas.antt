@@ -24,7 +24,8 @@ use Rattle.tl_spans.specs.Touched.{IsTouched, names}
 use Rattle.tl_spans.specs.Windows.{AreKeysOf}
 use Rattle.tl_spans.specs.declared.touched.Touched.{Touched}
 use Rattle.tl_spans.proofs.EditLemmas.{of_one_owner}
-use Rattle.tl_spans.proofs.TouchLemmas.{declared_is_client, link_touches, touched_by}
+use Rattle.tl_manager_rules.proofs.DeclaredLaws.{declared_is_client}
+use Rattle.tl_spans.proofs.TouchLemmas.{link_touches, touched_by}
 use Rattle.tl_spans.proofs.TouchedLemmas.{link_windows}
 use Rattle.tl_watches.specs.Touch.{edited_link, OnWatch, names_link, watchers, AreTouched}
 use Rattle.tl_watches.proofs.MonitorLemmas.{AreInOrder, attached_has, attached_from}

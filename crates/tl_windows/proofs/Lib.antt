@@ -17,3 +17,4 @@ pub mod TurnLemmas
 pub mod CursorLemmas
 pub mod StackLemmas
 pub mod SpanLemmas
+pub mod EndedLemmas

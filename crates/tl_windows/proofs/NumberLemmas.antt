@@ -49,7 +49,7 @@ module _ {X : Type 0} where
   kept_few p [] = omega arith
   kept_few p (x ∷ xs) = let known = kept_few p xs in elim (p x) as (λ t. length (cond t (x ∷ filter p xs) (filter p xs)) ≤ suc (length xs)) [ true ↦ omega arith | false ↦ omega arith ]
 
-  kept_fewer : (p : X → Bool) (xs : List X) (x : X) → Contains xs x → p x ≡ false → length (filter p xs) < length xs
+  pub kept_fewer : (p : X → Bool) (xs : List X) (x : X) → Contains xs x → p x ≡ false → length (filter p xs) < length xs
   kept_fewer p [] x h e = absurd (contains_none x h)
   kept_fewer p (y ∷ xs) x h e = elim (contains_cases y xs x h) [
     | inl is ↦ (let no : p y ≡ false = ap p is ∙ e in let few = kept_few p xs in

@@ -53,7 +53,7 @@ same_fragments links window fs gs is are also back =
 
 -- ---- one comes
 
-put_has : (f : Recorded) (fs : List Recorded) (x : Recorded) → Contains fs x → Contains (put_in f fs) x
+pub put_has : (f : Recorded) (fs : List Recorded) (x : Recorded) → Contains fs x → Contains (put_in f fs) x
 put_has f [] x h = absurd (contains_none x h)
 put_has f (g ∷ fs) x h = elim (is_lt (range_order f g)) as (λ b. Contains (cond b (f ∷ g ∷ fs) (g ∷ put_in f fs)) x) [
   | true ↦ contains_there f (g ∷ fs) x h
@@ -61,6 +61,13 @@ put_has f (g ∷ fs) x h = elim (is_lt (range_order f g)) as (λ b. Contains (co
     | inl is ↦ subst (Contains (g ∷ put_in f fs)) is (contains_here g (put_in f fs))
     | inr there ↦ contains_there g (put_in f fs) x (put_has f fs x there)
   ]
+]
+
+pub put_here : (f : Recorded) (fs : List Recorded) → Contains (put_in f fs) f
+put_here f [] = contains_here f []
+put_here f (g ∷ fs) = elim (is_lt (range_order f g)) as (λ b. Contains (cond b (f ∷ g ∷ fs) (g ∷ put_in f fs)) f) [
+  | true ↦ contains_here f (g ∷ fs)
+  | false ↦ contains_there g (put_in f fs) f (put_here f fs)
 ]
 
 pub puts_are_local : PutsAreLocal

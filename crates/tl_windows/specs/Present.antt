@@ -56,6 +56,14 @@ without link number fs = filter (λ f. not (is_of link number f)) fs
 abbrev pub cleared : ℕ → List Recorded → List Recorded
 cleared link fs = filter (λ f. not (f.link == link)) fs
 
+-- a fragment of the link ends by a cycle
+abbrev pub ends_by : ℕ → ℕ → Recorded → Bool
+ends_by link cycle f = f.link == link && nat_le f.last cycle
+
+-- without the fragments of a link that end by a cycle
+abbrev pub without_ended : ℕ → ℕ → List Recorded → List Recorded
+without_ended link cycle fs = filter (λ f. not (ends_by link cycle f)) fs
+
 -- a fragment of the link has a cycle of the range
 abbrev pub shares : ℕ → ℕ → ℕ → Recorded → Bool
 shares link first last f = f.link == link && nat_le first f.last && nat_le f.first last

@@ -73,7 +73,24 @@ impl Present {
         self.merge(alloc, 0, u64::MAX, links)
     }
 
-    /// The same of a span.
+    /// The same of the beats from a cycle to another.
+    pub fn walk_between<'a>(
+        &'a self,
+        alloc: Global,
+        from: u64,
+        to: u64,
+        links: &[u16],
+    ) -> Result<Merged<'a>, AllocError>
+        requires order { from ≤ to }
+        requires links { IsStrictlySortedBy nat_cmp links.now }
+        ensures exact { IfOk result (λ walk. walk ≡ beats_within from to (beats_of_all links.now self.now)) }
+        ensures kept { IfOk result (λ walk. AreBeatsOf links.now walk) }
+    {
+        let _ = &self.ranges;
+        self.merge(alloc, from, to, links)
+    }
+
+    /// The same, of which no more is said.
     fn merge<'a>(
         &'a self,
         alloc: Global,

@@ -3,7 +3,7 @@
 ghost use Rattle.std.specs.Prelude.{◌≡◌, IfOk, OnOk, OnErr, None, Some, is_some, true};
 ghost use Rattle.std.specs.Arc.{arc_value};
 ghost use Rattle.std.specs.Option.{option_map};
-ghost use Rattle.tl_windows.specs.Present.{recorded, numbered, overlapped, put_in, without, cleared};
+ghost use Rattle.tl_windows.specs.Present.{recorded, numbered, overlapped, put_in, without, without_ended, cleared};
 
 use crate::present::Present;
 use std::alloc::AllocError;
@@ -62,6 +62,15 @@ impl Present {
         ensures { self.new ≡ cleared link self.old }
     {
         while let Some(number) = self.ranges.first(link) {
+            self.take(link, number);
+        }
+    }
+
+    /// Takes out the fragments of a link that end by a cycle.
+    pub fn drop_ended(&mut self, link: u16, cycle: u64)
+        ensures { self.new ≡ without_ended link cycle self.old }
+    {
+        while let Some(number) = self.ranges.first_ended(link, cycle) {
             self.take(link, number);
         }
     }

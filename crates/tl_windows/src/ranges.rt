@@ -7,7 +7,7 @@ ghost use Rattle.std.specs.Option.{option_map, option_map_or};
 ghost use Rattle.tl_definitions.specs.Positions.{all_placed};
 ghost use Rattle.tl_windows.specs.Cursors.{all_left};
 ghost use Rattle.tl_windows.specs.Parts.{spanned};
-ghost use Rattle.tl_windows.specs.Present.{recorded, of_link, overlapped, put_in, shares};
+ghost use Rattle.tl_windows.specs.Present.{recorded, ends_by, of_link, overlapped, put_in, shares};
 ghost use Rattle.tl_windows.specs.Ranges.{has_some, ends_at, without_end, meets, AreRanges};
 ghost use Rattle.tl_windows.specs.Shares.{windows_of_all};
 ghost use Rattle.tl_windows.specs.Walk.{fragments_left};
@@ -260,6 +260,18 @@ impl Ranges {
     {
         let (_, fragment) = self.on_link(link, 0, None).next()?;
         Some(fragment.number())
+    }
+
+    /// The number of the first fragment of a link that ends by a cycle: of the link's first, if that does.
+    pub(crate) fn first_ended(&self, link: u16, cycle: u64) -> Option<u32>
+        ensures { result ≡ option_map (λ f. f.number) (slice_get (filter (ends_by link cycle) self.now) 0) }
+    {
+        let (_, fragment) = self.on_link(link, 0, None).next()?;
+        if fragment.last() <= cycle {
+            Some(fragment.number())
+        } else {
+            None
+        }
     }
 
     /// The same fragments, shared and not copied. AllocError where memory is refused.

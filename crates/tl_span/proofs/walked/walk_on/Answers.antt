@@ -1,9 +1,8 @@
-use Rattle.std.proofs.Common.{◌≡◌, ◌∷◌, ◌++◌, ◌<◌, length, get_or, refl, sym, ap, subst, ◌∙◌}
+use Rattle.std.proofs.Common.{◌++◌, ◌<◌, length, get_or, refl, sym, ap, subst, ◌∙◌}
 use Rattle.std.specs.List.{All, Contains}
 use Rattle.std.proofs.lemmas.List.Elements.{All-head, All-tail}
 use Rattle.tl_topology.specs.Regions.{areas_of}
 use Rattle.tl_topology.specs.Topology.{IsSound}
-use Rattle.tl_topology.specs.declared.LinkDecl.{LinkDecl}
 use Rattle.tl_beats.specs.Beats.{IsWellFormed}
 use Rattle.tl_beats.specs.declared.Placed.{Placed}
 use Rattle.tl_definitions.specs.Positions.{no_link}
@@ -13,23 +12,22 @@ use Rattle.tl_definitions.specs.Passes.{rows_judged, left_after}
 use Rattle.tl_span.specs.Jobs.{manager_from}
 use Rattle.tl_span.specs.States.{shown, Serves}
 use Rattle.tl_span.proofs.ListLaws.{same_item}
-use Rattle.tl_span.proofs.StateLaws.{same_shown, has_link}
+use Rattle.tl_span.proofs.StateLaws.{has_link}
 use Rattle.tl_span.proofs.WalkedLaws.{rows_on, exit_on, rows_end}
-use Rattle.tl_span.proofs.walked.walk_check.Goals as goal
+use Rattle.tl_span.proofs.walked.walk_on.Goals as goal
 
 pub loop-at-init : goal.loop-at-init
 loop-at-init c =
-    let m : Manager = manager_from c.args.links.now c.args.exponent (areas_of c.args.regions.now) c.args.entry.now in
-    let same = sym (same_shown c.args.entry.now c.in_ok-state.state c.in_ok-state.ensures.same) in
+    let m : Manager = manager_from c.args.links.now c.args.exponent (areas_of c.args.regions.now) c.args.state.now in
     let begins = c.into_iter-at-iterator.ensures.into_iter_gives in
     record {
       formed = subst (All (λ (p : Placed). IsWellFormed p.beat)) (sym begins) c.requires.formed;
       within = subst (All (λ (p : Placed). p.link < length c.args.links.now)) (sym begins) c.requires.within;
       linked = subst (All (λ (p : Placed). Contains m.clients p.link)) (sym begins) c.requires.linked;
-      of = c.in_ok-state.ensures.kept m c.requires.entry;
-      exit = ap (left_after (judging m) (shown c.in_ok-state.state)) begins ∙ ap (λ s. left_after (judging m) s c.args.walk) same;
-      found = ap (λ rows. rows ++ rows_judged (judging m) (shown c.in_ok-state.state) c.into_iter-at-iterator.result) c.new-rows.ensures.items
-          ∙ ap (rows_judged (judging m) (shown c.in_ok-state.state)) begins ∙ ap (λ s. rows_judged (judging m) s c.args.walk) same;
+      of = c.requires.state;
+      exit = ap (left_after (judging m) (shown c.args.state.now)) begins;
+      found = ap (λ rows. rows ++ rows_judged (judging m) (shown c.args.state.now) c.into_iter-at-iterator.result) c.new-rows.ensures.items
+          ∙ ap (rows_judged (judging m) (shown c.args.state.now)) begins;
     }
 
 pub bounds-links-from : goal.bounds-links-from
@@ -41,13 +39,13 @@ step-requires-clause-beat c = All-head (λ (p : Placed). IsWellFormed p.beat) c.
 
 pub step-requires-clause-link : goal.step-requires-clause-link
 step-requires-clause-link c =
-    let m : Manager = manager_from c.args.links.now c.args.exponent (areas_of c.args.regions.now) c.args.entry.now in
+    let m : Manager = manager_from c.args.links.now c.args.exponent (areas_of c.args.regions.now) c.args.state.now in
     has_link m c.loop-at.state c.loop-at.invariant.of c.in-Some.at.link
     (All-head (λ (p : Placed). Contains m.clients p.link) c.in-Some.at c.next.new.self (subst (All (λ (p : Placed). Contains m.clients p.link)) c.in-Some.ensures.steps c.loop-at.invariant.linked))
 
 pub loop-at-preserved : goal.loop-at-preserved
 loop-at-preserved c =
-    let m : Manager = manager_from c.args.links.now c.args.exponent (areas_of c.args.regions.now) c.args.entry.now in
+    let m : Manager = manager_from c.args.links.now c.args.exponent (areas_of c.args.regions.now) c.args.state.now in
     let p : Placed = c.in-Some.at in
     let steps = c.in-Some.ensures.steps in
     let within = subst (All (λ (q : Placed). q.link < length c.args.links.now)) steps c.loop-at.invariant.within in
@@ -66,13 +64,14 @@ loop-at-preserved c =
           (c.in_ok-step.ensures.rows m c.loop-at.invariant.of serves) next.1 c.loop-at.invariant.found;
     }
 
-pub returns-clause-members : goal.returns-clause-members
-returns-clause-members c row =
-    let m : Manager = manager_from c.args.links.now c.args.exponent (areas_of c.args.regions.now) c.args.entry.now in
-    let all = rows_end m (shown c.loop-at.state) c.loop-at.at-iterator c.loop-at.rows.items _ c.in-None.ensures.steps.0 c.loop-at.invariant.found in (
-      (λ h. subst (λ rows. Contains rows row) all ((c.sort_rows.ensures.members row).0 h)),
-      (λ h. (c.sort_rows.ensures.members row).1 (subst (λ rows. Contains rows row) (sym all) h)),
-    )
+pub returns : goal.returns
+returns c =
+    let m : Manager = manager_from c.args.links.now c.args.exponent (areas_of c.args.regions.now) c.args.state.now in
+    record {
+      is_of = c.loop-at.invariant.of;
+      left = sym (ap (left_after (judging m) (shown c.loop-at.state)) c.in-None.ensures.steps.0) ∙ c.loop-at.invariant.exit;
+      found = rows_end m (shown c.loop-at.state) c.loop-at.at-iterator c.loop-at.rows.items _ c.in-None.ensures.steps.0 c.loop-at.invariant.found;
+    }
 
 pub step-requires-clause-decl : goal.step-requires-clause-decl
 step-requires-clause-decl c =

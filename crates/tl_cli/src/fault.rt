@@ -7,6 +7,7 @@ use std::fmt;
 use tl_beats::FragmentFault;
 use tl_report::OnceFault;
 use tl_run::AuditFault;
+use tl_stream::TellFault;
 use tl_text::{TextFault, WriteFault};
 use tl_topology::TopoFault;
 
@@ -151,6 +152,15 @@ impl From<AuditFault> for Fault {
         Fault {
             code: fault.code(),
             number: fault.number(),
+        }
+    }
+}
+
+impl From<TellFault> for Fault {
+    fn from(found: TellFault) -> Fault {
+        match found {
+            TellFault::Memory => Fault::MEMORY,
+            TellFault::WriteFault => Fault::WRITE,
         }
     }
 }

@@ -16,6 +16,7 @@ mod reports;
 mod run;
 mod screen;
 mod scripts;
+mod streams;
 mod telling;
 mod usage;
 mod view;

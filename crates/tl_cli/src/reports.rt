@@ -37,6 +37,8 @@ pub(crate) enum Ending {
     Picked(Written, Option<Denial>),
     /// What it is to write can't be had, in a sentence.
     Objected(String),
+    /// The text of a stream is at fault, as its last line tells.
+    Stopped,
 }
 
 impl Ending {
@@ -47,6 +49,7 @@ impl Ending {
             Ending::Picked(written, _) => Ending::Picked(written, denial),
             Ending::Denied(denial) => Ending::Denied(denial),
             Ending::Objected(text) => Ending::Objected(text),
+            Ending::Stopped => Ending::Stopped,
         }
     }
 }

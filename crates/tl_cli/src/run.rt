@@ -10,6 +10,7 @@ use crate::picking::Written;
 use crate::reports::{Ending, Past, audit_of_files, once_of_files, report_of};
 use crate::screen::Screen;
 use crate::scripts::{run_of_files, run_of_input};
+use crate::streams::stream_of_files;
 use crate::telling::{
     Suspect, input_sentence, input_sentences, once_sentence, run_sentences, script_sentence,
 };
@@ -228,6 +229,9 @@ fn file_sentence<R: Files + AllocGlobal>(
             script,
             ..
         } => script_sentence(rt, Suspect::new(*topology, fault, look), *script),
+        Command::Stream { topology, inputs } => {
+            once_sentence(rt, Suspect::new(*topology, fault, look), inputs)
+        }
         Command::Input | Command::Explain { .. } => Ok(None),
     }
 }
@@ -415,6 +419,7 @@ fn tell_ending<R: Files + AllocGlobal, E: ByteOut>(
             tell_picked(rt, err, &written, denial, command, screen)
         }
         Ok(Ending::Objected(text)) => tell_objection(err, text.as_str()),
+        Ok(Ending::Stopped) => FAULT,
         Err(fault) => tell_fault(rt, err, fault, command, screen),
     }
 }
@@ -465,6 +470,9 @@ fn do_command<R: Files + Threads + Wait + Sync + AllocGlobal, I: ByteIn, O: Byte
                 edit: *edit,
             };
             audit_of_files(rt, past, *how, view, out)
+        }
+        Command::Stream { topology, inputs } => {
+            stream_of_files(rt, *topology, inputs, input, out)
         }
     };
     tell_ending(rt, err, ending, command, screen)

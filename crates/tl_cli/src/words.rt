@@ -46,6 +46,11 @@ pub(crate) enum Command<'a> {
         how: How,
         view: View<'a>,
     },
+    /// The rows of fragments as they come, from inputs or from standard input.
+    Stream {
+        topology: &'a str,
+        inputs: Vec<&'a str>,
+    },
     /// The entry of a rule or of a refusal, or without one the first line of each.
     Explain {
         entry: Option<&'static str>,
@@ -59,7 +64,7 @@ impl Command<'_> {
             Command::Once { how, .. } | Command::Run { how, .. } | Command::Audit { how, .. } => {
                 Some(*how)
             }
-            Command::Input | Command::Explain { .. } => None,
+            Command::Input | Command::Stream { .. } | Command::Explain { .. } => None,
         }
     }
 }
@@ -189,6 +194,20 @@ fn audit<'a>(alloc: Global) -> Draft<'a> {
     with_view(alloc, with_how(alloc, audit))
 }
 
+fn inputs<'a>(alloc: Global) -> Arg<'a> {
+    Arg::new(alloc, "FILE")
+        .action(ArgAction::Append)
+        .num_args(0..)
+        .help("Path of fragment texts one after another, of any length; standard input without one, or as -")
+}
+
+fn stream<'a>(alloc: Global) -> Draft<'a> {
+    let about = "Checks fragments as they come and writes each row once it is certain, without an end";
+    described(alloc, "stream", about, STREAM_EXAMPLE)
+        .arg(topology(alloc))
+        .arg(inputs(alloc))
+}
+
 fn entry<'a>(alloc: Global) -> Arg<'a> {
     Arg::new(alloc, "WORD").action(ArgAction::Set).help(
         "Name of a rule, in any case, or code of a refusal; without it all are listed, one line each",
@@ -210,6 +229,7 @@ fn program<'a>(alloc: Global) -> Result<clap::Command<'a>, AllocError> {
         .subcommand(once(alloc))
         .subcommand(run(alloc))
         .subcommand(audit(alloc))
+        .subcommand(stream(alloc))
         .subcommand(explain(alloc))
         .finish()
 }
@@ -224,6 +244,9 @@ const RUN_EXAMPLE: &str = "Example: tlcheck run examples/one_manager.topo exampl
 const AUDIT_EXAMPLE: &str =
     "Example: tlcheck audit examples/one_manager.topo examples/edits.script 2";
 
+const STREAM_EXAMPLE: &str =
+    "Example: cat examples/one_cache.fragment | tlcheck stream examples/one_manager.topo";
+
 const EXPLAIN_EXAMPLE: &str = "Examples: tlcheck explain, tlcheck explain P2, tlcheck explain 12";
 
 const HELP: &str =
@@ -231,6 +254,7 @@ const HELP: &str =
 of at most 1,048,576 bytes, each FRAGMENT a fragment text of at most 8,388,608 bytes.\n\
 tlcheck run TOPO SCRIPT runs a script of at most 67,108,864 bytes: edits of fragments, regions and monitors, and \
 reports between them. tlcheck audit TOPO SCRIPT EDIT checks anew what its first EDIT accepted edits leave.\n\
+tlcheck stream TOPO [FILE..] checks fragments as they come: of each link with rising numbers and ranges, as long as they come.\n\
 Without words tlcheck reads a topology and a script right behind it from standard input, at most 67,108,864 bytes, \
 and does as run.\n\n\
 Exit status: 0 no rule is broken, 1 the last report has rows, 2 a fault, told on standard error as `tlcheck: CODE` \
@@ -258,13 +282,25 @@ fn how_asked(found: &ArgMatches<'_>) -> How {
     }
 }
 
-/// The fragments that the words of `once` name.
-fn fragments_asked<'a>(alloc: Global, found: &ArgMatches<'a>) -> Result<Vec<&'a str>, Error> {
-    let mut fragments = Vec::new(alloc);
-    if let Some(paths) = found.get_strs("FRAGMENT") {
-        fragments.extend_from_slice(paths)?;
+/// The paths that words name.
+fn paths_asked<'a>(
+    alloc: Global,
+    found: &ArgMatches<'a>,
+    name: &str,
+) -> Result<Vec<&'a str>, Error> {
+    let mut all = Vec::new(alloc);
+    if let Some(paths) = found.get_strs(name) {
+        all.extend_from_slice(paths)?;
     }
-    Ok(fragments)
+    Ok(all)
+}
+
+/// What the words of `stream` ask for.
+fn stream_asked<'a>(alloc: Global, found: &ArgMatches<'a>) -> Result<Command<'a>, Error> {
+    Ok(Command::Stream {
+        topology: found.get_str("TOPO").unwrap_or(""),
+        inputs: paths_asked(alloc, found, "FILE")?,
+    })
 }
 
 /// What the words of `once` ask for.
@@ -274,7 +310,7 @@ fn once_asked<'a>(
     found: &ArgMatches<'a>,
 ) -> Result<Command<'a>, Error> {
     let view = view_asked(alloc, program, found)?;
-    let fragments = fragments_asked(alloc, found)?;
+    let fragments = paths_asked(alloc, found, "FRAGMENT")?;
     Ok(Command::Once {
         topology: found.get_str("TOPO").unwrap_or(""),
         fragments,
@@ -346,6 +382,8 @@ fn command_named<'a>(
         Ok(run_asked(found))
     } else if name == "audit" {
         audit_asked(alloc, program, found)
+    } else if name == "stream" {
+        stream_asked(alloc, found)
     } else if name == "explain" {
         explain_asked(alloc, program, found)
     } else {

@@ -1,0 +1,52 @@
+use Rattle.std.proofs.Common.{◌≡◌, ◌≢◌, ℕ, ◌+◌, ◌<◌, ◌≤◌, ◌++◌, length, get_or, Some, sym, ap, subst, ◌∙◌, arith, length-set}
+use Rattle.std.specs.Prelude.{slice_get}
+use Rattle.std.proofs.lemmas.Option.{slice_get-get_or}
+use Rattle.tl_topology.specs.Regions.{areas_of}
+use Rattle.tl_plain.specs.Captured.{areas_at}
+use Rattle.tl_plain.proofs.ScratchLaws.{own_areas}
+use Rattle.tl_stream.specs.Courses.{IsRunning, Judged}
+use Rattle.tl_stream.specs.Told.{untold_of}
+use Rattle.tl_stream.specs.declared.course.Course.{Course}
+use Rattle.tl_stream.proofs.AcceptLemmas.{get_other, has_state}
+use Rattle.tl_stream.proofs.EndLemmas.{one_more}
+use Rattle.tl_stream.proofs.stream.ended.Goals as goal
+
+pub judge-requires : goal.judge-requires
+judge-requires c =
+    let own : areas_of c.unwrap_or-own.result.now ≡ areas_at c.args.regions.now c.loop-manager.manager =
+    own_areas c.args.regions.now c.loop-manager.manager c.get.result _ c.unwrap_or-own.result c.unwrap_or-own.ensures c.new-none.ensures c.get.ensures.lookup.0 c.get.ensures.lookup.1 in
+    let below : c.loop-manager.manager < length c.loop-manager.courses = (let less : c.loop-manager.manager < length c.args.courses.now = c.loop-manager-test.true in let many = c.loop-manager.invariant.many in omega (arith, less, many)) in
+    let course : Course = get_or c.loop-manager.courses c.loop-manager.manager c.index-courses-manager.result in
+    let at : slice_get c.args.courses.now c.loop-manager.manager ≡ Some course = sym (c.loop-manager.invariant.rest c.loop-manager.manager (omega arith)) ∙ slice_get-get_or c.loop-manager.courses c.loop-manager.manager c.index-courses-manager.result below in
+    record { running = subst (λ areas. IsRunning c.args.topo.now areas course) (sym own) (c.requires.1.are_courses.each c.loop-manager.manager course at).running }
+
+pub loop-manager-preserved : goal.loop-manager-preserved
+loop-manager-preserved c =
+    let own : areas_of c.unwrap_or-own.result.now ≡ areas_at c.args.regions.now c.loop-manager.manager =
+    own_areas c.args.regions.now c.loop-manager.manager c.get.result _ c.unwrap_or-own.result c.unwrap_or-own.ensures c.new-none.ensures c.get.ensures.lookup.0 c.get.ensures.lookup.1 in
+    let below : c.loop-manager.manager < length c.loop-manager.courses = (let less : c.loop-manager.manager < length c.args.courses.now = c.loop-manager-test.true in let many = c.loop-manager.invariant.many in omega (arith, less, many)) in
+    let course : Course = get_or c.loop-manager.courses c.loop-manager.manager c.index-courses-manager.result in
+    let at : slice_get c.args.courses.now c.loop-manager.manager ≡ Some course = sym (c.loop-manager.invariant.rest c.loop-manager.manager (omega arith)) ∙ slice_get-get_or c.loop-manager.courses c.loop-manager.manager c.index-courses-manager.result below in
+    let state = has_state course.state (sym c.is_lost.ensures ∙ c.if-is_lost.false) in
+    record {
+      many = length-set c.loop-manager.courses c.loop-manager.manager c.judge.new.self ∙ c.loop-manager.invariant.many;
+      rest = λ k later.
+          let other : k ≢ c.loop-manager.manager = λ same. never k c.loop-manager.manager later same in
+          get_other c.loop-manager.courses c.loop-manager.manager k c.judge.new.self other ∙ c.loop-manager.invariant.rest k (omega arith);
+      told = λ fs has. one_more c.args.topo.now (areas_at c.args.regions.now) fs c.args.waiting.now c.args.courses.now c.loop-manager.manager course c.judge.new.self c.loop-manager.rows.items c.in_ok-found.found.items
+          c.extend_from_slice.new.self.items state.0 has at state.1
+          (subst (λ xs. Judged c.args.topo.now xs c.args.waiting.now 18446744073709551615 course c.judge.new.self c.in_ok-found.found.items) own c.in_ok-found.ensures.ok)
+          (c.loop-manager.invariant.told fs has) (c.in_ok-extend_from_slice.ensures.items ∙ ap (λ found. c.loop-manager.rows.items ++ found) c.deref.ensures.value);
+    }
+  where
+    never : (k manager : ℕ) → manager + 1 ≤ k → k ≡ manager → ⊥
+    never k manager later same = omega arith
+
+pub returns : goal.returns
+returns c fs has =
+    let end : length c.args.courses.now ≤ c.loop-manager.manager = c.loop-manager-test.false in
+    let most : c.loop-manager.manager ≤ length c.args.courses.now = c.loop-manager.auto.manager-end in
+    let many = c.loop-manager.invariant.many in
+    let count = has.are_courses.count in
+    let all : c.loop-manager.manager ≡ length c.args.topo.now.managers = omega (arith, end, most, many, count) in
+    c.loop-manager.invariant.told fs has ∙ ap (untold_of c.args.topo.now (areas_at c.args.regions.now) fs) all

@@ -1,0 +1,15 @@
+use Rattle.std.proofs.Common.{◌≡◌, ◌≤◌, length}
+use Rattle.std.specs.Prelude.{ℕ, List, slice_get}
+use Rattle.tl_definitions.specs.Positions.{Recorded}
+use Rattle.tl_plain.specs.Captured.{areas_at}
+use Rattle.tl_stream.specs.Courses.{HasEnded}
+use Rattle.tl_stream.specs.Told.{untold_of}
+use Rattle.tl_stream.proofs.stream.ended.Given as goal
+
+-- the courses that are left, and the rows of the others
+abbrev pub invariant-loop-manager : goal.invariant-loop-manager
+invariant-loop-manager l = record {
+  many : length l.courses ≡ length l.fn.courses;
+  rest : (k : ℕ) → l.manager ≤ k → slice_get l.courses k ≡ slice_get l.fn.courses k;
+  told : (fs : List Recorded) → HasEnded l.topo (areas_at l.regions) fs l.waiting l.fn.courses → l.rows.items ≡ untold_of l.topo (areas_at l.regions) fs l.manager;
+}

@@ -1,0 +1,78 @@
+//! How far a manager is judged.
+
+ghost use Rattle.std.specs.Prelude.{◌≡◌, ◌<◌, length, is_none, IfOk, OnErr};
+ghost use Rattle.tl_topology.specs.Regions.{areas_of};
+ghost use Rattle.tl_stream.specs.Courses.{IsLost, IsNewCourse, IsRunning, Judged};
+
+use std::alloc::{AllocError, Global};
+use tl_beats::Row;
+use tl_manager_rules::clients_of;
+use tl_span::{SpanState, go_on};
+use tl_topology::{RegionMap, Topo};
+use tl_windows::Present;
+
+/// What the beats of a manager leave up to a cycle.
+#[derive(Drop)]
+pub(crate) struct Course {
+    pub(crate) manager: u16,
+    pub(crate) links: Vec<u16>,
+    // None once memory was refused amid a judgement.
+    state: Option<SpanState>,
+    // The first cycle that is not judged; None where all are.
+    next: Option<u64>,
+}
+
+impl Course {
+    /// That of a manager of which nothing is judged. AllocError where memory is refused.
+    pub(crate) fn new(alloc: Global, topo: &Topo, manager: u16) -> Result<Course, AllocError>
+        requires { manager < length topo.now.managers }
+        ensures { IfOk result (IsNewCourse topo.now manager) }
+    {
+        let links = clients_of(alloc, topo, manager)?;
+        let next = if links.is_empty() { None } else { Some(0) };
+        Ok(Course {
+            manager,
+            links,
+            state: Some(SpanState::opening(alloc, topo, manager)?),
+            next,
+        })
+    }
+
+    /// Whether memory was refused amid a judgement.
+    pub(crate) fn is_lost(&self) -> bool
+        ensures { result ≡ is_none self.now.state }
+    {
+        self.state.is_none()
+    }
+
+    /// Judges the beats that wait up to a cycle, and answers the rows of what they break, in the order of positions. AllocError where
+    /// memory is refused: then each further call is refused too.
+    pub(crate) fn judge(
+        &mut self,
+        alloc: Global,
+        topo: &Topo,
+        regions: &RegionMap,
+        waiting: &Present,
+        to: u64,
+    ) -> Result<Vec<Row>, AllocError>
+        requires running { IsRunning topo.now (areas_of regions.now) self.old }
+        ensures running { IsRunning topo.now (areas_of regions.now) self.new }
+        ensures ok { IfOk result (λ rows. Judged topo.now (areas_of regions.now) waiting.now to self.old self.new rows.items) }
+        ensures err { OnErr result (IsLost self.old self.new) }
+    {
+        let Some(from) = self.next else {
+            return Ok(Vec::new(alloc));
+        };
+        if to < from {
+            return Ok(Vec::new(alloc));
+        }
+        let Some(mut state) = self.state.take() else {
+            return Err(AllocError);
+        };
+        let walk = waiting.walk_between(alloc, from, to, &self.links)?;
+        let rows = go_on(alloc, topo, self.manager, regions, walk, &mut state)?;
+        self.state = Some(state);
+        self.next = to.checked_add(1);
+        Ok(rows)
+    }
+}

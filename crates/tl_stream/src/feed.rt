@@ -1,0 +1,142 @@
+//! An input of fragments, one text after another.
+
+ghost use Rattle.std.specs.Prelude.{◌≡◌, ◌++◌, ◌+◌, ◌<◌, ◌≤◌, ◌^◌, [], IfOk, OnOk, OnErr, length, true};
+ghost use Rattle.std.specs.Io.KnownBytes.{Keeps, IsAtEnd};
+ghost use Rattle.tl_beats.specs.Text.{fragment_text};
+ghost use Rattle.tl_stream.specs.Feeds.{all_left, Gives};
+
+use std::alloc::Global;
+use std::marker::Model;
+use tl_beats::{Fragment, FragmentFault, parse_fragment};
+use tl_text::{ByteIn, line};
+
+/// The most bytes of a fragment's text.
+const MOST_BYTES: usize = 8_388_608;
+
+/// How many bytes are asked for at once.
+const CHUNK: usize = 65_536;
+
+/// The bytes of an input of fragments that were read and that no fragment had.
+#[derive(Drop)]
+pub struct Feed {
+    bytes: Vec<u8>,
+    // Where they begin.
+    start: usize,
+}
+
+impl Model for Feed {
+    ghost use Rattle.std.specs.Prelude.{ℕ, List, drop, length, ◌≤◌};
+
+    ghost Value = { List ℕ };
+
+    ghost view = { λ f. drop f.start f.bytes.items };
+
+    ghost invariant = { λ f. f.start ≤ length f.bytes.items };
+}
+
+/// Whether a line from a place on is the last of a fragment, and where the line begins that no newline ends.
+fn sought(bytes: &[u8], from: usize) -> (bool, usize)
+    requires { from ≤ length bytes.now }
+    ensures { result.1 ≤ length bytes.now }
+{
+    let mut place = from;
+    for _ in from..bytes.len() {
+        let Some((next, _)) = line(&bytes[place..]) else {
+            return (false, place);
+        };
+        if next == b"end".as_slice() {
+            return (true, from);
+        }
+        place += next.len() + 1;
+    }
+    (false, place)
+}
+
+impl Feed {
+    /// No bytes.
+    pub fn new(alloc: Global) -> Feed
+        ensures { result ≡ [] }
+    {
+        Feed {
+            bytes: Vec::new(alloc),
+            start: 0,
+        }
+    }
+
+    /// The bytes that no fragment had.
+    fn left(&self) -> &[u8]
+        ensures { result.now ≡ self.now }
+    {
+        &self.bytes[self.start..]
+    }
+
+    /// Reads once more, and answers whether that was the end.
+    fn read_more<I: ByteIn>(&mut self, input: &mut I) -> Result<bool, FragmentFault>
+        requires reads { I.read_count input.old < 2 ^ 63 }
+        requires failures { I.failure_count input.old < 2 ^ 63 }
+        ensures kept { OnOk result (Keeps (all_left self.old (I.remaining input.old)) (all_left self.new (I.remaining input.new))) }
+        ensures grown { OnOk result (length self.old ≤ length self.new) }
+        ensures end { IfOk result (λ is_end. is_end ≡ true → IsAtEnd (I.remaining input.new)) }
+        ensures quiet { OnOk result (I.failure_count input.new ≡ I.failure_count input.old) }
+        ensures counted { I.read_count input.new ≡ I.read_count input.old + 1 }
+    {
+        self.bytes.drain(..self.start);
+        self.start = 0;
+        let mut chunk = [0u8; CHUNK];
+        match input.read(&mut chunk) {
+            Err(_) => Err(FragmentFault::ReadFault),
+            Ok(0) => Ok(true),
+            Ok(taken) => {
+                self.bytes.extend_from_slice(&chunk[..taken])?;
+                Ok(false)
+            }
+        }
+    }
+
+    /// The next fragment, read in at most 8,388,610 reads; None where nothing is left. Its fault where what is left does not begin
+    /// with the text of a fragment, TooLong where that has more than 8,388,608 bytes, ReadFault where a read fails; then, and at want
+    /// of memory, what was read is lost.
+    pub fn next<I: ByteIn>(
+        &mut self,
+        alloc: Global,
+        input: &mut I,
+    ) -> Result<Option<Fragment>, FragmentFault>
+        requires reads { I.read_count input.old < 2 ^ 62 }
+        requires failures { I.failure_count input.old < 2 ^ 63 }
+        ensures given { IfOk result (Gives (all_left self.old (I.remaining input.old)) (all_left self.new (I.remaining input.new))) }
+        ensures quiet { OnOk result (I.failure_count input.new ≡ I.failure_count input.old) }
+        ensures reads { I.read_count input.new ≤ I.read_count input.old + 8388610 }
+    {
+        let mut searched = 0;
+        let mut is_whole = false;
+        for _ in 0..MOST_BYTES + 2 {
+            let (has_end, next) = sought(self.left(), searched);
+            searched = next;
+            if is_whole && self.left().is_empty() {
+                return Ok(None);
+            }
+            if has_end || is_whole {
+                match self.cut(alloc) {
+                    Ok(fragment) => return Ok(Some(fragment)),
+                    Err(FragmentFault::Truncated(_)) if !is_whole => {}
+                    Err(fault) => return Err(fault),
+                }
+            }
+            if self.left().len() > MOST_BYTES {
+                return Err(FragmentFault::TooLong);
+            }
+            is_whole = self.read_more(input)?;
+        }
+        Err(FragmentFault::TooLong)
+    }
+
+    /// The fragment at the front of what was read.
+    fn cut(&mut self, alloc: Global) -> Result<Fragment, FragmentFault>
+        ensures ok { IfOk result (λ f. self.old ≡ fragment_text f ++ self.new) }
+        ensures err { OnErr result (self.new ≡ self.old) }
+    {
+        let (fragment, used) = parse_fragment(alloc, self.left())?;
+        self.start += used;
+        Ok(fragment)
+    }
+}

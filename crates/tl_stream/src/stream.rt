@@ -1,0 +1,238 @@
+//! A capture that comes in fragments.
+
+ghost use Rattle.std.specs.Prelude.{◌≡◌, ◌≤◌, ◌<◌, ◌⊎◌, ℕ, length, List, [], Some, true, is_some, IfOk, OnOk};
+ghost use Rattle.std.specs.Arc.{arc_value};
+ghost use Rattle.std.specs.List.{All, Contains};
+ghost use Rattle.std.specs.Result.{IsErrOf};
+ghost use Rattle.tl_definitions.specs.Positions.{Recorded};
+ghost use Rattle.tl_plain.specs.Captured.{areas_at};
+ghost use Rattle.tl_windows.specs.Present.{IsPresent};
+ghost use Rattle.tl_stream.specs.declared.fault.StreamFault.{StreamFault};
+ghost use Rattle.tl_stream.specs.Courses.{IsRunning, HasCome, HasEnded, Advances, AreNewRows, AreNewCourses, Loses};
+ghost use Rattle.tl_stream.specs.Fronts.{refusal_of};
+ghost use Rattle.tl_stream.specs.Streams.{HasAccepted, Accepts, Refuses, areas_in};
+ghost use Rattle.tl_stream.specs.Told.{untold_of};
+
+use crate::course::Course;
+use crate::fault::StreamFault;
+use crate::front::{Front, front_of, reached};
+use std::alloc::{AllocError, Global};
+use std::marker::Model;
+use std::sync::Arc;
+use tl_beats::{Fragment, Row};
+use tl_topology::{RegionMap, Topo};
+use tl_windows::Present;
+
+/// The fragments of a capture as they come, those of each link with rising numbers and ranges. It holds those of which a cycle is not
+/// complete on all links of their manager, and of all others what they leave.
+#[derive(Drop)]
+pub struct Stream {
+    topo: Arc<Topo>,
+    regions: Vec<RegionMap>,
+    // The newest fragment of each link.
+    fronts: Vec<Option<Front>>,
+    waiting: Present,
+    // One for each manager.
+    courses: Vec<Course>,
+}
+
+impl Model for Stream {
+    ghost use Rattle.std.specs.Coded.{codes};
+    ghost use Rattle.tl_span.specs.contracts.state.SpanState as state;
+    ghost use Rattle.std.specs.Arc.{arc_value};
+    ghost use Rattle.std.specs.Prelude.{List};
+    ghost use Rattle.tl_definitions.specs.Positions.{Recorded};
+    ghost use Rattle.tl_stream.specs.Streams.{StreamData, HasAccepted};
+
+    ghost Value = { StreamData };
+
+    ghost coded = { Prim.hlevel (codes, state.the_row.coded) };
+
+    ghost view = { λ s. record { topo = arc_value s.topo; regions = s.regions.items; fronts = s.fronts.items; waiting = s.waiting; courses = s.courses.items } };
+
+    ghost invariant = { λ s. (fs : List Recorded) × HasAccepted fs (record { topo = arc_value s.topo; regions = s.regions.items; fronts = s.fronts.items; waiting = s.waiting; courses = s.courses.items }) };
+}
+
+/// Why a fragment of a link with this front is refused, if it is.
+fn refusal(front: Option<Front>, fragment: &Fragment) -> Option<StreamFault>
+    ensures { result ≡ refusal_of front fragment.now }
+{
+    let front = front?;
+    if fragment.number() <= front.number {
+        return Some(StreamFault::NumberNotAbove);
+    }
+    if fragment.first() <= front.last {
+        return Some(StreamFault::RangeNotAfter(front.number));
+    }
+    None
+}
+
+/// The courses of all managers.
+fn new_courses(alloc: Global, topo: &Topo) -> Result<Vec<Course>, AllocError>
+    ensures { IfOk result (λ courses. AreNewCourses topo.now courses.items) }
+{
+    let mut courses = Vec::new(alloc);
+    for manager in 0..topo.manager_count() {
+        courses.push(Course::new(alloc, topo, manager as u16)?)?;
+    }
+    Ok(courses)
+}
+
+/// Takes the fragments of these links that end by a cycle out of those that wait.
+fn drop_ended(waiting: &mut Present, links: &[u16], cycle: u64)
+    ensures loses { Loses links.now waiting.old waiting.new }
+    ensures ended { (f : Recorded) → Contains waiting.old f → Contains waiting.new f ⊎ (f.last ≤ cycle) }
+    ensures present { IsPresent waiting.old → IsPresent waiting.new }
+{
+    for link in links {
+        waiting.drop_ended(*link, cycle);
+    }
+}
+
+/// Judges what is complete by the fronts of a manager's links, and answers its rows. AllocError where memory is refused.
+fn advance(
+    alloc: Global,
+    topo: &Topo,
+    regions: &[RegionMap],
+    fronts: &[Option<Front>],
+    waiting: &mut Present,
+    course: &mut Course,
+) -> Result<Vec<Row>, AllocError>
+    requires { IsRunning topo.now (areas_at regions.now course.old.manager) course.old }
+    ensures all { (fs : List Recorded) → HasCome topo.now (areas_at regions.now course.old.manager) fs fronts.now waiting.old course.old
+        → Advances topo.now (areas_at regions.now course.old.manager) fs course.old waiting.old course.new waiting.new }
+    ensures ok { (fs : List Recorded) → HasCome topo.now (areas_at regions.now course.old.manager) fs fronts.now waiting.old course.old
+        → IfOk result (λ rows. AreNewRows topo.now (areas_at regions.now course.old.manager) fs course.old rows.items) }
+    ensures run { OnOk result (is_some course.old.state ≡ true) }
+{
+    if course.is_lost() {
+        return Err(AllocError);
+    }
+    let Some(to) = reached(fronts, &course.links) else {
+        return Ok(Vec::new(alloc));
+    };
+    let none = RegionMap::new(alloc);
+    let own = regions.get(usize::from(course.manager)).unwrap_or(&none);
+    let rows = course.judge(alloc, topo, own, waiting, to)?;
+    drop_ended(waiting, &course.links, to);
+    Ok(rows)
+}
+
+/// The rows of all beats that wait, one manager after the other. AllocError where memory is refused, or was before.
+fn ended(
+    alloc: Global,
+    topo: &Topo,
+    regions: &[RegionMap],
+    waiting: &Present,
+    courses: &mut [Course],
+) -> Result<Vec<Row>, AllocError>
+    requires { (fs : List Recorded) × HasEnded topo.now (areas_at regions.now) fs waiting.now courses.old }
+    ensures { (fs : List Recorded) → HasEnded topo.now (areas_at regions.now) fs waiting.now courses.old
+        → IfOk result (λ rows. rows.items ≡ untold_of topo.now (areas_at regions.now) fs (length topo.now.managers)) }
+{
+    let none = RegionMap::new(alloc);
+    let mut rows = Vec::new(alloc);
+    for manager in 0..courses.len() {
+        let own = regions.get(manager).unwrap_or(&none);
+        let course = &mut courses[manager];
+        if course.is_lost() {
+            return Err(AllocError);
+        }
+        let found = course.judge(alloc, topo, own, waiting, u64::MAX)?;
+        rows.extend_from_slice(&found)?;
+    }
+    Ok(rows)
+}
+
+impl Stream {
+    /// A stream of which no fragment has come, of a topology with the regions of its managers by number; a manager without an entry
+    /// has none. AllocError where memory is refused.
+    pub fn new(
+        alloc: Global,
+        topo: Arc<Topo>,
+        regions: Vec<RegionMap>,
+    ) -> Result<Stream, AllocError>
+        ensures none { IfOk result (HasAccepted []) }
+        ensures topo { IfOk result (λ s. s.topo ≡ arc_value topo) }
+        ensures regions { IfOk result (λ s. s.regions ≡ regions.items) }
+    {
+        let mut fronts = Vec::new(alloc);
+        for _ in 0..topo.link_count() {
+            fronts.push(None)?;
+        }
+        let courses = new_courses(alloc, &topo)?;
+        Ok(Stream {
+            topo,
+            regions,
+            fronts,
+            waiting: Present::new(alloc),
+            courses,
+        })
+    }
+
+    /// The topology.
+    pub fn topo(&self) -> &Topo
+        ensures { result.now ≡ self.now.topo }
+    {
+        let _ = &self.courses;
+        &self.topo
+    }
+
+    /// The topology, shared.
+    pub fn shared_topo(&self) -> &Arc<Topo>
+        ensures { arc_value result.now ≡ self.now.topo }
+    {
+        let _ = &self.courses;
+        &self.topo
+    }
+
+    /// The next fragment of its link: answers the rows of the beats that are complete with it, in the order of positions. A refused
+    /// fragment changes nothing: UnknownLink where the topology has no such link, NumberNotAbove where one of its number or a higher
+    /// one came, RangeNotAfter where its range does not begin after those that came. Memory where memory is refused: then the rows of
+    /// its manager are lost, and each further fragment of it is refused too.
+    pub fn accept(&mut self, alloc: Global, fragment: Fragment) -> Result<Vec<Row>, StreamFault>
+        ensures ok { (fs : List Recorded) → HasAccepted fs self.old → IfOk result (λ rows. Accepts fs self.old fragment self.new rows.items) }
+        ensures links { IfOk result (λ rows. All (λ row. row.link < length self.new.topo.links) rows.items) }
+        ensures err { (fs : List Recorded) (e : StreamFault) → HasAccepted fs self.old → IsErrOf result e → Refuses fs self.old fragment e self.new }
+    {
+        let Some(link) = self.topo.link_of(&fragment.link()) else {
+            return Err(StreamFault::UnknownLink);
+        };
+        if let Some(fault) = refusal(front_of(&self.fronts, link), &fragment) {
+            return Err(fault);
+        }
+        let front = Front {
+            number: fragment.number(),
+            last: fragment.last(),
+        };
+        let manager = self.topo.link(link).unwrap().manager;
+        let fragment = Arc::new(alloc, fragment)?;
+        self.waiting.put(link, fragment)?;
+        self.fronts[usize::from(link)] = Some(front);
+        let course = &mut self.courses[usize::from(manager)];
+        let rows = advance(
+            alloc,
+            &self.topo,
+            &self.regions,
+            &self.fronts,
+            &mut self.waiting,
+            course,
+        )?;
+        Ok(rows)
+    }
+
+    /// The rows of all beats that no fragment completed, one manager after the other, each in the order of positions. AllocError
+    /// where memory is refused.
+    pub fn end(mut self, alloc: Global) -> Result<Vec<Row>, AllocError>
+        ensures rest { (fs : List Recorded) → HasAccepted fs self → IfOk result (λ rows. rows.items ≡ untold_of self.topo (areas_in self) fs (length self.topo.managers)) }
+        ensures links { IfOk result (λ rows. All (λ row. row.link < length self.topo.links) rows.items) }
+    {
+        ended(
+            alloc,
+            &self.topo,
+            &self.regions,
+            &self.waiting,
+            &mut self.courses,
+        )
+    }
+}

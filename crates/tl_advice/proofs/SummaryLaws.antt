@@ -16,6 +16,7 @@ use Rattle.tl_advice.specs.Summaries.{body_of, heading, report_line_of, IsBody, 
 module _ {Z E : Type 0} (made : Result (String Z) E) (topo : Topology) (fragments : List Recorded) where
   pub body_made : (rows : List Row) (counts : List LinkCount) (tallies : List Tally) → AreCounted topo fragments counts → AreTallied topo all_rules rows tallies
       → IfOk made (λ text. string_bytes text ≡ body_of counts tallies) → IfOk made (λ text. IsBody topo fragments rows (string_bytes text))
+  unfolding IsBody
   body_made rows counts tallies counted tallied is = elim made as (λ r. IfOk r (λ text. string_bytes text ≡ body_of counts tallies) → IfOk r (λ text. IsBody topo fragments rows (string_bytes text))) [
     | Ok text ↦ λ e. (counts, tallies, counted, tallied, e)
     | Err fault ↦ λ e. tt

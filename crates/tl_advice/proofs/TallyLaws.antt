@@ -14,7 +14,7 @@ use Rattle.tl_advice.specs.declared.tallies.Tally.{Tally}
 use Rattle.tl_advice.specs.Tallies.{is_of, first_with, IsFirst, AreLinked, IsTallied, AreTallied}
 
 never : {X : Type 0} (b : Bool) → b ≡ false → b ≡ true → X
-never b no yes = absurd (false≢true (sym no ∙ yes))
+never b isnt is = absurd (false≢true (sym isnt ∙ is))
 
 -- ---- the first by cycle
 
@@ -31,7 +31,7 @@ first_more : (broken : Rule) (rows : List Row) (row : Row) (first : Option Row) 
 first_more broken rows row None known =
     elim (is_of broken row) as (λ b. is_of broken row ≡ b → IsFirst broken (rows ++ row ∷ []) (cond (b && true) (Some row) None)) [
       | true ↦ λ own. begins broken rows row own
-          (All-weaker (λ r. is_of broken r ≡ false) (λ r. is_of broken r ≡ true → row.cycle ≤ r.cycle) (λ r no yes. never (is_of broken r) no yes) rows known)
+          (All-weaker (λ r. is_of broken r ≡ false) (λ r. is_of broken r ≡ true → row.cycle ≤ r.cycle) (λ r isnt is. never (is_of broken r) isnt is) rows known)
       | false ↦ λ other. All-push (λ r. is_of broken r ≡ false) rows row known other
     ] refl
 first_more broken rows row (Some first) known =
@@ -40,7 +40,7 @@ first_more broken rows row (Some first) known =
         | true ↦ λ less.
             let lt : row.cycle < first.cycle = grind (arith, nat_tests) in
             begins broken rows row own
-            (All-weaker (λ r. is_of broken r ≡ true → first.cycle ≤ r.cycle) (λ r. is_of broken r ≡ true → row.cycle ≤ r.cycle) (λ r least yes. let le = least yes in omega (arith, le, lt)) rows known.2)
+            (All-weaker (λ r. is_of broken r ≡ true → first.cycle ≤ r.cycle) (λ r. is_of broken r ≡ true → row.cycle ≤ r.cycle) (λ r least is. let le = least is in omega (arith, le, lt)) rows known.2)
         | false ↦ λ more. let le : first.cycle ≤ row.cycle = grind (arith, nat_tests) in stays broken rows row first known (λ own. le)
       ] refl
       | false ↦ λ other. stays broken rows row first known (λ own. never (is_of broken row) other own)

@@ -42,11 +42,14 @@ empty_line = joined (codes "  nothing was checked" ∷ newline ∷ [])
 unfoldable pub links_text_of : List LinkCount → List ℕ
 links_text_of counts = if are_empty counts then empty_line else flat_map link_line_of counts
 
+-- Where the first row of a rule stands.
+unfoldable pub place_of : Tally → List ℕ
+place_of tally = joined (tally.name ∷ codes " fragment " ∷ decimal tally.first.fragment ∷ codes " line " ∷ decimal tally.first.line ∷ [])
+
 -- The line of a rule.
 unfoldable pub tally_line_of : Tally → List ℕ
 tally_line_of tally =
-    joined (codes "  " ∷ rule_text_of tally.rule ∷ codes ": rows " ∷ decimal tally.count ∷ codes ", first at cycle " ∷ decimal tally.first.cycle ∷ codes ": " ∷ tally.name
-    ∷ codes " fragment " ∷ decimal tally.first.fragment ∷ codes " line " ∷ decimal tally.first.line ∷ newline ∷ [])
+    joined (codes "  " ∷ rule_text_of tally.rule ∷ codes ": rows " ∷ decimal tally.count ∷ codes ", first at cycle " ∷ decimal tally.first.cycle ∷ codes ": " ∷ place_of tally ∷ newline ∷ [])
 
 unfoldable pub rowless_line : List ℕ
 rowless_line = joined (codes "  no rows" ∷ newline ∷ [])
@@ -59,7 +62,7 @@ unfoldable pub body_of : List LinkCount → List Tally → List ℕ
 body_of counts tallies = joined (links_text_of counts ∷ rules_text_of tallies ∷ [])
 
 -- They are of the beats of these fragments, and of these rows.
-abbrev pub IsBody : Topology → List Recorded → List Row → List ℕ → Type 0
+unfoldable pub IsBody : Topology → List Recorded → List Row → List ℕ → Type 0
 IsBody topo fragments rows text = (counts : List LinkCount) × (tallies : List Tally) × AreCounted topo fragments counts × AreTallied topo all_rules rows tallies × (text ≡ body_of counts tallies)
 
 unfoldable pub heading : List ℕ

@@ -5,7 +5,7 @@ ghost use Rattle.std.specs.List.{flat_map};
 ghost use Rattle.tl_inputs.specs.Log.{inputs_after};
 ghost use Rattle.tl_run.specs.Audits.{edits_of};
 ghost use Rattle.tl_advice.specs.Tallies.{AreLinked};
-ghost use Rattle.tl_advice.specs.Summaries.{open_part_of, asked_of, given_of, link_line_of, are_empty, links_text_of, tally_line_of, rules_text_of, IsBody, IsSummary, edits_line_of, report_line_of, IsReported, IsLinkedReport, IsRunSummary};
+ghost use Rattle.tl_advice.specs.Summaries.{open_part_of, asked_of, given_of, link_line_of, are_empty, links_text_of, place_of, tally_line_of, rules_text_of, IsBody, IsSummary, edits_line_of, report_line_of, IsReported, IsLinkedReport, IsRunSummary};
 
 use crate::links::{LinkCount, link_counts};
 use crate::tallies::{Tally, all_tallies};
@@ -81,7 +81,7 @@ fn are_empty(counts: &[LinkCount]) -> bool
 }
 
 /// The lines of links, or that nothing was checked.
-#[tactic(auto, unfolding(crate::specs::Summaries::links_text_of), unfolding(crate::specs::Summaries::empty_line))]
+#[tactic(auto, unfolding(crate::specs::Summaries::links_text_of, crate::specs::Summaries::empty_line))]
 fn links_text(alloc: Global, counts: &[LinkCount]) -> Result<String, AllocError>
     ensures { IfOk result (λ text. string_bytes text ≡ links_text_of counts.now) }
 {
@@ -93,6 +93,17 @@ fn links_text(alloc: Global, counts: &[LinkCount]) -> Result<String, AllocError>
     Ok(text)
 }
 
+/// Where the first row of a rule stands.
+#[tactic(auto, unfolding(crate::specs::Summaries::place_of))]
+fn place_text(alloc: Global, tally: &Tally) -> Result<String, AllocError>
+    ensures { IfOk result (λ text. string_bytes text ≡ place_of tally.now) }
+{
+    let name = tally.name;
+    let fragment = tally.first.fragment;
+    let line = tally.first.line;
+    format!(in alloc; "{name} fragment {fragment} line {line}")
+}
+
 /// The line of a rule.
 #[tactic(auto, unfolding(crate::specs::Summaries::tally_line_of))]
 fn tally_line(alloc: Global, tally: &Tally) -> Result<String, AllocError>
@@ -101,12 +112,8 @@ fn tally_line(alloc: Global, tally: &Tally) -> Result<String, AllocError>
     let rule = rule_text(tally.rule);
     let count = tally.count;
     let cycle = tally.first.cycle;
-    let name = tally.name;
-    let fragment = tally.first.fragment;
-    let line = tally.first.line;
-    format!(in alloc;
-        "  {rule}: rows {count}, first at cycle {cycle}: {name} fragment {fragment} line {line}\n"
-    )
+    let place = place_text(alloc, tally)?;
+    format!(in alloc; "  {rule}: rows {count}, first at cycle {cycle}: {place}\n")
 }
 
 /// Adds the lines of rules.
@@ -121,7 +128,7 @@ fn push_rules(alloc: Global, tallies: &[Tally], text: &mut String) -> Result<(),
 }
 
 /// The lines of rules, or that there are no rows.
-#[tactic(auto, unfolding(crate::specs::Summaries::rules_text_of), unfolding(crate::specs::Summaries::rowless_line))]
+#[tactic(auto, unfolding(crate::specs::Summaries::rules_text_of, crate::specs::Summaries::rowless_line))]
 fn rules_text(alloc: Global, tallies: &[Tally]) -> Result<String, AllocError>
     ensures { IfOk result (λ text. string_bytes text ≡ rules_text_of tallies.now) }
 {
@@ -189,12 +196,7 @@ fn reported(
 }
 
 /// The summary of a report of what the first edits of a log leave, and then the last line.
-fn reported_of(
-    alloc: Global,
-    log: &Log,
-    report: &Report,
-    last: &str,
-) -> Result<String, AuditFault>
+fn reported_of(alloc: Global, log: &Log, report: &Report, last: &str) -> Result<String, AuditFault>
     ensures { AreLinked log.now.topo report.now.rows → IfOk result (λ text.
         IsReported log.now.topo (inputs_after log.now.topo (take report.now.edit log.now.edits)).fragments report.now last.now (string_bytes text)) }
 {
@@ -209,8 +211,8 @@ fn run_told(
     asked: u64,
     report: Option<&Report>,
 ) -> Result<String, AuditFault>
-    ensures { IsLinkedReport log.now.topo (option_map (λ r. r.now) report) → IfOk result (λ text.
-        IsRunSummary log.now.topo log.now.edits asked (option_map (λ r. r.now) report) (string_bytes text)) }
+    ensures { IsLinkedReport log.now.topo (option_map (λ r. r.now) report.entry) → IfOk result (λ text.
+        IsRunSummary log.now.topo log.now.edits asked (option_map (λ r. r.now) report.entry) (string_bytes text)) }
 {
     let edits = edits_line(alloc, log.len(), asked)?;
     match report {
@@ -229,8 +231,8 @@ pub fn run_summary(
     asked: u64,
     report: Option<&Report>,
 ) -> Result<String, AuditFault>
-    ensures { IsLinkedReport topo.now (option_map (λ r. r.now) report) → IfOk result (λ text.
-        IsRunSummary topo.now (edits_of topo.now script.now) asked (option_map (λ r. r.now) report) (string_bytes text)) }
+    ensures { IsLinkedReport topo.now (option_map (λ r. r.now) report.entry) → IfOk result (λ text.
+        IsRunSummary topo.now (edits_of topo.now script.now) asked (option_map (λ r. r.now) report.entry) (string_bytes text)) }
 {
     let log = log_of(alloc, topo, script)?;
     run_told(alloc, &log, asked, report)

@@ -256,12 +256,7 @@ fn summary_left(
 }
 
 /// The summary of those of these rows that are wanted, if it is told; None where memory is refused.
-fn summary_of(
-    alloc: Global,
-    inputs: &Inputs,
-    order: &Order<'_>,
-    rows: &[Row],
-) -> Option<String> {
+fn summary_of(alloc: Global, inputs: &Inputs, order: &Order<'_>, rows: &[Row]) -> Option<String> {
     if !order.summary {
         return None;
     }

@@ -229,7 +229,9 @@ fn audit_denied<R: Files + AllocGlobal, O: ByteOut>(
     requires { O.failure_count out.old < 2 ^ 63 }
 {
     let ending = audit_of(rt, audit, how, view, out)?;
-    let denial = how.deny.of_audit(rt.alloc(), audit.topo, audit.script, audit.edit)?;
+    let denial = how
+        .deny
+        .of_audit(rt.alloc(), audit.topo, audit.script, audit.edit)?;
     Ok(ending.denied_by(denial))
 }
 

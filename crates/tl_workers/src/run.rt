@@ -337,7 +337,14 @@ pub fn run_gated<'x, R: Threads + Wait + Sync, M: Monitor + Send, G: Gate + Sync
 {
     let log = None;
     let mut last = None;
-    run_way(rt, alloc, script, Way { workers, gate, log }, out, &mut last)
+    run_way(
+        rt,
+        alloc,
+        script,
+        Way { workers, gate, log },
+        out,
+        &mut last,
+    )
 }
 
 /// A gate that lets everything through.

@@ -1,5 +1,5 @@
 -- What a text of summaries is.
-use Rattle.std.proofs.Common.{◌≡◌, ℕ, List, [], ◌∷◌, Result, Ok, Err, ◌∙◌}
+use Rattle.std.proofs.Common.{◌≡◌, ℕ, List, [], ◌∷◌, Result, Ok, Err}
 use Rattle.std.specs.Prelude.{IfOk, String, string_bytes}
 use Rattle.tl_topology.specs.Topology.{Topology}
 use Rattle.tl_beats.specs.declared.Row.{Row}

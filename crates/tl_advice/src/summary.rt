@@ -188,7 +188,8 @@ fn reported(
     report: &Report,
     last: &str,
 ) -> Result<String, AllocError>
-    ensures { AreLinked inputs.now.topo report.now.rows → IfOk result (λ text. IsReported inputs.now.topo inputs.now.fragments report.now last.now (string_bytes text)) }
+    ensures { AreLinked inputs.now.topo report.now.rows → IfOk result (λ text.
+        IsReported inputs.now.topo inputs.now.fragments report.now last.now (string_bytes text)) }
 {
     let line = report_line(alloc, report)?;
     let body = body(alloc, inputs, report.rows())?;

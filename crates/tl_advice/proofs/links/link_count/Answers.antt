@@ -10,7 +10,6 @@ use Rattle.tl_reasons.specs.States.{manager_with}
 use Rattle.tl_reasons.proofs.ManagerLaws.{declared}
 use Rattle.tl_show.specs.Lines.{link_at, block_at}
 use Rattle.tl_show.proofs.Texts.{block_some}
-use Rattle.tl_advice.specs.LinkCounts.{IsCountOf}
 use Rattle.tl_advice.proofs.CountLaws.{only_one}
 use Rattle.tl_advice.proofs.links.link_count.Goals as goal
 

@@ -1,4 +1,4 @@
-use Rattle.std.proofs.Common.{◌≡◌, ◌+◌, ◌≤◌, ◌∷◌, ◌++◌, [], length, length-append, sym, ap, subst, ◌∙◌, arith}
+use Rattle.std.proofs.Common.{◌≡◌, ◌+◌, ◌≤◌, ◌∷◌, ◌++◌, [], length, length-append, sym, ap, subst, arith}
 use Rattle.tl_advice.specs.LinkCounts.{IsCountOf, AreInOrder}
 use Rattle.tl_advice.proofs.CountLaws.{each_more}
 use Rattle.tl_advice.proofs.links.link_counts.Goals as goal

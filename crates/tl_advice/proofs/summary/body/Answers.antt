@@ -1,4 +1,4 @@
-use Rattle.std.proofs.Common.{refl, subst, sym, ◌∙◌, ap}
+use Rattle.std.proofs.Common.{refl, subst, sym}
 use Rattle.tl_advice.specs.LinkCounts.{AreCounted}
 use Rattle.tl_advice.specs.Tallies.{AreLinked, AreTallied}
 use Rattle.tl_advice.specs.Summaries.{body_of}

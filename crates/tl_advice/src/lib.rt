@@ -1,4 +1,4 @@
-//! Faults in sentences: where each is, what was found there, and what would be right.
+//! Faults in sentences: where each is, what was found there, and what would be right; and the summary at the end of a run.
 #![tactic(auto)]
 
 mod advice;
@@ -6,9 +6,12 @@ mod causes;
 mod fields;
 mod forms;
 mod kinds;
+mod links;
 mod places;
 mod refusals;
 mod sentences;
+mod summary;
+mod tallies;
 
 pub use advice::edit_cause;
 pub use causes::{Advice, Cause};
@@ -16,3 +19,4 @@ pub use kinds::{Role, kind_of};
 pub use places::{Line, Look, More, Place, Sentence};
 pub use refusals::{Script, script_sentences};
 pub use sentences::{Home, fragment_cause, length_cause, line_at, line_of, topology_cause};
+pub use summary::{report_summary, run_summary};

@@ -65,6 +65,11 @@ impl<'s> Visitor<'s> for Asked {
     }
 }
 
+/// How many edits the commands of a script ask for, up to its end or its first bad command.
+pub(crate) fn edits_in(script: &[u8]) -> u64 {
+    asked_in(script).edits
+}
+
 /// What the commands of a script ask for, up to its end or its first bad command.
 fn asked_in(script: &[u8]) -> Asked {
     let mut asked = Asked {

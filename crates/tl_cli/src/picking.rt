@@ -6,10 +6,12 @@ ghost use Rattle.std.specs.List.{All};
 use crate::fault::Fault;
 use crate::pasts::inputs_left;
 use crate::view::View;
+use crate::words::How;
 use std::alloc::{AllocError, AllocFailed, Global};
 use std::fs;
 use std::rt::Files;
 use std::sync::Arc;
+use tl_advice::report_summary;
 use tl_beats::{Fragment, Row};
 use tl_formats::{Format, Title, print_rows};
 use tl_inputs::Inputs;
@@ -52,6 +54,8 @@ pub(crate) struct Order<'a> {
     pick: Pick,
     /// The path of the text of waivers.
     waive: Option<&'a str>,
+    /// Whether their summary is told.
+    summary: bool,
 }
 
 /// What was written.
@@ -61,6 +65,8 @@ pub(crate) struct Written {
     pub(crate) rows: u64,
     /// What is told of waivers.
     pub(crate) notes: String,
+    /// Their summary, if it is told.
+    pub(crate) summary: Option<String>,
 }
 
 /// The number of the link with this name, if there is one.
@@ -151,6 +157,7 @@ fn waivers_of<R: Files + AllocGlobal>(
 pub(crate) fn order_of<'a, R: Files + AllocGlobal>(
     rt: &R,
     topo: &Topo,
+    how: How,
     view: &View<'a>,
 ) -> Result<Order<'a>, Trouble> {
     let pick = Pick {
@@ -163,6 +170,7 @@ pub(crate) fn order_of<'a, R: Files + AllocGlobal>(
         format: view.format,
         pick,
         waive: view.waive,
+        summary: how.summary,
     })
 }
 
@@ -236,6 +244,28 @@ fn write_left<O: ByteOut>(
     Ok(printed.rows)
 }
 
+/// The summary of those of these rows that a pick leaves.
+fn summary_left(
+    alloc: Global,
+    inputs: &Inputs,
+    pick: &Pick,
+    rows: &[Row],
+) -> Result<String, AllocError> {
+    let left = pick.left(alloc, rows)?;
+    report_summary(alloc, inputs, &left)
+}
+
+/// The summary of those of these rows that are wanted, if it is told; None where memory is refused.
+fn summary_of(alloc: Global, inputs: &Inputs, order: &Order<'_>, rows: &[Row]) -> Option<String> {
+    if !order.summary {
+        return None;
+    }
+    match summary_left(alloc, inputs, &order.pick, rows) {
+        Ok(summary) => Some(summary),
+        Err(_) => None,
+    }
+}
+
 /// Writes those of these rows that are wanted.
 fn write_rows<O: ByteOut>(
     alloc: Global,
@@ -249,8 +279,12 @@ fn write_rows<O: ByteOut>(
     requires links { All (λ row. row.link < length inputs.now.topo.links) rows.now }
 {
     let notes = notes_of(alloc, order.waive, &order.pick, rows)?;
-    let rows = write_left(alloc, title, inputs, order, rows, out)?;
-    Ok(Written { rows, notes })
+    let count = write_left(alloc, title, inputs, order, rows, out)?;
+    Ok(Written {
+        rows: count,
+        notes,
+        summary: summary_of(alloc, inputs, order, rows),
+    })
 }
 
 /// Writes those rows of what stands that are wanted.

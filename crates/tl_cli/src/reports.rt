@@ -2,7 +2,7 @@
 
 ghost use Rattle.std.specs.Prelude.{◌<◌, ◌^◌};
 
-use crate::denial::{Denial, Deny};
+use crate::denial::Denial;
 use crate::fault::Fault;
 use crate::files::{fragments_of, script_of, topology_of};
 use crate::picking::{Trouble, Written, order_of, write_audit, write_once};
@@ -35,6 +35,8 @@ pub(crate) enum Ending {
     Denied(Denial),
     /// Chosen rows were written, and it is denied or not.
     Picked(Written, Option<Denial>),
+    /// As its run came out, which is denied or not and has this summary.
+    Summed(Outcome, Option<Denial>, String),
     /// What it is to write can't be had, in a sentence.
     Objected(String),
     /// The text of a stream is at fault, as its last line tells.
@@ -47,6 +49,7 @@ impl Ending {
         match self {
             Ending::Came(outcome) => ending_of(outcome, denial),
             Ending::Picked(written, _) => Ending::Picked(written, denial),
+            Ending::Summed(outcome, _, summary) => Ending::Summed(outcome, denial, summary),
             Ending::Denied(denial) => Ending::Denied(denial),
             Ending::Objected(text) => Ending::Objected(text),
             Ending::Stopped => Ending::Stopped,
@@ -80,12 +83,13 @@ fn once_picked<R: Files + AllocGlobal, O: ByteOut>(
     rt: &R,
     topo: &Topo,
     fragments: &[Arc<Fragment>],
+    how: How,
     view: &View<'_>,
     out: &mut O,
 ) -> Result<Ending, Fault>
     requires { O.failure_count out.old < 2 ^ 63 }
 {
-    match order_of(rt, topo, view) {
+    match order_of(rt, topo, how, view) {
         Ok(order) => ending_with(write_once(rt.alloc(), topo, fragments, &order, out)),
         Err(trouble) => ending_without(trouble),
     }
@@ -96,13 +100,14 @@ fn once_of<R: Files + AllocGlobal, O: ByteOut>(
     rt: &R,
     topo: &Topo,
     fragments: &[Arc<Fragment>],
+    how: How,
     view: &View<'_>,
     out: &mut O,
 ) -> Result<Ending, Fault>
     requires { O.failure_count out.old < 2 ^ 63 }
 {
-    if !view.is_whole() {
-        return once_picked(rt, topo, fragments, view, out);
+    if how.summary || !view.is_whole() {
+        return once_picked(rt, topo, fragments, how, view, out);
     }
     let rows = match view.format {
         Format::Shown => run_once_as(rt.alloc(), topo, fragments, &Shown, out)?,
@@ -116,14 +121,14 @@ fn once_denied<R: Files + AllocGlobal, O: ByteOut>(
     rt: &R,
     topo: &Topo,
     fragments: &[Arc<Fragment>],
-    deny: Deny,
+    how: How,
     view: &View<'_>,
     out: &mut O,
 ) -> Result<Ending, Fault>
     requires { O.failure_count out.old < 2 ^ 63 }
 {
-    let ending = once_of(rt, topo, fragments, view, out)?;
-    Ok(ending.denied_by(deny.of_fragments(fragments)))
+    let ending = once_of(rt, topo, fragments, how, view, out)?;
+    Ok(ending.denied_by(how.deny.of_fragments(fragments)))
 }
 
 /// The report of files' fragments on a topology.
@@ -131,14 +136,14 @@ fn once_on<R: Files + AllocGlobal, O: ByteOut>(
     rt: &R,
     topo: &Topo,
     fragments: &[&str],
-    deny: Deny,
+    how: How,
     view: &View<'_>,
     out: &mut O,
 ) -> Result<Ending, Fault>
     requires { O.failure_count out.old < 2 ^ 63 }
 {
     let fragments = fragments_of(rt, fragments)?;
-    once_denied(rt, topo, &fragments, deny, view, out)
+    once_denied(rt, topo, &fragments, how, view, out)
 }
 
 /// The report of files' fragments on a file's topology.
@@ -153,7 +158,7 @@ pub(crate) fn once_of_files<R: Files + AllocGlobal, O: ByteOut>(
     requires { O.failure_count out.old < 2 ^ 63 }
 {
     let topo = topology_of(rt, topology)?;
-    once_on(rt, &topo, fragments, how.deny, view, out)
+    once_on(rt, &topo, fragments, how, view, out)
 }
 
 /// The edits that an audit looks at.
@@ -182,13 +187,14 @@ struct Audit<'a> {
 fn audit_picked<R: Files + AllocGlobal, O: ByteOut>(
     rt: &R,
     audit: Audit<'_>,
+    how: How,
     view: &View<'_>,
     out: &mut O,
 ) -> Result<Ending, Fault>
     requires { O.failure_count out.old < 2 ^ 63 }
 {
     let Audit { topo, script, edit } = audit;
-    match order_of(rt, topo, view) {
+    match order_of(rt, topo, how, view) {
         Ok(order) => ending_with(write_audit(rt.alloc(), topo, script, edit, &order, out)),
         Err(trouble) => ending_without(trouble),
     }
@@ -198,13 +204,14 @@ fn audit_picked<R: Files + AllocGlobal, O: ByteOut>(
 fn audit_of<R: Files + AllocGlobal, O: ByteOut>(
     rt: &R,
     audit: Audit<'_>,
+    how: How,
     view: &View<'_>,
     out: &mut O,
 ) -> Result<Ending, Fault>
     requires { O.failure_count out.old < 2 ^ 63 }
 {
-    if !view.is_whole() {
-        return audit_picked(rt, audit, view, out);
+    if how.summary || !view.is_whole() {
+        return audit_picked(rt, audit, how, view, out);
     }
     let Audit { topo, script, edit } = audit;
     let rows = match view.format {
@@ -218,14 +225,16 @@ fn audit_of<R: Files + AllocGlobal, O: ByteOut>(
 fn audit_denied<R: Files + AllocGlobal, O: ByteOut>(
     rt: &R,
     audit: Audit<'_>,
-    deny: Deny,
+    how: How,
     view: &View<'_>,
     out: &mut O,
 ) -> Result<Ending, Fault>
     requires { O.failure_count out.old < 2 ^ 63 }
 {
-    let ending = audit_of(rt, audit, view, out)?;
-    let denial = deny.of_audit(rt.alloc(), audit.topo, audit.script, audit.edit)?;
+    let ending = audit_of(rt, audit, how, view, out)?;
+    let denial = how
+        .deny
+        .of_audit(rt.alloc(), audit.topo, audit.script, audit.edit)?;
     Ok(ending.denied_by(denial))
 }
 
@@ -234,7 +243,7 @@ fn audit_on<R: Files + AllocGlobal, O: ByteOut>(
     rt: &R,
     topo: &Topo,
     past: Past<'_>,
-    deny: Deny,
+    how: How,
     view: &View<'_>,
     out: &mut O,
 ) -> Result<Ending, Fault>
@@ -246,7 +255,7 @@ fn audit_on<R: Files + AllocGlobal, O: ByteOut>(
         script: &script,
         edit: past.edit,
     };
-    audit_denied(rt, audit, deny, view, out)
+    audit_denied(rt, audit, how, view, out)
 }
 
 /// What checking everything anew finds after so many accepted edits of a file's script, on a file's topology.
@@ -260,5 +269,5 @@ pub(crate) fn audit_of_files<R: Files + AllocGlobal, O: ByteOut>(
     requires { O.failure_count out.old < 2 ^ 63 }
 {
     let topo = topology_of(rt, past.topology)?;
-    audit_on(rt, &topo, past, how.deny, view, out)
+    audit_on(rt, &topo, past, how, view, out)
 }

@@ -37,6 +37,9 @@ const SOME_ROWS: u8 = 1;
 
 const FAULT: u8 = 2;
 
+/// So many writes that failed that no summary is tried.
+const MANY_FAILURES: u64 = 1 << 63;
+
 /// The exit status of a run that came to this.
 fn status_of(outcome: Outcome) -> u8
     ensures exact { result ≡ status_of outcome }
@@ -175,6 +178,37 @@ fn tell_denial<R: Files + AllocGlobal, E: ByteOut>(
         tell_refusals(rt, err, command, screen);
     }
     FAULT
+}
+
+/// Tells how a run ended that came to this: why it is denied, if it is, and what it refused; that this can't be written changes
+/// nothing.
+fn tell_came<R: Files + AllocGlobal, E: ByteOut>(
+    rt: &R,
+    err: &mut E,
+    outcome: Outcome,
+    denial: Option<Denial>,
+    command: &Command<'_>,
+    screen: Screen,
+) -> u8
+    requires { E.failure_count err.old < 2 ^ 63 }
+    ensures { result ≤ 2 }
+{
+    match denial {
+        Some(denial) => tell_denial(rt, err, denial, command, screen),
+        None => {
+            tell_refusals(rt, err, command, screen);
+            status_of(outcome)
+        }
+    }
+}
+
+/// Tells a summary, if there is one; that this can't be written changes nothing.
+fn tell_summary<E: ByteOut>(err: &mut E, summary: Option<&String>) {
+    if let Some(summary) = summary
+        && err.failures() < MANY_FAILURES
+    {
+        let _ = write_all(err, summary.as_bytes());
+    }
 }
 
 /// Tells what became of waivers, and then why a run is denied, if it is; that this can't be written changes nothing.
@@ -410,13 +444,17 @@ fn tell_ending<R: Files + AllocGlobal, E: ByteOut>(
     ensures { result ≤ 2 }
 {
     match ending {
-        Ok(Ending::Came(outcome)) => {
-            tell_refusals(rt, err, command, screen);
-            status_of(outcome)
-        }
+        Ok(Ending::Came(outcome)) => tell_came(rt, err, outcome, None, command, screen),
         Ok(Ending::Denied(denial)) => tell_denial(rt, err, denial, command, screen),
         Ok(Ending::Picked(written, denial)) => {
-            tell_picked(rt, err, &written, denial, command, screen)
+            let status = tell_picked(rt, err, &written, denial, command, screen);
+            tell_summary(err, written.summary.as_ref());
+            status
+        }
+        Ok(Ending::Summed(outcome, denial, summary)) => {
+            let status = tell_came(rt, err, outcome, denial, command, screen);
+            tell_summary(err, Some(&summary));
+            status
         }
         Ok(Ending::Objected(text)) => tell_objection(err, text.as_str()),
         Ok(Ending::Stopped) => FAULT,
@@ -447,7 +485,7 @@ fn do_command<R: Files + Threads + Wait + Sync + AllocGlobal, I: ByteIn, O: Byte
             fragments,
             how,
             view,
-        } => once_of_files(rt, *topology, fragments, *how, view, out),
+        } => once_of_files(rt, *topology, fragments, screen.how(*how), view, out),
         Command::Run {
             topology,
             script,
@@ -455,7 +493,7 @@ fn do_command<R: Files + Threads + Wait + Sync + AllocGlobal, I: ByteIn, O: Byte
             how,
         } => {
             let workers = (*workers).min(MOST_WORKERS);
-            run_of_files(rt, *topology, *script, workers, *how, out)
+            run_of_files(rt, *topology, *script, workers, screen.how(*how), out)
         }
         Command::Audit {
             topology,
@@ -469,7 +507,7 @@ fn do_command<R: Files + Threads + Wait + Sync + AllocGlobal, I: ByteIn, O: Byte
                 script: *script,
                 edit: *edit,
             };
-            audit_of_files(rt, past, *how, view, out)
+            audit_of_files(rt, past, screen.how(*how), view, out)
         }
         Command::Stream { topology, inputs } => {
             stream_of_files(rt, *topology, inputs, input, out)
@@ -481,8 +519,9 @@ fn do_command<R: Files + Threads + Wait + Sync + AllocGlobal, I: ByteIn, O: Byte
 /// Does what the words ask for, the first of which is the program's own, and answers the exit status: 0 where the last report
 /// has no rows, there is none, or a text was asked for; 1 where it has some rows; 2 for a script that stops, for a fault, which is
 /// told in one line on `err`, and for words that are refused, of which `clap` tells on `err` in lines of its own. `input`
-/// stands for standard input. At a terminal, and where the words ask for it, the line of a fault is followed by a sentence, and what
-/// a script's run refuses is told there too. With workers it waits for their threads.
+/// stands for standard input. At a terminal, and where the words ask for it, the line of a fault is followed by a sentence, what
+/// a script's run refuses is told there too, and a command of files that is done ends with a summary. With workers it waits for their
+/// threads.
 pub fn run_words_at<
     R: Files + Threads + Wait + Sync + AllocGlobal,
     I: ByteIn,

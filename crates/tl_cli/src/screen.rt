@@ -1,6 +1,6 @@
 //! What standard error is.
 
-use crate::words::Command;
+use crate::words::{Command, How};
 use tl_advice::Look;
 
 /// What standard error is.
@@ -29,6 +29,14 @@ impl Screen {
             Screen::None => false,
             Screen::Plain | Screen::Colored => true,
         }
+    }
+
+    /// How a command is done there: at a terminal a summary is told without being asked for.
+    pub(crate) fn how(self, mut how: How) -> How {
+        if self.is_terminal() {
+            how.summary = true;
+        }
+        how
     }
 
     /// Whether what a script's run refused is told in sentences.

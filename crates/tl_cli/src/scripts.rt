@@ -2,7 +2,7 @@
 
 ghost use Rattle.std.specs.Prelude.{◌≡◌, ◌<◌, ◌≤◌, ◌^◌, OnOk};
 
-use crate::denial::Deny;
+use crate::denial::edits_in;
 use crate::fault::Fault;
 use crate::files::{script_of, topology_of};
 use crate::monitors::{Attached, attached_in, settlement_lines};
@@ -12,8 +12,10 @@ use std::alloc::Global;
 use std::rt::Files;
 use std::sync::{Arc, Wait};
 use std::thread::Threads;
+use tl_advice::run_summary;
 use tl_beats::Watch;
 use tl_monitor::{After, Budget, Monitor};
+use tl_report::Report;
 use tl_run::Outcome;
 use tl_text::{ByteOut, WriteFault, write_all};
 use tl_topology::{Topo, read_topo};
@@ -30,12 +32,14 @@ struct ScriptRun<'a> {
     show: bool,
 }
 
-/// The run of a script with these monitors, of whatever kind: a script of boxes is not seen through by the borrow checker.
+/// The run of a script with these monitors, of whatever kind: a script of boxes is not seen through by the borrow checker. Leaves
+/// its last report.
 fn outcome_of<R: Threads + Wait + Sync + AllocGlobal, M: Monitor + Send, O: ByteOut>(
     rt: &R,
     run: ScriptRun<'_>,
     boxes: Vec<M>,
     workers: u8,
+    last: &mut Option<Report>,
     out: &mut O,
 ) -> Result<Outcome, WriteFault>
     requires workers { workers ≤ 16 }
@@ -44,9 +48,9 @@ fn outcome_of<R: Threads + Wait + Sync + AllocGlobal, M: Monitor + Send, O: Byte
 {
     let script = Script::new(run.topo, run.text, boxes);
     if run.show {
-        show_with(rt, rt.alloc(), script, out, workers)
+        show_with(rt, rt.alloc(), script, out, workers, last)
     } else {
-        run_with(rt, rt.alloc(), script, out, workers)
+        run_with(rt, rt.alloc(), script, out, workers, last)
     }
 }
 
@@ -56,6 +60,7 @@ fn run_boxed<R: Threads + Wait + Sync + AllocGlobal, O: ByteOut>(
     run: ScriptRun<'_>,
     attached: &[Attached],
     workers: u8,
+    last: &mut Option<Report>,
     out: &mut O,
 ) -> Result<Outcome, Fault>
     requires workers { workers ≤ 16 }
@@ -78,7 +83,7 @@ fn run_boxed<R: Threads + Wait + Sync + AllocGlobal, O: ByteOut>(
         };
         boxes.push(boxed)?;
     }
-    Ok(outcome_of(rt, run, boxes, workers, out)?)
+    Ok(outcome_of(rt, run, boxes, workers, last, out)?)
 }
 
 /// Writes what these monitors told at their end, a line each.
@@ -100,49 +105,83 @@ fn run_attached<R: Threads + Wait + Sync + AllocGlobal, O: ByteOut>(
     run: ScriptRun<'_>,
     attached: &[Attached],
     workers: u8,
+    last: &mut Option<Report>,
     out: &mut O,
 ) -> Result<Outcome, Fault>
     requires workers { workers ≤ 16 }
     requires out { O.failure_count out.old < 2 ^ 63 }
 {
-    let outcome = run_boxed(rt, run, attached, workers, out)?;
+    let outcome = run_boxed(rt, run, attached, workers, last, out)?;
     if outcome.stop.is_none() {
         write_settlements(rt.alloc(), attached, out)?;
     }
     Ok(outcome)
 }
 
-/// The run of a script, for which it makes the monitors that it attaches. So many workers check windows beside it.
+/// The run of a script, for which it makes the monitors that it attaches. So many workers check windows beside it. Leaves its last
+/// report.
 fn run_of_script<R: Threads + Wait + Sync + AllocGlobal, O: ByteOut>(
     rt: &R,
     run: ScriptRun<'_>,
     workers: u8,
+    last: &mut Option<Report>,
     out: &mut O,
 ) -> Result<Outcome, Fault>
     requires workers { workers ≤ 16 }
     requires out { O.failure_count out.old < 2 ^ 63 }
 {
     let attached = attached_in(rt.alloc(), run.text)?;
-    run_attached(rt, run, &attached, workers, out)
+    run_attached(rt, run, &attached, workers, last, out)
+}
+
+/// The summary of a run that does not stop, if it is told; None where memory is refused.
+fn summary_of(
+    alloc: Global,
+    run: ScriptRun<'_>,
+    how: How,
+    last: Option<&Report>,
+) -> Option<String> {
+    if !how.summary {
+        return None;
+    }
+    match run_summary(alloc, run.topo, run.text, edits_in(run.text), last) {
+        Ok(summary) => Some(summary),
+        Err(_) => None,
+    }
+}
+
+/// How the run of a script ends that came to this, with this last report: denied or not, and told in a summary or not.
+fn ending_told(
+    alloc: Global,
+    run: ScriptRun<'_>,
+    how: How,
+    outcome: Outcome,
+    last: Option<&Report>,
+) -> Result<Ending, Fault> {
+    if outcome.stop.is_some() {
+        return Ok(Ending::Came(outcome));
+    }
+    let denial = how.deny.of_run(alloc, run.topo, run.text)?;
+    match summary_of(alloc, run, how, last) {
+        Some(summary) => Ok(Ending::Summed(outcome, denial, summary)),
+        None => Ok(ending_of(outcome, denial)),
+    }
 }
 
 /// The run of a script that is denied or not.
 fn run_denied<R: Threads + Wait + Sync + AllocGlobal, O: ByteOut>(
     rt: &R,
     run: ScriptRun<'_>,
-    deny: Deny,
+    how: How,
     workers: u8,
     out: &mut O,
 ) -> Result<Ending, Fault>
     requires workers { workers ≤ 16 }
     requires out { O.failure_count out.old < 2 ^ 63 }
 {
-    let outcome = run_of_script(rt, run, workers, out)?;
-    if outcome.stop.is_some() {
-        return Ok(Ending::Came(outcome));
-    }
-    let denial = deny.of_run(rt.alloc(), run.topo, run.text)?;
-    Ok(ending_of(outcome, denial))
+    let mut last = None;
+    let outcome = run_of_script(rt, run, workers, &mut last, out)?;
+    ending_told(rt.alloc(), run, how, outcome, last.as_ref())
 }
 
 /// The run of a file's script on a topology.
@@ -163,7 +202,7 @@ fn run_on<R: Files + Threads + Wait + Sync + AllocGlobal, O: ByteOut>(
         text: &text,
         show: how.show,
     };
-    run_denied(rt, run, how.deny, workers, out)
+    run_denied(rt, run, how, workers, out)
 }
 
 /// The run of a file's script on a file's topology.
@@ -196,5 +235,6 @@ pub(crate) fn run_of_input<R: Threads + Wait + Sync + AllocGlobal, O: ByteOut>(
         text: &text[used..],
         show: false,
     };
-    run_of_script(rt, run, 0, out)
+    let mut last = None;
+    run_of_script(rt, run, 0, &mut last, out)
 }

@@ -17,6 +17,8 @@ pub(crate) struct How {
     pub(crate) explain_faults: bool,
     /// What is a fault besides.
     pub(crate) deny: Deny,
+    /// Whether what was checked and found is told at the end.
+    pub(crate) summary: bool,
 }
 
 /// What the words ask for.
@@ -122,11 +124,20 @@ fn deny<'a>(alloc: Global) -> Arg<'a> {
     .hide_possible_values(true)
 }
 
+fn summary<'a>(alloc: Global) -> Arg<'a> {
+    flag(
+        alloc,
+        "summary",
+        "Says on standard error, after the run, what was checked and found, as at a terminal",
+    )
+}
+
 /// A command with the options of how it is to be done.
 fn with_how<'a>(alloc: Global, command: Draft<'a>) -> Draft<'a> {
     command
         .arg(show(alloc))
         .arg(explain_faults(alloc))
+        .arg(summary(alloc))
         .arg(deny(alloc))
 }
 
@@ -279,6 +290,7 @@ fn how_asked(found: &ArgMatches<'_>) -> How {
             refused: is_denied(found, "refused"),
             empty: is_denied(found, "empty"),
         },
+        summary: found.get_flag("summary"),
     }
 }
 

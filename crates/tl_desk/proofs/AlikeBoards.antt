@@ -9,7 +9,7 @@ use Rattle.tl_inputs.specs.Inputs.{InputData}
 use Rattle.tl_inputs.specs.Log.{LogData, inputs_after}
 use Rattle.tl_pieces.specs.declared.key.PieceKey.{PieceKey}
 use Rattle.tl_pieces.specs.Keys.{value_at, change}
-use Rattle.tl_pieces.specs.Pieces.{Board, Piece, Pass, IsBoard, IsAt, IsFirst, IsGood, Follows, IsWanted, IsWantedAt, ChainsFrom, opening_of, exit_before, left_by, piece_at, result_of, live_of, with_live}
+use Rattle.tl_pieces.specs.Pieces.{Board, Piece, Pass, empty, IsBoard, IsAt, IsFirst, IsGood, Follows, IsWanted, IsWantedAt, ChainsFrom, opening_of, exit_before, left_by, piece_at, result_of, live_of, with_live}
 use Rattle.tl_span.specs.Links.{SameLink}
 use Rattle.tl_span.specs.States.{SameSpan, StandsFor}
 use Rattle.tl_span.specs.declared.links.LinkState.{LinkState}
@@ -21,7 +21,6 @@ use Rattle.tl_spans.specs.Tickets.{HandsIn}
 use Rattle.tl_spans.specs.Touch.{Touches}
 use Rattle.tl_spans.specs.Windows.{with_checked}
 use Rattle.tl_spans.proofs.CheckLemmas.{owner_of}
-use Rattle.tl_spans.proofs.EditLemmas.{same_entries}
 use Rattle.tl_watches.specs.declared.tally.Tally.{Tally}
 use Rattle.tl_watches.specs.Edits.{EditsBoth}
 use Rattle.tl_watches.specs.Outside.{HandsInWatch}
@@ -29,6 +28,7 @@ use Rattle.tl_watches.specs.Tally.{SameTally}
 use Rattle.tl_watches.specs.Touch.{TouchesWatch}
 use Rattle.tl_watches.specs.Watches.{WatchesData, AreWatches}
 use Rattle.tl_windows.specs.Windows.{HasBeat}
+use Rattle.tl_desk.specs.Alike.{AreBoth}
 use Rattle.tl_desk.specs.Jobs.{Unmarks, UnmarksWatch}
 use Rattle.tl_desk.proofs.TicketLemmas.{clash, one_value}
 
@@ -37,19 +37,38 @@ use Rattle.tl_desk.proofs.TicketLemmas.{clash, one_value}
 abbrev made : {S R : Type 0} → Option (Pass S R) → Option ℕ → Piece S R
 made result live = record { result = result; live = live }
 
-parts : {S R : Type 0} (T : Type 0) (r q : Option (Pass S R)) (l m : Option ℕ) → ((T → ⊥) → made r l ≡ made q m) → (T → r ≡ None) → (T → l ≡ None) → (T → q ≡ None) → (T → m ≡ None) → made r l ≡ made q m
-parts T (Some x) q l m same a b c d = same (λ t. clash (Some x) x (a t) refl)
-parts T None (Some x) l m same a b c d = same (λ t. clash (Some x) x (c t) refl)
-parts T None None (Some x) m same a b c d = same (λ t. clash (Some x) x (b t) refl)
-parts T None None None (Some x) same a b c d = same (λ t. clash (Some x) x (d t) refl)
-parts T None None None None same a b c d = refl
+-- Both are equal, or two that are.
+pub equal_of : {X : Type 0} (o w : Option X) → AreBoth {X = X} (λ x y. x ≡ y) o w → o ≡ w
+equal_of None None both = refl
+equal_of None (Some y) both = absurd both
+equal_of (Some x) None both = absurd both
+equal_of (Some x) (Some y) both = ap Some both
 
-one_piece : {S R : Type 0} (T : Type 0) (o x y : Option (Piece S R)) → ((T → ⊥) → x ≡ o) → ((T → ⊥) → y ≡ o) → (T → result_of x ≡ None) → (T → live_of x ≡ None) → (T → result_of y ≡ None) → (T → live_of y ≡ None)
-    → is_some x ≡ is_some y → x ≡ y
-one_piece T o None None first second a b c d there = refl
-one_piece T o None (Some q) first second a b c d there = absurd (let never : false ≡ true = there in cc)
-one_piece T o (Some p) None first second a b c d there = absurd (let never : true ≡ false = there in cc)
-one_piece T o (Some p) (Some q) first second a b c d there = ap Some (parts T p.result q.result p.live q.live (λ not. one_value o p q (sym (first not)) (sym (second not))) a b c d)
+pub both_of : {X : Type 0} (o w : Option X) → o ≡ w → AreBoth {X = X} (λ x y. x ≡ y) o w
+both_of None None same = tt
+both_of None (Some y) same = absurd (clash None y refl same)
+both_of (Some x) None same = absurd (clash None x refl (sym same))
+both_of (Some x) (Some y) same = one_value (Some x) x y refl same
+
+pub moved : {X : Type 0} (same : X → X → Type 0) (o w x y : Option X) → o ≡ x → w ≡ y → AreBoth same o w → AreBoth same x y
+moved same o w x y first second both = subst (λ z. AreBoth same z y) first (subst (λ z. AreBoth same o z) second both)
+
+-- E is true of two windows after an edit, if it is so of two blank ones.
+module _ {S R : Type 0} (E : Piece S R → Piece S R → Type 0) (blank : E empty empty) (T : Type 0) where
+  parts : (r q : Option (Pass S R)) (l m : Option ℕ) → ((T → ⊥) → E (made r l) (made q m)) → (T → r ≡ None) → (T → l ≡ None) → (T → q ≡ None) → (T → m ≡ None) → E (made r l) (made q m)
+  parts (Some x) q l m same a b c d = same (λ t. clash (Some x) x (a t) refl)
+  parts None (Some x) l m same a b c d = same (λ t. clash (Some x) x (c t) refl)
+  parts None None (Some x) m same a b c d = same (λ t. clash (Some x) x (b t) refl)
+  parts None None None (Some x) same a b c d = same (λ t. clash (Some x) x (d t) refl)
+  parts None None None None same a b c d = blank
+
+  pub one_piece : (o w x y : Option (Piece S R)) → AreBoth E o w → ((T → ⊥) → x ≡ o) → ((T → ⊥) → y ≡ w) → (T → result_of x ≡ None) → (T → live_of x ≡ None) → (T → result_of y ≡ None) → (T → live_of y ≡ None)
+      → is_some x ≡ is_some y → AreBoth E x y
+  one_piece o w None None alike first second a b c d there = tt
+  one_piece o w None (Some q) alike first second a b c d there = absurd (let never : false ≡ true = there in cc)
+  one_piece o w (Some p) None alike first second a b c d there = absurd (let never : true ≡ false = there in cc)
+  one_piece o w (Some p) (Some q) alike first second a b c d there =
+      parts p.result q.result p.live q.live (λ not. moved E o w (Some p) (Some q) (sym (first not)) (sym (second not)) alike) a b c d
 
 both_ways : (x y : Bool) → (x ≡ true → y ≡ true) → (y ≡ true → x ≡ true) → x ≡ y
 both_ways true true there back = refl
@@ -68,28 +87,28 @@ span_there one other sound whole is same k there =
     let beat : HasBeat (manager_beats (standing one).topo (standing one).fragments k.owner) k.window = (sound.covered.windows k own).0 there in
     (whole.covered.windows k its).1 (subst (λ (l : LogData). HasBeat (manager_beats (inputs_after l.topo l.edits).topo (inputs_after l.topo l.edits).fragments k.owner) k.window) same beat)
 
-pub edited_spans : (e : AnEdit) (one one_after other other_after : SpansData) → one.log ≡ other.log → one.board.pieces ≡ other.board.pieces → EditsTo one e one_after → EditsTo other e other_after → IsSound one_after → IsSound other_after
-    → IsBoard one_after.board → IsBoard other_after.board → (one_after.log ≡ other_after.log) × (one_after.board.pieces ≡ other_after.board.pieces)
-edited_spans e one one_after other other_after log pieces first second sound whole is has =
-    (logs, same_entries one_after.board.pieces other_after.board.pieces is.keys has.keys each)
+pub edited_log : (e : AnEdit) (one one_after other other_after : SpansData) → one.log ≡ other.log → EditsTo one e one_after → EditsTo other e other_after → one_after.log ≡ other_after.log
+edited_log e one one_after other other_after log first second = first.log ∙ ap (λ (l : LogData). record l { edits = l.edits ++ e ∷ [] }) log ∙ sym second.log
+
+pub edited_spans : (E : Piece SpanState (List Row) → Piece SpanState (List Row) → Type 0) → E empty empty → (e : AnEdit) (one one_after other other_after : SpansData) → one.log ≡ other.log
+    → ((k : PieceKey) → AreBoth E (piece_at k one.board) (piece_at k other.board)) → EditsTo one e one_after → EditsTo other e other_after → IsSound one_after → IsSound other_after
+    → IsBoard one_after.board → IsBoard other_after.board → (k : PieceKey) → AreBoth E (piece_at k one_after.board) (piece_at k other_after.board)
+edited_spans E blank e one one_after other other_after log pieces first second sound whole is has k =
+    one_piece E blank (Touches (standing one) e k.owner k.window) (piece_at k one.board) (piece_at k other.board) (piece_at k one_after.board) (piece_at k other_after.board) (pieces k) (first.stays k)
+    (λ not. second.stays k (λ touches. not (here touches))) (first.result k) (first.ticket k) (λ touches. second.result k (there touches)) (λ touches. second.ticket k (there touches))
+    (both_ways (is_some (piece_at k one_after.board)) (is_some (piece_at k other_after.board)) (span_there one_after other_after sound whole is logs k) (span_there other_after one_after whole sound has (sym logs) k))
   where
     now : standing one ≡ standing other
     now = ap (λ (l : LogData). inputs_after l.topo l.edits) log
 
     logs : one_after.log ≡ other_after.log
-    logs = first.log ∙ ap (λ (l : LogData). record l { edits = l.edits ++ e ∷ [] }) log ∙ sym second.log
+    logs = edited_log e one one_after other other_after log first second
 
-    here : (k : PieceKey) → Touches (standing other) e k.owner k.window → Touches (standing one) e k.owner k.window
-    here k = subst (λ (i : InputData). Touches i e k.owner k.window) (sym now)
+    here : Touches (standing other) e k.owner k.window → Touches (standing one) e k.owner k.window
+    here = subst (λ (i : InputData). Touches i e k.owner k.window) (sym now)
 
-    there : (k : PieceKey) → Touches (standing one) e k.owner k.window → Touches (standing other) e k.owner k.window
-    there k = subst (λ (i : InputData). Touches i e k.owner k.window) now
-
-    each : (k : PieceKey) → piece_at k one_after.board ≡ piece_at k other_after.board
-    each k =
-        one_piece (Touches (standing one) e k.owner k.window) (piece_at k one.board) (piece_at k one_after.board) (piece_at k other_after.board) (first.stays k)
-        (λ not. second.stays k (λ touches. not (here k touches)) ∙ sym (ap (value_at k) pieces)) (first.result k) (first.ticket k) (λ touches. second.result k (there k touches)) (λ touches. second.ticket k (there k touches))
-        (both_ways (is_some (piece_at k one_after.board)) (is_some (piece_at k other_after.board)) (span_there one_after other_after sound whole is logs k) (span_there other_after one_after whole sound has (sym logs) k))
+    there : Touches (standing one) e k.owner k.window → Touches (standing other) e k.owner k.window
+    there = subst (λ (i : InputData). Touches i e k.owner k.window) now
 
 -- ---- windows of monitors after an edit
 
@@ -99,35 +118,26 @@ watch_there now one other are same is k there =
     let its : is_some (opening_of k.owner other.openings) ≡ true = same.owners k.owner ∙ sym (are.owners k.owner) ∙ own in
     (same.covered.windows k its).1 ((are.covered.windows k own).0 there)
 
-pub edited_watches : (e : AnEdit) (one one_after other other_after : WatchesData) → standing one.spans ≡ standing other.spans → one.board.pieces ≡ other.board.pieces → EditsBoth one e one_after → EditsBoth other e other_after
-    → standing one_after.spans ≡ standing other_after.spans → AreWatches (standing one_after.spans) one_after.board → AreWatches (standing other_after.spans) other_after.board → IsBoard one_after.board → IsBoard other_after.board
-    → one_after.board.pieces ≡ other_after.board.pieces
-edited_watches e one one_after other other_after now pieces first second later are same is has = same_entries one_after.board.pieces other_after.board.pieces is.keys has.keys each
+pub edited_watches : (E : Piece Tally (List Row) → Piece Tally (List Row) → Type 0) → E empty empty → (e : AnEdit) (one one_after other other_after : WatchesData) → standing one.spans ≡ standing other.spans
+    → ((k : PieceKey) → AreBoth E (piece_at k one.board) (piece_at k other.board)) → EditsBoth one e one_after → EditsBoth other e other_after → standing one_after.spans ≡ standing other_after.spans
+    → AreWatches (standing one_after.spans) one_after.board → AreWatches (standing other_after.spans) other_after.board → IsBoard one_after.board → IsBoard other_after.board
+    → (k : PieceKey) → AreBoth E (piece_at k one_after.board) (piece_at k other_after.board)
+edited_watches E blank e one one_after other other_after now pieces first second later are same is has k =
+    one_piece E blank (TouchesWatch (standing one.spans) e k.owner k.window) (piece_at k one.board) (piece_at k other.board) (piece_at k one_after.board) (piece_at k other_after.board) (pieces k) (first.stays k)
+    (λ not. second.stays k (λ touches. not (here touches))) (first.result k) (first.ticket k) (λ touches. second.result k (there touches)) (λ touches. second.ticket k (there touches))
+    (both_ways (is_some (piece_at k one_after.board)) (is_some (piece_at k other_after.board)) (watch_there (standing one_after.spans) one_after.board other_after.board are equal is k)
+    (watch_there (standing one_after.spans) other_after.board one_after.board equal are has k))
   where
     equal : AreWatches (standing one_after.spans) other_after.board
     equal = subst (λ (i : InputData). AreWatches i other_after.board) (sym later) same
 
-    here : (k : PieceKey) → TouchesWatch (standing other.spans) e k.owner k.window → TouchesWatch (standing one.spans) e k.owner k.window
-    here k = subst (λ (i : InputData). TouchesWatch i e k.owner k.window) (sym now)
+    here : TouchesWatch (standing other.spans) e k.owner k.window → TouchesWatch (standing one.spans) e k.owner k.window
+    here = subst (λ (i : InputData). TouchesWatch i e k.owner k.window) (sym now)
 
-    there : (k : PieceKey) → TouchesWatch (standing one.spans) e k.owner k.window → TouchesWatch (standing other.spans) e k.owner k.window
-    there k = subst (λ (i : InputData). TouchesWatch i e k.owner k.window) now
-
-    each : (k : PieceKey) → piece_at k one_after.board ≡ piece_at k other_after.board
-    each k =
-        one_piece (TouchesWatch (standing one.spans) e k.owner k.window) (piece_at k one.board) (piece_at k one_after.board) (piece_at k other_after.board) (first.stays k)
-        (λ not. second.stays k (λ touches. not (here k touches)) ∙ sym (ap (value_at k) pieces)) (first.result k) (first.ticket k) (λ touches. second.result k (there k touches)) (λ touches. second.ticket k (there k touches))
-        (both_ways (is_some (piece_at k one_after.board)) (is_some (piece_at k other_after.board)) (watch_there (standing one_after.spans) one_after.board other_after.board are equal is k)
-        (watch_there (standing one_after.spans) other_after.board one_after.board equal are has k))
+    there : TouchesWatch (standing one.spans) e k.owner k.window → TouchesWatch (standing other.spans) e k.owner k.window
+    there = subst (λ (i : InputData). TouchesWatch i e k.owner k.window) now
 
 -- ---- opening states that are the same
-
--- both none, or two that are the same
-abbrev pub AreBoth : {S : Type 0} → (S → S → Type 0) → Option S → Option S → Type 0
-AreBoth same None None = Unit {0}
-AreBoth same None (Some t) = ⊥
-AreBoth same (Some s) None = ⊥
-AreBoth same (Some s) (Some t) = same s t
 
 -- Each owner opens with states that are the same.
 abbrev pub OpenAlike : {S : Type 0} → (S → S → Type 0) → List (ℕ × S) → List (ℕ × S) → Type 0
@@ -182,11 +192,15 @@ first_alike P Q there back l (e ∷ es) found (inl first) = inl (there l e.0 e.1
 first_alike P Q there back l (e ∷ es) found (inr first) = inr ((λ h. first.0 (back l e.0 e.1 h)), first_alike P Q there back (left_by e.0 e.1) es found first.1)
 
 -- There is one first piece, or none.
+pub only_first : {S R : Type 0} (P : Option (ℕ × Option S) → PieceKey → Piece S R → Type 0) (l : Option (ℕ × Option S)) (es : List (PieceKey × Piece S R)) (found same : Option PieceKey) → IsFirst P l es found → IsFirst P l es same → found ≡ same
+only_first P l [] found same first second = first ∙ sym second
+only_first P l (e ∷ es) found same (inl first) (inl second) = first.1 ∙ sym second.1
+only_first P l (e ∷ es) found same (inl first) (inr second) = absurd (second.0 first.0)
+only_first P l (e ∷ es) found same (inr first) (inl second) = absurd (first.0 second.0)
+only_first P l (e ∷ es) found same (inr first) (inr second) = only_first P (left_by e.0 e.1) es found same first.1 second.1
+
 pub one_first : {S R : Type 0} (P : Option (ℕ × Option S) → PieceKey → Piece S R → Type 0) (l : Option (ℕ × Option S)) (es : List (PieceKey × Piece S R)) (k : PieceKey) → IsFirst P l es None → IsFirst P l es (Some k) → ⊥
-one_first P l [] k none some = let never : Some k ≡ None = some in cc
-one_first P l (e ∷ es) k (inl none) some = let never : None ≡ Some e.0 = none.1 in cc
-one_first P l (e ∷ es) k (inr none) (inl some) = none.0 some.0
-one_first P l (e ∷ es) k (inr none) (inr some) = one_first P (left_by e.0 e.1) es k none.1 some.1
+one_first P l es k none some = clash None k refl (only_first P l es None (Some k) none some)
 
 -- ---- states of managers, and tallies
 

@@ -13,7 +13,7 @@ use Rattle.tl_jobs.specs.Jobs.{JobData, DoneData, piece_of}
 use Rattle.tl_jobs.specs.Monitors.{MonitorJobData, MonitorDoneData, monitor_piece}
 use Rattle.tl_pieces.specs.declared.key.PieceKey.{PieceKey}
 use Rattle.tl_pieces.specs.Keys.{value_at, change}
-use Rattle.tl_pieces.specs.Pieces.{Board, Pass, IsFirst, IsFree, IsFirstFree, ChainsFrom, live_of, with_live}
+use Rattle.tl_pieces.specs.Pieces.{Board, Pass, IsFirst, IsFree, IsFirstFree, ChainsFrom, piece_at, live_of, with_live}
 use Rattle.tl_plain.specs.Captured.{captures_after}
 use Rattle.tl_report.specs.Output.{ReportData}
 use Rattle.tl_span.specs.States.{SameSpan}
@@ -21,6 +21,7 @@ use Rattle.tl_span.specs.declared.state.SpanState.{SpanState}
 use Rattle.tl_spans.specs.Spans.{SpansData}
 use Rattle.tl_spans.specs.Tickets.{HandsIn}
 use Rattle.tl_spans.specs.Windows.{key_of}
+use Rattle.tl_spans.proofs.EditLemmas.{same_entries}
 use Rattle.tl_tickets.specs.declared.piece.Piece.{Piece as APiece}
 use Rattle.tl_tickets.specs.declared.piece.Piece.TheVariants as piece
 use Rattle.tl_tickets.specs.Tickets.{IsOutFor}
@@ -38,7 +39,7 @@ use Rattle.tl_desk.specs.declared.call.Call.TheVariants as call
 use Rattle.tl_desk.specs.declared.call.Outcome.{Outcome}
 use Rattle.tl_desk.specs.declared.call.Outcome.TheVariants as outcome
 use Rattle.tl_desk.proofs.AlikeBoxes.{here_alike, edit_alike, attach_alike, leave_alike, back_alike}
-use Rattle.tl_desk.proofs.AlikeBoards.{OpenAlike, span_then, tally_then, spans_open, watches_open, wanted_alike, chains_alike, first_alike, edited_spans, edited_watches, unmarked_spans, handed_spans, unmarked_watches, unmarked_rest, handed_rest, handed_watches}
+use Rattle.tl_desk.proofs.AlikeBoards.{OpenAlike, span_then, tally_then, spans_open, watches_open, wanted_alike, chains_alike, first_alike, equal_of, both_of, edited_log, edited_spans, edited_watches, unmarked_spans, handed_spans, unmarked_watches, unmarked_rest, handed_rest, handed_watches}
 use Rattle.tl_desk.proofs.TicketLemmas.{one_value, one_key, one_watch_key, one_window, one_watch, none_of_managers, none_of_monitors}
 
 -- the boxes with the monitor of a job, and the watch with which it left
@@ -76,13 +77,19 @@ module _ (one one_after other other_after : Core) (alike : AreAlike one other) (
 
   edits_alike : (e : AnEdit) (number : ℕ) → IsDesk one_after → IsDesk other_after → Edits one e number one_after → Edits other e number other_after → HaveSameMonitors one_after.boxes other_after.boxes → AreAlike one_after other_after
   edits_alike e number desk its_desk first second boxes =
-      let spans = edited_spans e one.windows.spans one_after.windows.spans other.windows.spans other_after.windows.spans alike.log alike.managers first.windows.spans second.windows.spans
-      desk.managers its_desk.managers desk.manager_keys its_desk.manager_keys in
+      let logs = edited_log e one.windows.spans one_after.windows.spans other.windows.spans other_after.windows.spans alike.log first.windows.spans second.windows.spans in
       record {
-        log = spans.0;
-        managers = spans.1;
-        monitors = edited_watches e one.windows one_after.windows other.windows other_after.windows (ap (λ (l : LogData). inputs_after l.topo l.edits) alike.log) alike.monitors first.windows second.windows
-            (ap (λ (l : LogData). inputs_after l.topo l.edits) spans.0) desk.monitors its_desk.monitors desk.monitor_keys its_desk.monitor_keys;
+        log = logs;
+        managers = same_entries one_after.windows.spans.board.pieces other_after.windows.spans.board.pieces desk.manager_keys.keys its_desk.manager_keys.keys
+            (λ k. equal_of (piece_at k one_after.windows.spans.board) (piece_at k other_after.windows.spans.board)
+            (edited_spans (λ p q. p ≡ q) refl e one.windows.spans one_after.windows.spans other.windows.spans other_after.windows.spans alike.log
+            (λ k. both_of (piece_at k one.windows.spans.board) (piece_at k other.windows.spans.board) (ap (value_at k) alike.managers)) first.windows.spans second.windows.spans
+            desk.managers its_desk.managers desk.manager_keys its_desk.manager_keys k));
+        monitors = same_entries one_after.windows.board.pieces other_after.windows.board.pieces desk.monitor_keys.keys its_desk.monitor_keys.keys
+            (λ k. equal_of (piece_at k one_after.windows.board) (piece_at k other_after.windows.board)
+            (edited_watches (λ p q. p ≡ q) refl e one.windows one_after.windows other.windows other_after.windows (ap (λ (l : LogData). inputs_after l.topo l.edits) alike.log)
+            (λ k. both_of (piece_at k one.windows.board) (piece_at k other.windows.board) (ap (value_at k) alike.monitors)) first.windows second.windows
+            (ap (λ (l : LogData). inputs_after l.topo l.edits) logs) desk.monitors its_desk.monitors desk.monitor_keys its_desk.monitor_keys k));
         boxes = boxes;
         reports = first.reports ∙ alike.reports ∙ sym second.reports;
         tickets = first.tickets ∙ alike.tickets ∙ sym second.tickets;

@@ -17,3 +17,8 @@ pub mod AlikeBoxes
 pub mod AlikeBoards
 pub mod AlikeSteps
 pub mod BlankLemmas
+mod PlayAlikePieces
+mod PlayAlikeBoards
+mod PlayAlikeJobs
+mod PlayAlikeSteps
+mod PlayAlikePlays

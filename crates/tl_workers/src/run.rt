@@ -1,6 +1,6 @@
 //! The run of a script beside workers.
 
-ghost use Rattle.std.specs.Prelude.{◌≡◌, ◌+◌, ◌<◌, ◌≤◌, ◌^◌, List, ℕ, IfOk, OnOk, OnErr, [], true, is_some};
+ghost use Rattle.std.specs.Prelude.{◌≡◌, ◌+◌, ◌<◌, ◌≤◌, ◌^◌, List, ℕ, IfOk, OnOk, OnErr, [], false, true, is_some};
 ghost use Rattle.tl_script.specs.Scripts.{commands_of};
 ghost use Rattle.tl_run.specs.Boxes.{watches_in};
 ghost use Rattle.tl_run.specs.Output.{start};
@@ -18,7 +18,8 @@ use std::thread::{Threads, join};
 use tl_hall::{Gate, Hall, Helper, Pass};
 use tl_inputs::Log;
 use tl_monitor::Monitor;
-use tl_run::{Boxes, Outcome, Runner, Session, carry_out, run_nothing, run_script};
+use tl_report::Report;
+use tl_run::{Boxes, Outcome, Runner, Session, carry_out, run_nothing};
 use tl_show::Showing;
 use tl_text::{ByteOut, WriteFault};
 use tl_topology::Topo;
@@ -36,15 +37,26 @@ fn log_on(alloc: Global, topo: &Topo) -> Result<Log, AllocError> {
     Log::new(alloc, topo.copy(alloc)?)
 }
 
-/// Ends a hall: each monitor that is still attached is closed with the number of the last edit, and all are dropped.
-fn close<R: Wait, M: Monitor>(rt: &R, hall: Hall<M>, helper: Helper<M>)
+/// A copy of a report, if there is one.
+fn copied(report: Option<&Report>) -> Option<Report> {
+    match report?.copy() {
+        Ok(copy) => Some(copy),
+        Err(_) => None,
+    }
+}
+
+/// Ends a hall: each monitor that is still attached is closed with the number of the last edit, and all are dropped. Answers its
+/// last report.
+fn close<R: Wait, M: Monitor>(rt: &R, hall: Hall<M>, helper: Helper<M>) -> Option<Report>
     requires { helper.hall ≡ hall.hall }
 {
     let desk = hall.close(rt, helper);
+    let last = copied(desk.latest());
     match desk.finish() {
         Ok(ended) => drop(ended),
         Err(left) => drop(left),
     }
+    last
 }
 
 /// A script that is to be carried out, and where its lines go.
@@ -191,13 +203,14 @@ struct Way<'x, G: Gate> {
     log: Option<Log>,
 }
 
-/// Runs a script on a hall of its own, in which workers help.
+/// Runs a script on a hall of its own, in which workers help, and leaves its last report.
 fn run_on_hall<'x, R: Threads + Wait + Sync, M: Monitor + Send, G: Gate + Sync, O: ByteOut>(
     rt: &'x R,
     alloc: Global,
     script: Script<'x, M>,
     way: Way<'x, G>,
     out: &mut O,
+    last: &mut Option<Report>,
 ) -> Result<Outcome, WriteFault>
     requires workers { way.workers ≤ 16 }
     requires out { O.failure_count out.old < 2 ^ 63 }
@@ -226,14 +239,82 @@ fn run_on_hall<'x, R: Threads + Wait + Sync, M: Monitor + Send, G: Gate + Sync, 
     match way.log {
         Some(log) => {
             let told = run_errand(rt, alloc, seats, Showing::new(runner, log), text, out);
-            close(rt, hall, spare);
+            *last = close(rt, hall, spare);
             told
         }
         None => {
             let told = run_errand(rt, alloc, seats, runner, text, out);
-            close(rt, hall, spare);
+            *last = close(rt, hall, spare);
             told
         }
+    }
+}
+
+/// Runs a script without workers, and leaves its last report.
+fn run_alone<M: Monitor, O: ByteOut>(
+    alloc: Global,
+    script: Script<'_, M>,
+    out: &mut O,
+    last: &mut Option<Report>,
+) -> Result<Outcome, WriteFault>
+    requires { O.failure_count out.old < 2 ^ 63 }
+    ensures { IsCarriedOut false (beginning script.entry.topo script.entry.boxes) script.entry.text
+        (O.contents out.old) (O.contents out.new) (O.failure_count out.old) (O.failure_count out.new) result }
+{
+    let Script { topo, text, boxes } = script;
+    let Ok(mut session) = Session::new(alloc, topo, boxes) else {
+        return run_nothing(alloc, out);
+    };
+    let told = carry_out(alloc, &mut session, text, out);
+    *last = copied(session.last());
+    session.finish();
+    told
+}
+
+/// Runs a script whose reports are shown, without workers, and leaves its last report.
+fn show_alone<M: Monitor, O: ByteOut>(
+    alloc: Global,
+    script: Script<'_, M>,
+    log: Log,
+    out: &mut O,
+    last: &mut Option<Report>,
+) -> Result<Outcome, WriteFault>
+    requires { O.failure_count out.old < 2 ^ 63 }
+    ensures { IsCarriedOut true (beginning script.entry.topo script.entry.boxes) script.entry.text
+        (O.contents out.old) (O.contents out.new) (O.failure_count out.old) (O.failure_count out.new) result }
+{
+    let Script { topo, text, boxes } = script;
+    let Ok(session) = Session::new(alloc, topo, boxes) else {
+        return run_nothing(alloc, out);
+    };
+    let mut showing = Showing::new(session, log);
+    let told = carry_out(alloc, &mut showing, text, out);
+    let session = showing.into_runner();
+    *last = copied(session.last());
+    session.finish();
+    told
+}
+
+/// Runs a script in this way, and leaves its last report.
+fn run_way<'x, R: Threads + Wait + Sync, M: Monitor + Send, G: Gate + Sync, O: ByteOut>(
+    rt: &'x R,
+    alloc: Global,
+    script: Script<'x, M>,
+    way: Way<'x, G>,
+    out: &mut O,
+    last: &mut Option<Report>,
+) -> Result<Outcome, WriteFault>
+    requires workers { way.workers ≤ 16 }
+    requires out { O.failure_count out.old < 2 ^ 63 }
+    ensures { IsCarriedOut (is_some way.entry.log) (beginning script.entry.topo script.entry.boxes) script.entry.text
+        (O.contents out.old) (O.contents out.new) (O.failure_count out.old) (O.failure_count out.new) result }
+{
+    if way.workers > 0 {
+        return run_on_hall(rt, alloc, script, way, out, last);
+    }
+    match way.log {
+        Some(log) => show_alone(alloc, script, log, out, last),
+        None => run_alone(alloc, script, out, last),
     }
 }
 
@@ -254,12 +335,16 @@ pub fn run_gated<'x, R: Threads + Wait + Sync, M: Monitor + Send, G: Gate + Sync
     ensures failed { OnErr result ((O.failure_count out.new ≡ O.failure_count out.old + 1)
         × IsCut script.entry.topo (commands_of script.entry.text) script.entry.boxes (O.contents out.old) (O.contents out.new)) }
 {
-    if workers == 0 {
-        let Script { topo, text, boxes } = script;
-        return run_script(alloc, topo, text, boxes, out);
-    }
     let log = None;
-    run_on_hall(rt, alloc, script, Way { workers, gate, log }, out)
+    let mut last = None;
+    run_way(
+        rt,
+        alloc,
+        script,
+        Way { workers, gate, log },
+        out,
+        &mut last,
+    )
 }
 
 /// A gate that lets everything through.
@@ -276,14 +361,15 @@ impl Gate for NoGate {
 }
 
 /// Runs a script as `run_script` does, and writes the same lines, while so many workers, 0 to 16, read fragments ahead of their
-/// commands and check windows in threads of their own. With 0 workers it is `run_script`. A worker whose thread can't be started is
-/// left out. It waits for other threads.
+/// commands and check windows in threads of their own. With 0 workers it does what `run_script` does. A worker whose thread can't be
+/// started is left out. It waits for other threads. Leaves the last report, if there is one.
 pub fn run_with<R: Threads + Wait + Sync, M: Monitor + Send, O: ByteOut>(
     rt: &R,
     alloc: Global,
     script: Script<'_, M>,
     out: &mut O,
     workers: u8,
+    last: &mut Option<Report>,
 ) -> Result<Outcome, WriteFault>
     requires workers { workers ≤ 16 }
     requires out { O.failure_count out.old < 2 ^ 63 }
@@ -292,38 +378,23 @@ pub fn run_with<R: Threads + Wait + Sync, M: Monitor + Send, O: ByteOut>(
     ensures failed { OnErr result ((O.failure_count out.new ≡ O.failure_count out.old + 1)
         × IsCut script.entry.topo (commands_of script.entry.text) script.entry.boxes (O.contents out.old) (O.contents out.new)) }
 {
-    run_gated(rt, alloc, script, out, workers, &NoGate)
-}
-
-/// Runs a script whose reports are shown, without workers.
-fn show_alone<M: Monitor, O: ByteOut>(
-    alloc: Global,
-    script: Script<'_, M>,
-    log: Log,
-    out: &mut O,
-) -> Result<Outcome, WriteFault>
-    requires { O.failure_count out.old < 2 ^ 63 }
-    ensures { IsCarriedOut true (beginning script.entry.topo script.entry.boxes) script.entry.text
-        (O.contents out.old) (O.contents out.new) (O.failure_count out.old) (O.failure_count out.new) result }
-{
-    let Script { topo, text, boxes } = script;
-    let Ok(session) = Session::new(alloc, topo, boxes) else {
-        return run_nothing(alloc, out);
+    let way = Way {
+        workers,
+        gate: &NoGate,
+        log: None,
     };
-    let mut showing = Showing::new(session, log);
-    let told = carry_out(alloc, &mut showing, text, out);
-    showing.into_runner().finish();
-    told
+    run_way(rt, alloc, script, way, out, last)
 }
 
 /// Runs a script as `run_with` does, and shows its reports: it writes the same lines, and notes between them, which begin with two
-/// spaces. WriteFault where a write fails; a front of that was then written.
+/// spaces. Leaves the last report, if there is one. WriteFault where a write fails; a front of that was then written.
 pub fn show_with<R: Threads + Wait + Sync, M: Monitor + Send, O: ByteOut>(
     rt: &R,
     alloc: Global,
     script: Script<'_, M>,
     out: &mut O,
     workers: u8,
+    last: &mut Option<Report>,
 ) -> Result<Outcome, WriteFault>
     requires workers { workers ≤ 16 }
     requires out { O.failure_count out.old < 2 ^ 63 }
@@ -335,13 +406,10 @@ pub fn show_with<R: Threads + Wait + Sync, M: Monitor + Send, O: ByteOut>(
     let Ok(log) = log_on(alloc, script.topo) else {
         return run_nothing(alloc, out);
     };
-    if workers == 0 {
-        return show_alone(alloc, script, log, out);
-    }
     let way = Way {
         workers,
         gate: &NoGate,
         log: Some(log),
     };
-    run_on_hall(rt, alloc, script, way, out)
+    run_way(rt, alloc, script, way, out, last)
 }

@@ -69,7 +69,7 @@ impl Place {
 }
 
 /// Reads the next fragment of an input and writes what comes of it.
-fn step<I: ByteIn, O: ByteOut>(
+fn take_step<I: ByteIn, O: ByteOut>(
     alloc: Global,
     place: &mut Place,
     input: &mut I,
@@ -97,15 +97,15 @@ fn step<I: ByteIn, O: ByteOut>(
 
 /// One of several inputs.
 #[derive(Drop)]
-struct Source {
-    input: CountedReader<fs::File>,
+struct Source<I: ByteIn> {
+    input: I,
     place: Place,
     /// The last cycle of its newest fragment.
     last: Option<u64>,
     has_ended: bool,
 }
 
-impl Source {
+impl<I: ByteIn> Source<I> {
     /// Whether it is to be read before another, of which this is the last cycle: it has not come so far.
     fn is_behind(&self, last: Option<u64>) -> bool {
         !self.has_ended && self.last < last
@@ -113,7 +113,7 @@ impl Source {
 }
 
 /// The number of the input that is read next: of those that have not ended the first whose newest fragment ends earliest.
-fn next_of(sources: &[Source]) -> Option<usize> {
+fn next_of<I: ByteIn>(sources: &[Source<I>]) -> Option<usize> {
     let mut found: Option<usize> = None;
     for index in 0..sources.len() {
         let source = &sources[index];
@@ -129,7 +129,10 @@ fn next_of(sources: &[Source]) -> Option<usize> {
 }
 
 /// The files as inputs, which are opened before the first is read.
-fn sources_of<R: Files + AllocGlobal>(rt: &R, paths: &[&str]) -> Result<Vec<Source>, Fault> {
+fn sources_of<R: Files + AllocGlobal>(
+    rt: &R,
+    paths: &[&str],
+) -> Result<Vec<Source<CountedReader<R::File>>>, Fault> {
     let mut sources = Vec::new(rt.alloc());
     for path in paths {
         let Ok(file) = fs::open(rt, *path) else {
@@ -157,7 +160,7 @@ fn stream_input<I: ByteIn, O: ByteOut>(
 {
     let mut place = Place::new(alloc);
     for _ in 0..u64::MAX {
-        match step(alloc, &mut place, input, teller, out)? {
+        match take_step(alloc, &mut place, input, teller, out)? {
             Step::Took(_) => {}
             Step::Ended => return Ok(None),
             Step::Stopped(stop) => return Ok(Some(stop)),
@@ -167,10 +170,10 @@ fn stream_input<I: ByteIn, O: ByteOut>(
 }
 
 /// Streams several inputs, up to the ends of all or to the first fault of a text.
-fn stream_sources<O: ByteOut>(
+fn stream_sources<I: ByteIn, O: ByteOut>(
     alloc: Global,
     teller: &mut Teller,
-    sources: &mut [Source],
+    sources: &mut [Source<I>],
     out: &mut O,
 ) -> Result<Option<Stop>, Fault>
     requires { O.failure_count out.old < 2 ^ 63 }
@@ -180,7 +183,7 @@ fn stream_sources<O: ByteOut>(
         let Some(source) = next_of(sources).and_then(|index| sources.get_mut(index)) else {
             return Ok(None);
         };
-        match step(alloc, &mut source.place, &mut source.input, teller, out)? {
+        match take_step(alloc, &mut source.place, &mut source.input, teller, out)? {
             Step::Took(last) => source.last = Some(last),
             Step::Ended => source.has_ended = true,
             Step::Stopped(stop) => return Ok(Some(stop)),

@@ -209,11 +209,14 @@ fn inputs<'a>(alloc: Global) -> Arg<'a> {
     Arg::new(alloc, "FILE")
         .action(ArgAction::Append)
         .num_args(0..)
-        .help("Path of fragment texts one after another, of any length; standard input without one, or as -")
+        .help(
+            "Path of fragment texts one after another, of any length; standard input without one, or as -",
+        )
 }
 
 fn stream<'a>(alloc: Global) -> Draft<'a> {
-    let about = "Checks fragments as they come and writes each row once it is certain, without an end";
+    let about =
+        "Checks fragments as they come and writes each row once it is certain, without an end";
     described(alloc, "stream", about, STREAM_EXAMPLE)
         .arg(topology(alloc))
         .arg(inputs(alloc))

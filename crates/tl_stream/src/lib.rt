@@ -5,11 +5,13 @@ mod course;
 mod fault;
 mod feed;
 mod front;
+mod inputs;
 pub mod laws;
 mod stream;
 mod teller;
 
 pub use fault::StreamFault;
 pub use feed::Feed;
+pub use inputs::{Source, StreamStop, stream_end, stream_input, stream_sources};
 pub use stream::Stream;
 pub use teller::{StreamCount, TellFault, Teller};

@@ -24,6 +24,16 @@ pub struct StreamCount {
     pub rows: u64,
 }
 
+impl StreamCount {
+    /// The last line of a stream.
+    pub(crate) fn text(&self, alloc: Global) -> Result<String, AllocError> {
+        let fragments = self.fragments;
+        let beats = self.beats;
+        let rows = self.rows;
+        format!(in alloc; "stream fragments {fragments} beats {beats} rows {rows}\n")
+    }
+}
+
 /// Why a stream can't go on.
 #[derive(Clone, Copy, Debug, PartialEq, Eq, Error)]
 pub enum TellFault {

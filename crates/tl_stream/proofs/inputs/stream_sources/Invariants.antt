@@ -1,5 +1,5 @@
 use Rattle.std.proofs.Common.{◌≡◌}
-use Rattle.tl_cli.proofs.streams.stream_sources.Given as goal
+use Rattle.tl_stream.proofs.inputs.stream_sources.Given as goal
 
 abbrev pub invariant-loop : goal.invariant-loop
 invariant-loop g l = g.O.ByteOut.failure_count l.out ≡ g.O.ByteOut.failure_count l.fn.out

@@ -3,25 +3,19 @@
 ghost use Rattle.std.specs.Prelude.{◌≡◌, ◌<◌, ◌≤◌, ◌^◌};
 ghost use Rattle.tl_cli.specs.Status.{status_of};
 
-use crate::denial::Denial;
-use crate::explain::titles;
-use crate::fault::Fault;
-use crate::picking::Written;
-use crate::reports::{Ending, Past, audit_of_files, once_of_files, report_of};
 use crate::screen::Screen;
 use crate::scripts::{run_of_files, run_of_input};
-use crate::streams::stream_of_files;
-use crate::telling::{
-    Suspect, input_sentence, input_sentences, once_sentence, run_sentences, script_sentence,
-};
-use crate::words::{Command, not_utf8, read_words};
-use clap::error::ErrorKind;
 use std::alloc::Global;
 use std::io;
 use std::rt::Files;
 use std::sync::Wait;
 use std::thread::Threads;
 use tl_advice::{Look, More};
+use tl_commands::{
+    Denial, Ending, Fault, Past, Suspect, Written, audit_of_files, input_sentence, input_sentences,
+    once_of_files, once_sentence, report_of, run_sentences, script_sentence, stream_of_files,
+};
+use tl_options::{Command, Told, not_utf8, read_words, titles};
 use tl_run::Outcome;
 use tl_text::{ByteIn, ByteOut, read_text, write_all};
 
@@ -231,15 +225,6 @@ fn tell_picked<R: Files + AllocGlobal, E: ByteOut>(
     }
 }
 
-/// Tells in a sentence what can't be had; that this can't be written changes nothing.
-fn tell_objection<E: ByteOut>(err: &mut E, text: &str) -> u8
-    requires { E.failure_count err.old < 2 ^ 63 }
-    ensures { result ≡ 2 }
-{
-    let _ = write_all(err, text.as_bytes());
-    FAULT
-}
-
 /// The fault of a command's files in a sentence; None where it is of none of them.
 fn file_sentence<R: Files + AllocGlobal>(
     rt: &R,
@@ -334,38 +319,25 @@ fn tell_entry<O: ByteOut, E: ByteOut>(
     }
 }
 
-/// Writes clap's own text of words that it refuses.
-fn tell_refusal<E: ByteOut>(alloc: Global, err: &mut E, error: &clap::Error) -> u8
+/// Tells why words are refused; that this can't be written changes nothing.
+fn tell_refusal<E: ByteOut>(err: &mut E, text: &str) -> u8
     requires { E.failure_count err.old < 2 ^ 63 }
     ensures { result ≡ 2 }
 {
-    let Ok(text) = format!(in alloc; "{error}") else {
-        return tell(alloc, err, Fault::MEMORY);
-    };
     let _ = write_all(err, text.as_bytes());
     FAULT
 }
 
-/// Writes clap's own text: help to the one, what it refuses to the other. Want of memory is told as any other.
-fn tell_words<O: ByteOut, E: ByteOut>(
-    alloc: Global,
-    out: &mut O,
-    err: &mut E,
-    error: &clap::Error,
-) -> u8
+/// Tells what there is to tell of words that name no command: what they ask for to the one, why they are refused to the other.
+fn tell_words<O: ByteOut, E: ByteOut>(alloc: Global, out: &mut O, err: &mut E, told: Told) -> u8
     requires out { O.failure_count out.old < 2 ^ 63 }
     requires err { E.failure_count err.old < 2 ^ 63 }
     ensures { result ≤ 2 }
 {
-    if matches!(error.kind(), ErrorKind::OutOfMemory) {
-        return tell(alloc, err, Fault::MEMORY);
-    }
-    if error.use_stderr() {
-        return tell_refusal(alloc, err, error);
-    }
-    match format!(in alloc; "{error}") {
-        Ok(text) => tell_text(alloc, out, err, text.as_str()),
-        Err(_) => tell(alloc, err, Fault::MEMORY),
+    match told {
+        Told::Memory => tell(alloc, err, Fault::MEMORY),
+        Told::Asked(text) => tell_text(alloc, out, err, text.as_str()),
+        Told::Refused(text) => tell_refusal(err, text.as_str()),
     }
 }
 
@@ -378,8 +350,8 @@ pub fn refuse_words<E: ByteOut>(alloc: Global, err: &mut E, error: &io::Error) -
         return tell(alloc, err, Fault::MEMORY);
     }
     match not_utf8(alloc) {
-        Ok(refusal) => tell_refusal(alloc, err, &refusal),
-        Err(_) => tell(alloc, err, Fault::MEMORY),
+        Told::Refused(text) | Told::Asked(text) => tell_refusal(err, text.as_str()),
+        Told::Memory => tell(alloc, err, Fault::MEMORY),
     }
 }
 
@@ -456,7 +428,7 @@ fn tell_ending<R: Files + AllocGlobal, E: ByteOut>(
             tell_summary(err, Some(&summary));
             status
         }
-        Ok(Ending::Objected(text)) => tell_objection(err, text.as_str()),
+        Ok(Ending::Objected(text)) => tell_refusal(err, text.as_str()),
         Ok(Ending::Stopped) => FAULT,
         Err(fault) => tell_fault(rt, err, fault, command, screen),
     }
@@ -536,6 +508,6 @@ pub fn run_words_at<
 {
     match read_words(rt.alloc(), words) {
         Ok(command) => do_command(rt, &command, input, out, err, screen),
-        Err(error) => tell_words(rt.alloc(), out, err, &error),
+        Err(told) => tell_words(rt.alloc(), out, err, told),
     }
 }

@@ -1,7 +1,7 @@
 //! What standard error is.
 
-use crate::words::{Command, How};
 use tl_advice::Look;
+use tl_options::{Command, How};
 
 /// What standard error is.
 #[derive(Clone, Copy, Debug, PartialEq, Eq)]

@@ -2,19 +2,18 @@
 
 ghost use Rattle.std.specs.Prelude.{◌≡◌, ◌<◌, ◌≤◌, ◌^◌, OnOk};
 
-use crate::denial::edits_in;
-use crate::fault::Fault;
-use crate::files::{script_of, topology_of};
 use crate::monitors::{Attached, attached_in, settlement_lines};
-use crate::reports::{Ending, ending_of};
-use crate::words::How;
 use std::alloc::Global;
 use std::rt::Files;
 use std::sync::{Arc, Wait};
 use std::thread::Threads;
 use tl_advice::run_summary;
 use tl_beats::Watch;
+use tl_commands::{
+    Ending, Fault, denial_of_run, edits_in, ending_of, script_of, topology_of,
+};
 use tl_monitor::{After, Budget, Monitor};
+use tl_options::How;
 use tl_report::Report;
 use tl_run::Outcome;
 use tl_text::{ByteOut, WriteFault, write_all};
@@ -161,7 +160,7 @@ fn ending_told(
     if outcome.stop.is_some() {
         return Ok(Ending::Came(outcome));
     }
-    let denial = how.deny.of_run(alloc, run.topo, run.text)?;
+    let denial = denial_of_run(how.deny, alloc, run.topo, run.text)?;
     match summary_of(alloc, run, how, last) {
         Some(summary) => Ok(Ending::Summed(outcome, denial, summary)),
         None => Ok(ending_of(outcome, denial)),

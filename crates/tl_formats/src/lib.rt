@@ -9,4 +9,4 @@ mod output;
 
 pub use json::json_text;
 pub use junit::junit_text;
-pub use output::{Format, Printed, Title, print_rows};
+pub use output::{Printed, Title, print_rows};

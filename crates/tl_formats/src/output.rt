@@ -10,24 +10,11 @@ use crate::junit::junit_text;
 use std::alloc::{AllocError, Global};
 use tl_beats::Row;
 use tl_inputs::Inputs;
-use tl_pick::Pick;
+use tl_pick::{Format, Pick};
 use tl_report::{Report, audit_text, report_text};
 use tl_show::{shown_audit, shown_report};
 use tl_topology::Topo;
 use tl_windows::Present;
-
-/// How rows are written.
-#[derive(Clone, Copy, Debug, PartialEq, Eq)]
-pub enum Format {
-    /// As text, a line for each row.
-    Text,
-    /// As text, each row with its lines.
-    Shown,
-    /// As JSON, a line for each row.
-    Json,
-    /// As a JUnit report.
-    Junit,
-}
 
 /// The first line of a text of rows.
 #[derive(Clone, Copy, Debug, PartialEq, Eq)]

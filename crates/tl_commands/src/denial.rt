@@ -6,6 +6,7 @@ use std::fmt;
 use std::sync::Arc;
 use tl_beats::Fragment;
 use tl_inputs::Inputs;
+use tl_options::Deny;
 use tl_run::{AuditFault, log_of};
 use tl_script::{Command, Spot, Visitor, visit_all};
 use tl_topology::Topo;
@@ -13,18 +14,9 @@ use tl_topology::Topo;
 /// The most reports of a script; a further one is refused.
 const MOST_REPORTS: u64 = 65_536;
 
-/// What is denied.
-#[derive(Clone, Copy)]
-pub(crate) struct Deny {
-    /// That an edit or a report is refused.
-    pub(crate) refused: bool,
-    /// That no beat is checked.
-    pub(crate) empty: bool,
-}
-
 /// Why a run is denied.
 #[derive(Clone, Copy)]
-pub(crate) enum Denial {
+pub enum Denial {
     /// An edit or a report was refused.
     Refused,
     /// No beat was checked.
@@ -66,7 +58,7 @@ impl<'s> Visitor<'s> for Asked {
 }
 
 /// How many edits the commands of a script ask for, up to its end or its first bad command.
-pub(crate) fn edits_in(script: &[u8]) -> u64 {
+pub fn edits_in(script: &[u8]) -> u64 {
     asked_in(script).edits
 }
 
@@ -122,52 +114,51 @@ fn has_no_beat(
     is_beatless(alloc, &inputs)
 }
 
-impl Deny {
-    /// Why a report of these fragments is denied. None of them was refused.
-    pub(crate) fn of_fragments(self, fragments: &[Arc<Fragment>]) -> Option<Denial> {
-        let is_empty = fragments.iter().all(|fragment| fragment.beats().is_empty());
-        if self.empty && is_empty {
-            Some(Denial::Empty)
-        } else {
-            None
-        }
+/// Why a report of these fragments is denied. None of them was refused.
+pub(crate) fn denial_of_fragments(deny: Deny, fragments: &[Arc<Fragment>]) -> Option<Denial> {
+    let is_empty = fragments.iter().all(|fragment| fragment.beats().is_empty());
+    if deny.empty && is_empty {
+        Some(Denial::Empty)
+    } else {
+        None
     }
+}
 
-    /// Why a run of a script that doesn't stop is denied: an edit or a report was refused, or its last report saw no beat.
-    pub(crate) fn of_run(
-        self,
-        alloc: Global,
-        topo: &Topo,
-        script: &[u8],
-    ) -> Result<Option<Denial>, AuditFault> {
-        let asked = asked_in(script);
-        if self.refused
-            && (asked.reports > MOST_REPORTS || is_edit_refused(alloc, topo, script, asked)?)
-        {
-            return Ok(Some(Denial::Refused));
-        }
-        let checked = script.len().saturating_sub(asked.unchecked);
-        let checked = script.get(..checked).unwrap_or(script);
-        if self.empty && has_no_beat(alloc, topo, checked, None)? {
-            return Ok(Some(Denial::Empty));
-        }
-        Ok(None)
+/// Why a run of a script that doesn't stop is denied: an edit or a report was refused, or its last report saw no beat. Memory where
+/// memory is refused.
+pub fn denial_of_run(
+    deny: Deny,
+    alloc: Global,
+    topo: &Topo,
+    script: &[u8],
+) -> Result<Option<Denial>, AuditFault> {
+    let asked = asked_in(script);
+    if deny.refused
+        && (asked.reports > MOST_REPORTS || is_edit_refused(alloc, topo, script, asked)?)
+    {
+        return Ok(Some(Denial::Refused));
     }
+    let checked = script.len().saturating_sub(asked.unchecked);
+    let checked = script.get(..checked).unwrap_or(script);
+    if deny.empty && has_no_beat(alloc, topo, checked, None)? {
+        return Ok(Some(Denial::Empty));
+    }
+    Ok(None)
+}
 
-    /// Why an audit of a script that doesn't stop is denied: an edit of the script was refused, or what is audited has no beat.
-    pub(crate) fn of_audit(
-        self,
-        alloc: Global,
-        topo: &Topo,
-        script: &[u8],
-        edit: u64,
-    ) -> Result<Option<Denial>, AuditFault> {
-        if self.refused && is_edit_refused(alloc, topo, script, asked_in(script))? {
-            return Ok(Some(Denial::Refused));
-        }
-        if self.empty && has_no_beat(alloc, topo, script, Some(edit))? {
-            return Ok(Some(Denial::Empty));
-        }
-        Ok(None)
+/// Why an audit of a script that doesn't stop is denied: an edit of the script was refused, or what is audited has no beat.
+pub(crate) fn denial_of_audit(
+    deny: Deny,
+    alloc: Global,
+    topo: &Topo,
+    script: &[u8],
+    edit: u64,
+) -> Result<Option<Denial>, AuditFault> {
+    if deny.refused && is_edit_refused(alloc, topo, script, asked_in(script))? {
+        return Ok(Some(Denial::Refused));
     }
+    if deny.empty && has_no_beat(alloc, topo, script, Some(edit))? {
+        return Ok(Some(Denial::Empty));
+    }
+    Ok(None)
 }

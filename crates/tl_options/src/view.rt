@@ -5,28 +5,27 @@ use clap::builder::ValueParser;
 use clap::error::ErrorKind;
 use clap::{Arg, ArgAction, ArgMatches, Error};
 use std::alloc::Global;
-use tl_formats::Format;
-use tl_pick::{Cycles, rule_named};
+use tl_pick::{Cycles, Format, rule_named};
 use tl_tables::Rule;
 
 /// Which rows are to be written, and how.
 #[derive(Drop)]
-pub(crate) struct View<'a> {
+pub struct View<'a> {
     /// The format.
-    pub(crate) format: Format,
+    pub format: Format,
     /// The rules; none are all.
-    pub(crate) rules: Vec<Rule>,
+    pub rules: Vec<Rule>,
     /// The names of the links; none are all.
-    pub(crate) links: Vec<&'a str>,
+    pub links: Vec<&'a str>,
     /// The cycles.
-    pub(crate) cycles: Cycles,
+    pub cycles: Cycles,
     /// The path of a text of waivers.
-    pub(crate) waive: Option<&'a str>,
+    pub waive: Option<&'a str>,
 }
 
 impl View<'_> {
     /// Whether all rows are to be written, as text.
-    pub(crate) fn is_whole(&self) -> bool {
+    pub fn is_whole(&self) -> bool {
         matches!(self.format, Format::Text | Format::Shown)
             && self.rules.is_empty()
             && self.links.is_empty()

@@ -27,7 +27,7 @@ fn sources_of<R: Files + AllocGlobal>(
 }
 
 /// Streams the fragments of files, or of standard input where none is named or `-`.
-pub(crate) fn stream_of_files<R: Files + AllocGlobal, I: ByteIn, O: ByteOut>(
+pub fn stream_of_files<R: Files + AllocGlobal, I: ByteIn, O: ByteOut>(
     rt: &R,
     topology: &str,
     paths: &[&str],

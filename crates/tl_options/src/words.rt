@@ -1,29 +1,38 @@
 //! The words of the command line.
 
-use crate::denial::Deny;
 use crate::explain::entry_of;
 use crate::usage::{Draft, flag, setting, word};
 use crate::view::{View, refusal, view_asked, with_view};
 use clap::builder::ValueParser;
+use clap::error::ErrorKind;
 use clap::{Arg, ArgAction, ArgMatches, Error};
 use std::alloc::{AllocError, Global};
 
+/// What `--deny` makes a fault.
+#[derive(Clone, Copy)]
+pub struct Deny {
+    /// That an edit or a report is refused.
+    pub refused: bool,
+    /// That no beat is checked.
+    pub empty: bool,
+}
+
 /// How a command is to be done.
 #[derive(Clone, Copy)]
-pub(crate) struct How {
+pub struct How {
     /// Whether rows are shown.
-    pub(crate) show: bool,
+    pub show: bool,
     /// Whether faults are told in sentences.
-    pub(crate) explain_faults: bool,
+    pub explain_faults: bool,
     /// What is a fault besides.
-    pub(crate) deny: Deny,
+    pub deny: Deny,
     /// Whether what was checked and found is told at the end.
-    pub(crate) summary: bool,
+    pub summary: bool,
 }
 
 /// What the words ask for.
 #[derive(Drop)]
-pub(crate) enum Command<'a> {
+pub enum Command<'a> {
     /// No words: a topology and a script on standard input.
     Input,
     /// The report of fragments, from files.
@@ -61,7 +70,7 @@ pub(crate) enum Command<'a> {
 
 impl Command<'_> {
     /// How it is to be done; None where its words say nothing of that.
-    pub(crate) fn how(&self) -> Option<How> {
+    pub fn how(&self) -> Option<How> {
         match self {
             Command::Once { how, .. } | Command::Run { how, .. } | Command::Audit { how, .. } => {
                 Some(*how)
@@ -428,17 +437,57 @@ fn command_of<'a>(
     command_found(alloc, program, &matches)
 }
 
-/// The command that the words name; the first word is the program's own.
-pub(crate) fn read_words<'a>(alloc: Global, words: &'a [String]) -> Result<Command<'a>, Error> {
-    if words.len() <= 1 {
-        return Ok(Command::Input);
+/// What there is to tell where words name no command.
+#[derive(Drop)]
+pub enum Told {
+    /// Memory is refused.
+    Memory,
+    /// Help or the version, which the words ask for.
+    Asked(String),
+    /// Why the words are refused.
+    Refused(String),
+}
+
+/// What clap tells.
+fn told(alloc: Global, error: &Error) -> Told {
+    if matches!(error.kind(), ErrorKind::OutOfMemory) {
+        return Told::Memory;
     }
+    match format!(in alloc; "{error}") {
+        Ok(text) if error.use_stderr() => Told::Refused(text),
+        Ok(text) => Told::Asked(text),
+        Err(_) => Told::Memory,
+    }
+}
+
+/// The command that the words name, or what clap tells.
+fn command_in<'a>(alloc: Global, words: &'a [String]) -> Result<Command<'a>, Error> {
     let mut program = program(alloc)?;
     command_of(alloc, &mut program, words)
 }
 
-/// What is told of words of which one is no UTF-8 text.
-pub(crate) fn not_utf8(alloc: Global) -> Result<Error, Error> {
+/// The command that the words name, the first of which is the program's own; or what there is to tell: help and the version where they
+/// are asked for, why words are refused, or want of memory.
+pub fn read_words<'a>(alloc: Global, words: &'a [String]) -> Result<Command<'a>, Told> {
+    if words.len() <= 1 {
+        return Ok(Command::Input);
+    }
+    match command_in(alloc, words) {
+        Ok(command) => Ok(command),
+        Err(error) => Err(told(alloc, &error)),
+    }
+}
+
+/// What clap tells of words of which one is no UTF-8 text.
+fn refused_text(alloc: Global) -> Result<Error, Error> {
     let mut program = program(alloc)?;
     refusal(&mut program, "a word is no UTF-8 text")
+}
+
+/// What there is to tell of words of which one is no UTF-8 text.
+pub fn not_utf8(alloc: Global) -> Told {
+    match refused_text(alloc) {
+        Ok(error) => told(alloc, &error),
+        Err(_) => Told::Memory,
+    }
 }

@@ -15,22 +15,22 @@ use tl_run::log_of;
 use tl_topology::{Topo, TopoFault, read_topo};
 
 /// The most refused commands of a script that are told.
-pub(crate) const MOST_TOLD: u64 = 20;
+const MOST_TOLD: u64 = 20;
 
 /// A file that the words name, with the fault that is told.
 #[derive(Clone, Copy)]
-pub(crate) struct Suspect<'a> {
+pub struct Suspect<'a> {
     /// The file, as the words name it.
-    pub(crate) path: &'a str,
+    pub path: &'a str,
     /// The fault.
-    pub(crate) fault: Fault,
+    pub fault: Fault,
     /// How the first line of its sentence looks.
-    pub(crate) look: Look,
+    pub look: Look,
 }
 
 impl<'a> Suspect<'a> {
     /// The file at this path.
-    pub(crate) fn new(path: &'a str, fault: Fault, look: Look) -> Suspect<'a> {
+    pub fn new(path: &'a str, fault: Fault, look: Look) -> Suspect<'a> {
         Suspect { path, fault, look }
     }
 
@@ -265,7 +265,7 @@ fn fragments_again<R: Files + AllocGlobal>(
 }
 
 /// The sentence of a fault of `once`, whose files are read again: that of the first that it is of. None where it is of none.
-pub(crate) fn once_sentence<R: Files + AllocGlobal>(
+pub fn once_sentence<R: Files + AllocGlobal>(
     rt: &R,
     topology: Suspect<'_>,
     fragments: &[&str],
@@ -341,7 +341,7 @@ fn script_again<R: Files + AllocGlobal>(
 }
 
 /// The sentence of a fault of `run` or of `audit`, whose files are read again. None where it is of none of them.
-pub(crate) fn script_sentence<R: Files + AllocGlobal>(
+pub fn script_sentence<R: Files + AllocGlobal>(
     rt: &R,
     topology: Suspect<'_>,
     script: &str,
@@ -382,7 +382,7 @@ fn refusals_after<R: Files + AllocGlobal>(
 }
 
 /// What the run of a file's script refused and where it stopped, in sentences; the files are read again. None where they can't be.
-pub(crate) fn run_sentences<R: Files + AllocGlobal>(
+pub fn run_sentences<R: Files + AllocGlobal>(
     rt: &R,
     topology: &str,
     script: &str,
@@ -404,7 +404,7 @@ pub(crate) fn run_sentences<R: Files + AllocGlobal>(
 const INPUT: &str = "standard input";
 
 /// The sentence of a fault of standard input, which has a topology in front. None where it is none of the topology's.
-pub(crate) fn input_sentence(
+pub fn input_sentence(
     alloc: Global,
     text: &[u8],
     fault: Fault,
@@ -419,7 +419,7 @@ pub(crate) fn input_sentence(
 }
 
 /// What the run of the script on standard input refused and where it stopped, in sentences.
-pub(crate) fn input_sentences(
+pub fn input_sentences(
     alloc: Global,
     text: &[u8],
     look: Look,

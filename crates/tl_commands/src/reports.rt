@@ -2,16 +2,15 @@
 
 ghost use Rattle.std.specs.Prelude.{◌<◌, ◌^◌};
 
-use crate::denial::Denial;
+use crate::denial::{Denial, denial_of_audit, denial_of_fragments};
 use crate::fault::Fault;
 use crate::files::{fragments_of, script_of, topology_of};
 use crate::picking::{Trouble, Written, order_of, write_audit, write_once};
-use crate::view::View;
-use crate::words::How;
 use std::rt::Files;
 use std::sync::Arc;
 use tl_beats::Fragment;
-use tl_formats::Format;
+use tl_options::{How, View};
+use tl_pick::Format;
 use tl_report::{run_once, run_once_as};
 use tl_run::{Outcome, audit_script, audit_script_as};
 use tl_show::Shown;
@@ -19,7 +18,7 @@ use tl_text::ByteOut;
 use tl_topology::Topo;
 
 /// What one report with so many rows comes to.
-pub(crate) fn report_of(rows: u64) -> Outcome {
+pub fn report_of(rows: u64) -> Outcome {
     Outcome {
         last_rows: rows,
         stop: None,
@@ -28,7 +27,7 @@ pub(crate) fn report_of(rows: u64) -> Outcome {
 
 /// How a command ends that has no fault.
 #[derive(Drop)]
-pub(crate) enum Ending {
+pub enum Ending {
     /// As its run came out.
     Came(Outcome),
     /// It is denied.
@@ -66,7 +65,7 @@ fn ending_without(trouble: Trouble) -> Result<Ending, Fault> {
 }
 
 /// How a run ends that came to this, and that is denied or not.
-pub(crate) fn ending_of(outcome: Outcome, denial: Option<Denial>) -> Ending {
+pub fn ending_of(outcome: Outcome, denial: Option<Denial>) -> Ending {
     match denial {
         Some(denial) => Ending::Denied(denial),
         None => Ending::Came(outcome),
@@ -128,7 +127,7 @@ fn once_denied<R: Files + AllocGlobal, O: ByteOut>(
     requires { O.failure_count out.old < 2 ^ 63 }
 {
     let ending = once_of(rt, topo, fragments, how, view, out)?;
-    Ok(ending.denied_by(how.deny.of_fragments(fragments)))
+    Ok(ending.denied_by(denial_of_fragments(how.deny, fragments)))
 }
 
 /// The report of files' fragments on a topology.
@@ -146,8 +145,9 @@ fn once_on<R: Files + AllocGlobal, O: ByteOut>(
     once_denied(rt, topo, &fragments, how, view, out)
 }
 
-/// The report of files' fragments on a file's topology.
-pub(crate) fn once_of_files<R: Files + AllocGlobal, O: ByteOut>(
+/// Writes the report of files' fragments on a file's topology. The fault of the first file that has one, that of the first fragment
+/// that is refused after those before it, want of memory, or a write that fails.
+pub fn once_of_files<R: Files + AllocGlobal, O: ByteOut>(
     rt: &R,
     topology: &str,
     fragments: &[&str],
@@ -163,13 +163,13 @@ pub(crate) fn once_of_files<R: Files + AllocGlobal, O: ByteOut>(
 
 /// The edits that an audit looks at.
 #[derive(Clone, Copy)]
-pub(crate) struct Past<'a> {
+pub struct Past<'a> {
     /// The path of the topology.
-    pub(crate) topology: &'a str,
+    pub topology: &'a str,
     /// The path of the script.
-    pub(crate) script: &'a str,
+    pub script: &'a str,
     /// How many of its accepted edits.
-    pub(crate) edit: u64,
+    pub edit: u64,
 }
 
 /// An audit of a script on a topology.
@@ -232,9 +232,7 @@ fn audit_denied<R: Files + AllocGlobal, O: ByteOut>(
     requires { O.failure_count out.old < 2 ^ 63 }
 {
     let ending = audit_of(rt, audit, how, view, out)?;
-    let denial = how
-        .deny
-        .of_audit(rt.alloc(), audit.topo, audit.script, audit.edit)?;
+    let denial = denial_of_audit(how.deny, rt.alloc(), audit.topo, audit.script, audit.edit)?;
     Ok(ending.denied_by(denial))
 }
 
@@ -258,8 +256,9 @@ fn audit_on<R: Files + AllocGlobal, O: ByteOut>(
     audit_denied(rt, audit, how, view, out)
 }
 
-/// What checking everything anew finds after so many accepted edits of a file's script, on a file's topology.
-pub(crate) fn audit_of_files<R: Files + AllocGlobal, O: ByteOut>(
+/// Writes what checking everything anew finds after so many accepted edits of a file's script, on a file's topology. The fault of the
+/// topology or of the script, want of memory, or a write that fails.
+pub fn audit_of_files<R: Files + AllocGlobal, O: ByteOut>(
     rt: &R,
     past: Past<'_>,
     how: How,

@@ -5,17 +5,16 @@ ghost use Rattle.std.specs.List.{All};
 
 use crate::fault::Fault;
 use crate::pasts::inputs_left;
-use crate::view::View;
-use crate::words::How;
 use std::alloc::{AllocError, AllocFailed, Global};
 use std::fs;
 use std::rt::Files;
 use std::sync::Arc;
 use tl_advice::report_summary;
 use tl_beats::{Fragment, Row};
-use tl_formats::{Format, Title, print_rows};
+use tl_formats::{Title, print_rows};
 use tl_inputs::Inputs;
-use tl_pick::{Pick, Waiver, WaiverFault, read_waivers};
+use tl_options::{How, View};
+use tl_pick::{Format, Pick, Waiver, WaiverFault, read_waivers};
 use tl_plain::scratch;
 use tl_report::all_added;
 use tl_text::{ByteOut, CountedReader, TextFault, read_text, write_all};
@@ -60,13 +59,13 @@ pub(crate) struct Order<'a> {
 
 /// What was written.
 #[derive(Drop)]
-pub(crate) struct Written {
+pub struct Written {
     /// How many rows.
-    pub(crate) rows: u64,
+    pub rows: u64,
     /// What is told of waivers.
-    pub(crate) notes: String,
+    pub notes: String,
     /// Their summary, if it is told.
-    pub(crate) summary: Option<String>,
+    pub summary: Option<String>,
 }
 
 /// The number of the link with this name, if there is one.

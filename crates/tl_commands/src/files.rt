@@ -13,8 +13,8 @@ use tl_run::read_script;
 use tl_text::{CountedReader, TextFault, read_text};
 use tl_topology::{Topo, TopoFault, read_topo};
 
-/// The topology that a file's whole text is; bytes after its last line are BadLine of the next.
-pub(crate) fn topology_of<R: Files + AllocGlobal>(rt: &R, path: &str) -> Result<Topo, Fault> {
+/// The topology that a file's whole text is; bytes after its last line are BadLine of the next. FILE where it can't be opened or read.
+pub fn topology_of<R: Files + AllocGlobal>(rt: &R, path: &str) -> Result<Topo, Fault> {
     let Ok(file) = fs::open(rt, path) else {
         return Err(Fault::FILE);
     };
@@ -72,8 +72,8 @@ pub(crate) fn fragments_of<R: Files + AllocGlobal>(
     Ok(fragments)
 }
 
-/// The script that a file is; its commands are not looked at.
-pub(crate) fn script_of<R: Files + AllocGlobal>(rt: &R, path: &str) -> Result<Vec<u8>, Fault> {
+/// The script that a file is; its commands are not looked at. FILE where it can't be opened or read.
+pub fn script_of<R: Files + AllocGlobal>(rt: &R, path: &str) -> Result<Vec<u8>, Fault> {
     let Ok(file) = fs::open(rt, path) else {
         return Err(Fault::FILE);
     };

@@ -98,7 +98,7 @@ fn refusal_entry(code: u64) -> Option<&'static str> {
 }
 
 /// The entry of the rule with this name in any case, or of the refusal with this code in decimal; None for any other word.
-pub(crate) fn entry_of(word: &str) -> Option<&'static str> {
+pub fn entry_of(word: &str) -> Option<&'static str> {
     match rule_named(word.as_bytes()) {
         Some(rule) => Some(rule_entry(rule)),
         None => refusal_entry(decimal(word.as_bytes(), MOST_CODE)?),
@@ -122,8 +122,8 @@ fn push_refusals(text: &mut String) -> Result<(), AllocError> {
     Ok(())
 }
 
-/// The first line of each entry: those of the rules, then those of the refusals.
-pub(crate) fn titles(alloc: Global) -> Result<String, AllocError> {
+/// The first line of each entry: those of the rules, then those of the refusals. AllocError where memory is refused.
+pub fn titles(alloc: Global) -> Result<String, AllocError> {
     let mut text = String::new(alloc);
     for rule in &RULES {
         push_title(&mut text, rule_entry(*rule))?;

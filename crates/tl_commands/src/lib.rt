@@ -1,0 +1,21 @@
+//! What the commands of files do: files, reports of them, and the sentences of their faults.
+#![tactic(auto)]
+
+mod denial;
+mod fault;
+mod files;
+mod pasts;
+mod picking;
+mod reports;
+mod streams;
+mod telling;
+
+pub use denial::{Denial, denial_of_run, edits_in};
+pub use fault::Fault;
+pub use files::{script_of, topology_of};
+pub use picking::Written;
+pub use reports::{Ending, Past, audit_of_files, ending_of, once_of_files, report_of};
+pub use streams::stream_of_files;
+pub use telling::{
+    Suspect, input_sentence, input_sentences, once_sentence, run_sentences, script_sentence,
+};

@@ -1,0 +1,15 @@
+//! The words of the command line, and the entries that `explain` writes.
+#![tactic(auto)]
+
+mod explain;
+mod flow_entries;
+mod format_entries;
+mod permission_entries;
+mod refusal_entries;
+mod usage;
+mod view;
+mod words;
+
+pub use explain::{entry_of, titles};
+pub use view::View;
+pub use words::{Command, Deny, How, Told, not_utf8, read_words};

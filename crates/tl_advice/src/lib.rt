@@ -18,5 +18,6 @@ pub use causes::{Advice, Cause};
 pub use kinds::{Role, kind_of};
 pub use places::{Line, Look, More, Place, Sentence};
 pub use refusals::{Script, script_sentences};
-pub use sentences::{Home, fragment_cause, length_cause, line_at, line_of, topology_cause};
+pub use sentences::{Home, fragment_cause, length_cause, line_of, topology_cause};
+pub use tl_show::line_at;
 pub use summary::{report_summary, run_summary};

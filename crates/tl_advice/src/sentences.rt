@@ -7,25 +7,9 @@ use crate::forms::{HEADER, LINK_LINE, MANAGER_LINE, STRICT_LINE, form_of_beat, f
 use crate::kinds::{Role, kind_of};
 use tl_beats::FragmentFault;
 use tl_script::ScriptFault;
-use tl_show::first_line;
+use tl_show::{first_line, line_at, lines_from};
 use tl_text::line;
 use tl_topology::TopoFault;
-
-/// A text from the line with this number on, from 1.
-fn lines_from(text: &[u8], number: u64) -> &[u8] {
-    let mut rest = text;
-    for _ in 1..number {
-        if let Some((_, after)) = line(rest) {
-            rest = after;
-        }
-    }
-    rest
-}
-
-/// The line of a text with this number, from 1.
-pub fn line_at(text: &[u8], number: u64) -> &[u8] {
-    first_line(lines_from(text, number))
-}
 
 /// Whether the line before the one with this number is the last that a text may have.
 fn is_behind_end(text: &[u8], number: u64) -> bool {

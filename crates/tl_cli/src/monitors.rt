@@ -3,6 +3,7 @@
 use std::alloc::{AllocError, Global};
 use std::sync::{Arc, OnceLock};
 use tl_beats::Watch;
+use tl_commands::settlement_line;
 use tl_monitor::Settlement;
 use tl_script::monitors_of;
 
@@ -33,23 +34,12 @@ pub(crate) fn attached_in(alloc: Global, script: &[u8]) -> Result<Vec<Attached>,
     Ok(all)
 }
 
-/// What one monitor told at its end: its number, its last watch, and the edit that closed it, or 0.
-fn settlement_line(alloc: Global, number: u32, told: &Settlement) -> Result<String, AllocError> {
-    let edit = told.closed_at;
-    match told.watch {
-        Watch::Budget { limit, .. } => {
-            format!(in alloc; "settlement {number} budget {limit} closed {edit}\n")
-        }
-        Watch::After { .. } => format!(in alloc; "settlement {number} after closed {edit}\n"),
-    }
-}
-
 /// What these monitors told at their end, a line each.
 pub(crate) fn settlement_lines(alloc: Global, attached: &[Attached]) -> Result<String, AllocError> {
     let mut text = String::new(alloc);
     for monitor in attached {
         if let Some(told) = monitor.cell.get() {
-            let line = settlement_line(alloc, monitor.number, told)?;
+            let line = settlement_line(alloc, monitor.number, told.watch, told.closed_at)?;
             text.push_str(line.as_str())?;
         }
     }

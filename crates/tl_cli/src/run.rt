@@ -14,6 +14,7 @@ use tl_advice::{Look, More};
 use tl_commands::{
     Denial, Ending, Fault, Past, Suspect, Written, audit_of_files, input_sentence, input_sentences,
     once_of_files, once_sentence, report_of, run_sentences, script_sentence, stream_of_files,
+    stream_sentence,
 };
 use tl_options::{Command, Told, not_utf8, read_words, titles};
 use tl_run::Outcome;
@@ -226,7 +227,7 @@ fn tell_picked<R: Files + AllocGlobal, E: ByteOut>(
 }
 
 /// The fault of a command's files in a sentence; None where it is of none of them.
-fn file_sentence<R: Files + AllocGlobal>(
+fn file_sentence<R: Files + AllocGlobal + Clone + Drop>(
     rt: &R,
     fault: Fault,
     command: &Command<'_>,
@@ -248,15 +249,15 @@ fn file_sentence<R: Files + AllocGlobal>(
             script,
             ..
         } => script_sentence(rt, Suspect::new(*topology, fault, look), *script),
-        Command::Stream { topology, inputs } => {
-            once_sentence(rt, Suspect::new(*topology, fault, look), inputs)
+        Command::Stream { topology, options } => {
+            stream_sentence(rt, Suspect::new(*topology, fault, look), options)
         }
         Command::Input | Command::Explain { .. } => Ok(None),
     }
 }
 
 /// A fault in a sentence, if it is of a command's files. Want of memory is no file's fault, nor is a write that fails.
-fn sentence_of<R: Files + AllocGlobal>(
+fn sentence_of<R: Files + AllocGlobal + Clone + Drop>(
     rt: &R,
     fault: Fault,
     command: &Command<'_>,
@@ -270,7 +271,7 @@ fn sentence_of<R: Files + AllocGlobal>(
 }
 
 /// Tells of a fault in one line, and where faults are explained in a sentence after that.
-fn tell_fault<R: Files + AllocGlobal, E: ByteOut>(
+fn tell_fault<R: Files + AllocGlobal + Clone + Drop, E: ByteOut>(
     rt: &R,
     err: &mut E,
     fault: Fault,
@@ -356,7 +357,7 @@ pub fn refuse_words<E: ByteOut>(alloc: Global, err: &mut E, error: &io::Error) -
 }
 
 /// Does what the words ask for where standard error is no terminal: `run_words_at` with `Screen::None`.
-pub fn run_words<R: Files + Threads + Wait + Sync + AllocGlobal, I: ByteIn, O: ByteOut, E: ByteOut>(
+pub fn run_words<R: Files + Threads + Wait + Sync + AllocGlobal + Clone + Drop, I: ByteIn, O: ByteOut, E: ByteOut>(
     rt: &R,
     words: &[String],
     input: &mut I,
@@ -405,7 +406,7 @@ fn run_input<R: Threads + Wait + Sync + AllocGlobal, I: ByteIn, O: ByteOut, E: B
 }
 
 /// Tells how a command that has files ended, and answers the exit status.
-fn tell_ending<R: Files + AllocGlobal, E: ByteOut>(
+fn tell_ending<R: Files + AllocGlobal + Clone + Drop, E: ByteOut>(
     rt: &R,
     err: &mut E,
     ending: Result<Ending, Fault>,
@@ -435,7 +436,7 @@ fn tell_ending<R: Files + AllocGlobal, E: ByteOut>(
 }
 
 /// Does what a command asks for, and answers the exit status.
-fn do_command<R: Files + Threads + Wait + Sync + AllocGlobal, I: ByteIn, O: ByteOut, E: ByteOut>(
+fn do_command<R: Files + Threads + Wait + Sync + AllocGlobal + Clone + Drop, I: ByteIn, O: ByteOut, E: ByteOut>(
     rt: &R,
     command: &Command<'_>,
     input: &mut I,
@@ -481,8 +482,8 @@ fn do_command<R: Files + Threads + Wait + Sync + AllocGlobal, I: ByteIn, O: Byte
             };
             audit_of_files(rt, past, screen.how(*how), view, out)
         }
-        Command::Stream { topology, inputs } => {
-            stream_of_files(rt, *topology, inputs, input, out)
+        Command::Stream { topology, options } => {
+            stream_of_files(rt, *topology, options, input, out, err)
         }
     };
     tell_ending(rt, err, ending, command, screen)
@@ -495,7 +496,7 @@ fn do_command<R: Files + Threads + Wait + Sync + AllocGlobal, I: ByteIn, O: Byte
 /// a script's run refuses is told there too, and a command of files that is done ends with a summary. With workers it waits for their
 /// threads.
 pub fn run_words_at<
-    R: Files + Threads + Wait + Sync + AllocGlobal,
+    R: Files + Threads + Wait + Sync + AllocGlobal + Clone + Drop,
     I: ByteIn,
     O: ByteOut,
     E: ByteOut,

@@ -41,11 +41,11 @@ impl Screen {
 
     /// Whether what a script's run refused is told in sentences.
     pub(crate) fn has_sentences(self, command: &Command<'_>) -> bool {
-        self.is_terminal() || command.how().is_some_and(|how| how.explain_faults)
+        self.is_terminal() || command.explains_faults()
     }
 
     /// Whether the sentence of a fault is told after its line.
     pub(crate) fn has_faults(self, command: &Command<'_>) -> bool {
-        self.has_sentences(command) || command.how().is_some_and(|how| how.show)
+        self.has_sentences(command) || command.shows()
     }
 }

@@ -63,11 +63,11 @@ fn push_fragment<R: Files + AllocGlobal>(
 /// The fragments of files, each read and parsed before the next is opened.
 pub(crate) fn fragments_of<R: Files + AllocGlobal>(
     rt: &R,
-    paths: &[&str],
+    paths: &[String],
 ) -> Result<Vec<Arc<Fragment>>, Fault> {
     let mut fragments = Vec::new(rt.alloc());
     for path in paths {
-        push_fragment(rt, *path, &mut fragments)?;
+        push_fragment(rt, path.as_str(), &mut fragments)?;
     }
     Ok(fragments)
 }

@@ -1,12 +1,16 @@
 //! What the commands of files do: files, reports of them, and the sentences of their faults.
 #![tactic(auto)]
 
+mod chain;
 mod denial;
 mod fault;
 mod files;
 mod pasts;
+mod paths;
 mod picking;
 mod reports;
+mod settling;
+mod setup;
 mod streams;
 mod telling;
 
@@ -15,7 +19,9 @@ pub use fault::Fault;
 pub use files::{script_of, topology_of};
 pub use picking::Written;
 pub use reports::{Ending, Past, audit_of_files, ending_of, once_of_files, report_of};
+pub use settling::settlement_line;
 pub use streams::stream_of_files;
 pub use telling::{
     Suspect, input_sentence, input_sentences, once_sentence, run_sentences, script_sentence,
+    stream_sentence,
 };

@@ -5,6 +5,7 @@ ghost use Rattle.std.specs.Prelude.{◌<◌, ◌^◌};
 use crate::denial::{Denial, denial_of_audit, denial_of_fragments};
 use crate::fault::Fault;
 use crate::files::{fragments_of, script_of, topology_of};
+use crate::paths::all_files_of;
 use crate::picking::{Trouble, Written, order_of, write_audit, write_once};
 use std::rt::Files;
 use std::sync::Arc;
@@ -130,8 +131,8 @@ fn once_denied<R: Files + AllocGlobal, O: ByteOut>(
     Ok(ending.denied_by(denial_of_fragments(how.deny, fragments)))
 }
 
-/// The report of files' fragments on a topology.
-fn once_on<R: Files + AllocGlobal, O: ByteOut>(
+/// The report of the fragments of files on a topology; words stand for their files.
+fn once_on<R: Files + AllocGlobal + Clone + Drop, O: ByteOut>(
     rt: &R,
     topo: &Topo,
     fragments: &[&str],
@@ -141,13 +142,15 @@ fn once_on<R: Files + AllocGlobal, O: ByteOut>(
 ) -> Result<Ending, Fault>
     requires { O.failure_count out.old < 2 ^ 63 }
 {
-    let fragments = fragments_of(rt, fragments)?;
+    let files = all_files_of(rt, fragments)?;
+    let fragments = fragments_of(rt, &files)?;
     once_denied(rt, topo, &fragments, how, view, out)
 }
 
-/// Writes the report of files' fragments on a file's topology. The fault of the first file that has one, that of the first fragment
+/// Writes the report of the fragments of files on a file's topology. A word stands for its file, `-` for standard input, a folder for
+/// its files, and `@LIST` for the files that the lines of LIST name. The fault of the first file that has one, that of the first fragment
 /// that is refused after those before it, want of memory, or a write that fails.
-pub fn once_of_files<R: Files + AllocGlobal, O: ByteOut>(
+pub fn once_of_files<R: Files + AllocGlobal + Clone + Drop, O: ByteOut>(
     rt: &R,
     topology: &str,
     fragments: &[&str],

@@ -1,53 +1,184 @@
-//! Captures without an end, from standard input or from several files.
+//! Captures without an end, from standard input or from files.
 
-ghost use Rattle.std.specs.Prelude.{◌<◌, ◌^◌};
+ghost use Rattle.std.specs.Prelude.{◌≡◌, ◌<◌, ◌^◌, OnOk};
 
+use crate::chain::Chain;
 use crate::fault::Fault;
 use crate::files::topology_of;
+use crate::paths::files_of;
 use crate::reports::{Ending, report_of};
-use std::fs;
+use crate::settling::settlement_lines;
+use crate::setup::{Setup, setup_of};
 use std::rt::Files;
 use std::sync::Arc;
-use tl_stream::{Source, Stream, Teller, stream_end, stream_input, stream_sources};
-use tl_text::{ByteIn, ByteOut, CountedReader};
+use tl_options::StreamOptions;
+use tl_report::Plain;
+use tl_show::Shown;
+use tl_stream::{
+    RowForm, Source, Stream, StreamStop, TellFault, Teller, stream_end, stream_input,
+    stream_sources,
+};
+use tl_text::{ByteIn, ByteOut, CountedReader, write_all};
+use tl_topology::Topo;
 
-/// The files as inputs, which are opened before the first is read.
-fn sources_of<R: Files + AllocGlobal>(
-    rt: &R,
-    paths: &[&str],
-) -> Result<Vec<Source<CountedReader<R::File>>>, Fault> {
+/// An input of files.
+type FilesIn<'a, R> = Source<CountedReader<Chain<'a, R>>>;
+
+/// The files that a word stands for as one input, of which the first is opened.
+fn source_of<'a, R: Files + AllocGlobal + Clone + Drop>(
+    rt: &'a R,
+    word: &str,
+) -> Result<FilesIn<'a, R>, Fault> {
+    let chain = Chain::new(rt, files_of(rt, word)?)?;
+    Ok(Source::new(rt.alloc(), CountedReader::new(chain)))
+}
+
+/// An input for each word, of which the first files are opened before one is read.
+fn sources_of<'a, R: Files + AllocGlobal + Clone + Drop>(
+    rt: &'a R,
+    words: &[&str],
+) -> Result<Vec<FilesIn<'a, R>>, Fault> {
     let mut sources = Vec::new(rt.alloc());
-    for path in paths {
-        let Ok(file) = fs::open(rt, *path) else {
-            return Err(Fault::FILE);
-        };
-        sources.push(Source::new(rt.alloc(), CountedReader::new(file)))?;
+    for word in words {
+        sources.push(source_of(rt, *word)?)?;
     }
     Ok(sources)
 }
 
-/// Streams the fragments of files, or of standard input where none is named or `-`.
-pub fn stream_of_files<R: Files + AllocGlobal, I: ByteIn, O: ByteOut>(
+/// A stream of which no fragment has come, in a form, with the regions and the watches of a setup.
+fn teller_of<'f, R: Files + AllocGlobal, F: RowForm>(
     rt: &R,
-    topology: &str,
-    paths: &[&str],
+    topo: Arc<Topo>,
+    setup: Setup,
+    form: &'f F,
+) -> Result<Teller<'f, F>, Fault> {
+    let Setup {
+        regions, watches, ..
+    } = setup;
+    let stream = Stream::new(rt.alloc(), topo, regions)?;
+    let mut teller = Teller::new(rt.alloc(), stream, form)?;
+    for (number, watch) in &watches {
+        teller.watch(*number, *watch)?;
+    }
+    Ok(teller)
+}
+
+/// Streams the inputs of words, or standard input where there is none or `-` alone.
+fn read_all<
+    R: Files + AllocGlobal + Clone + Drop,
+    F: RowForm,
+    I: ByteIn,
+    O: ByteOut,
+    E: ByteOut,
+>(
+    rt: &R,
+    teller: &mut Teller<'_, F>,
+    words: &[&str],
     input: &mut I,
     out: &mut O,
-) -> Result<Ending, Fault>
+    err: &mut E,
+) -> Result<Option<StreamStop>, Fault>
+    requires out { O.failure_count out.old < 2 ^ 63 }
+    requires err { E.failure_count err.old < 2 ^ 63 }
+    ensures quiet { OnOk result (O.failure_count out.new ≡ O.failure_count out.old) }
+    ensures err { E.failure_count err.new < 2 ^ 63 }
+{
+    match words {
+        [] | ["-"] => Ok(stream_input(rt.alloc(), teller, input, out, err)?),
+        _ => {
+            let mut sources = sources_of(rt, words)?;
+            Ok(stream_sources(rt.alloc(), teller, &mut sources, out, err)?)
+        }
+    }
+}
+
+/// Ends a stream, with these last lines before its own.
+fn ended<R: Files + AllocGlobal, F: RowForm, O: ByteOut>(
+    rt: &R,
+    teller: Teller<'_, F>,
+    stop: Option<StreamStop>,
+    told: &str,
+    out: &mut O,
+) -> Result<Ending, TellFault>
     requires { O.failure_count out.old < 2 ^ 63 }
+{
+    match stream_end(rt.alloc(), teller, stop, told, out)? {
+        Some(rows) => Ok(Ending::Came(report_of(rows))),
+        None => Ok(Ending::Stopped),
+    }
+}
+
+/// The streams of a command in a form, after its setup.
+fn stream_in_form<
+    R: Files + AllocGlobal + Clone + Drop,
+    F: RowForm,
+    I: ByteIn,
+    O: ByteOut,
+    E: ByteOut,
+>(
+    rt: &R,
+    mut teller: Teller<'_, F>,
+    streams: Streams<'_>,
+    input: &mut I,
+    out: &mut O,
+    err: &mut E,
+) -> Result<Ending, Fault>
+    requires out { O.failure_count out.old < 2 ^ 63 }
+    requires err { E.failure_count err.old < 2 ^ 63 }
+    ensures { E.failure_count err.new < 2 ^ 63 }
+{
+    write_all(out, streams.refused.as_bytes())?;
+    let stop = read_all(rt, &mut teller, streams.words, input, out, err)?;
+    Ok(ended(rt, teller, stop, streams.told, out)?)
+}
+
+/// What is streamed, and what is written before and after it.
+#[derive(Clone, Copy)]
+struct Streams<'a> {
+    /// The words that name the inputs.
+    words: &'a [&'a str],
+    /// The lines of the refused commands of the setup.
+    refused: &'a str,
+    /// The lines before the last one.
+    told: &'a str,
+}
+
+/// Streams the fragments of files, or of standard input where none is named or `-` alone, and writes each row once it is certain. A
+/// word is one input: its file, or the files of a folder or of a list one after another. The fault of the topology, of the setup, or
+/// of the first file of an input that can't be opened; want of memory, or a write that fails.
+pub fn stream_of_files<
+    R: Files + AllocGlobal + Clone + Drop,
+    I: ByteIn,
+    O: ByteOut,
+    E: ByteOut,
+>(
+    rt: &R,
+    topology: &str,
+    options: &StreamOptions<'_>,
+    input: &mut I,
+    out: &mut O,
+    err: &mut E,
+) -> Result<Ending, Fault>
+    requires out { O.failure_count out.old < 2 ^ 63 }
+    requires err { E.failure_count err.old < 2 ^ 63 }
+    ensures { E.failure_count err.new < 2 ^ 63 }
 {
     let alloc = rt.alloc();
     let topo = Arc::new(alloc, topology_of(rt, topology)?)?;
-    let mut teller = Teller::new(Stream::new(alloc, topo, Vec::new(alloc))?);
-    let stop = match paths {
-        [] | ["-"] => stream_input(alloc, &mut teller, input, out)?,
-        _ => {
-            let mut sources = sources_of(rt, paths)?;
-            stream_sources(alloc, &mut teller, &mut sources, out)?
-        }
+    let mut setup = setup_of(rt, &topo, options.setup)?;
+    let told = settlement_lines(alloc, &setup.watches, setup.edits)?;
+    let refused = setup.refused;
+    setup.refused = String::new(alloc);
+    let streams = Streams {
+        words: &options.inputs,
+        refused: refused.as_str(),
+        told: told.as_str(),
     };
-    match stream_end(alloc, teller, stop, out)? {
-        Some(rows) => Ok(Ending::Came(report_of(rows))),
-        None => Ok(Ending::Stopped),
+    if options.show {
+        let teller = teller_of(rt, topo, setup, &Shown)?;
+        stream_in_form(rt, teller, streams, input, out, err)
+    } else {
+        let teller = teller_of(rt, topo, setup, &Plain)?;
+        stream_in_form(rt, teller, streams, input, out, err)
     }
 }

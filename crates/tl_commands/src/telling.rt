@@ -2,6 +2,7 @@
 
 use crate::fault::Fault;
 use crate::files::{Seen, line_after, seen_at, whole_topology};
+use crate::paths::{all_files_of, files_of, list_of};
 use std::alloc::Global;
 use std::rt::Files;
 use std::sync::Arc;
@@ -11,6 +12,7 @@ use tl_advice::{
 };
 use tl_beats::{Fragment, FragmentFault, parse_whole_fragment};
 use tl_inputs::{Change, Edit, EditFault, Log};
+use tl_options::StreamOptions;
 use tl_run::log_of;
 use tl_topology::{Topo, TopoFault, read_topo};
 
@@ -160,8 +162,9 @@ fn topology_again<R: Files + AllocGlobal>(rt: &R, suspect: Suspect<'_>) -> Resul
 }
 
 /// Why a fragment can't be added after those of these files.
-fn added_cause<'a>(path: &str, before: &[&str], fault: EditFault, topo: &'a Topo) -> Cause<'a> {
-    if fault == EditFault::FragmentExists && before.iter().any(|other| *other == path) {
+fn added_cause<'a>(path: &str, before: &[String], fault: EditFault, topo: &'a Topo) -> Cause<'a> {
+    let is_again = before.iter().any(|other| other.as_str() == path);
+    if fault == EditFault::FragmentExists && is_again {
         Cause::Plain(Advice::new("the same file a second time", "each file once"))
     } else {
         edit_cause(fault, topo)
@@ -186,7 +189,7 @@ fn refusal_of(
 fn added_sentence(
     alloc: Global,
     suspect: Suspect<'_>,
-    before: &[&str],
+    before: &[String],
     text: &[u8],
     fragment: Fragment,
     log: &mut Log,
@@ -204,7 +207,7 @@ fn added_sentence(
 fn fragment_text(
     alloc: Global,
     suspect: Suspect<'_>,
-    before: &[&str],
+    before: &[String],
     text: &[u8],
     log: &mut Log,
 ) -> Result<Option<String>, Fault> {
@@ -227,7 +230,7 @@ fn fragment_text(
 fn fragment_again<R: Files + AllocGlobal>(
     rt: &R,
     suspect: Suspect<'_>,
-    before: &[&str],
+    before: &[String],
     log: &mut Log,
 ) -> Result<Option<String>, Fault> {
     match &seen_at(rt, suspect.path, Role::Fragment)? {
@@ -240,12 +243,12 @@ fn fragment_again<R: Files + AllocGlobal>(
 fn first_again<R: Files + AllocGlobal>(
     rt: &R,
     topology: Suspect<'_>,
-    fragments: &[&str],
+    files: &[String],
     log: &mut Log,
 ) -> Result<Option<String>, Fault> {
-    for (place, path) in fragments.iter().enumerate() {
-        let suspect = Suspect::new(*path, topology.fault, topology.look);
-        let before = fragments.get(..place).unwrap_or(fragments);
+    for (place, path) in files.iter().enumerate() {
+        let suspect = Suspect::new(path.as_str(), topology.fault, topology.look);
+        let before = files.get(..place).unwrap_or(files);
         if let Some(sentence) = fragment_again(rt, suspect, before, log)? {
             return Ok(Some(sentence));
         }
@@ -257,23 +260,66 @@ fn first_again<R: Files + AllocGlobal>(
 fn fragments_again<R: Files + AllocGlobal>(
     rt: &R,
     topology: Suspect<'_>,
-    fragments: &[&str],
+    files: &[String],
     topo: Topo,
 ) -> Result<Option<String>, Fault> {
     let mut log = Log::new(rt.alloc(), topo)?;
-    first_again(rt, topology, fragments, &mut log)
+    first_again(rt, topology, files, &mut log)
+}
+
+/// The sentence of a word whose folder or list can't be read.
+fn word_again<R: Files + AllocGlobal>(
+    rt: &R,
+    topology: Suspect<'_>,
+    word: &str,
+) -> Result<Option<String>, Fault> {
+    let path = list_of(word).unwrap_or(word);
+    let suspect = Suspect::new(path, topology.fault, topology.look);
+    let seen = seen_at(rt, path, Role::Fragment)?;
+    seen_sentence(rt.alloc(), suspect, &seen, Role::Fragment)
+}
+
+/// The sentence of the first of these words whose folder or list can't be read, or of the first of their files that the fault is of.
+fn words_again<R: Files + AllocGlobal + Clone + Drop>(
+    rt: &R,
+    topology: Suspect<'_>,
+    words: &[&str],
+    topo: Topo,
+) -> Result<Option<String>, Fault> {
+    for word in words {
+        if files_of(rt, *word).is_err() {
+            return word_again(rt, topology, *word);
+        }
+    }
+    let files = all_files_of(rt, words)?;
+    fragments_again(rt, topology, &files, topo)
 }
 
 /// The sentence of a fault of `once`, whose files are read again: that of the first that it is of. None where it is of none.
-pub fn once_sentence<R: Files + AllocGlobal>(
+pub fn once_sentence<R: Files + AllocGlobal + Clone + Drop>(
     rt: &R,
     topology: Suspect<'_>,
-    fragments: &[&str],
+    words: &[&str],
 ) -> Result<Option<String>, Fault> {
     match topology_again(rt, topology)? {
         Again::Told(sentence) => Ok(Some(sentence)),
-        Again::Sound(topo) => fragments_again(rt, topology, fragments, topo),
+        Again::Sound(topo) => words_again(rt, topology, words, topo),
         Again::Unknown => Ok(None),
+    }
+}
+
+/// The sentence of a fault of `stream`: that of its topology, of its setup, or of the first word whose files can't be opened. None where
+/// it is of none.
+pub fn stream_sentence<R: Files + AllocGlobal + Clone + Drop>(
+    rt: &R,
+    topology: Suspect<'_>,
+    options: &StreamOptions<'_>,
+) -> Result<Option<String>, Fault> {
+    match options.setup {
+        Some(script) if topology.fault.code != Fault::FILE.code => {
+            script_sentence(rt, topology, script)
+        }
+        _ => once_sentence(rt, topology, &options.inputs),
     }
 }
 

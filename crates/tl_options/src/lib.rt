@@ -12,4 +12,4 @@ mod words;
 
 pub use explain::{entry_of, titles};
 pub use view::View;
-pub use words::{Command, Deny, How, Told, not_utf8, read_words};
+pub use words::{Command, Deny, How, StreamOptions, Told, not_utf8, read_words};

@@ -30,6 +30,19 @@ pub struct How {
     pub summary: bool,
 }
 
+/// What is streamed, and how.
+#[derive(Drop)]
+pub struct StreamOptions<'a> {
+    /// The words that name the inputs; none are standard input.
+    pub inputs: Vec<&'a str>,
+    /// The path of a script of regions and monitors that stand before the first beat.
+    pub setup: Option<&'a str>,
+    /// Whether rows are shown.
+    pub show: bool,
+    /// Whether faults are told in sentences.
+    pub explain_faults: bool,
+}
+
 /// What the words ask for.
 #[derive(Drop)]
 pub enum Command<'a> {
@@ -57,10 +70,10 @@ pub enum Command<'a> {
         how: How,
         view: View<'a>,
     },
-    /// The rows of fragments as they come, from inputs or from standard input.
+    /// The rows of fragments as they come.
     Stream {
         topology: &'a str,
-        inputs: Vec<&'a str>,
+        options: StreamOptions<'a>,
     },
     /// The entry of a rule or of a refusal, or without one the first line of each.
     Explain {
@@ -70,12 +83,28 @@ pub enum Command<'a> {
 
 impl Command<'_> {
     /// How it is to be done; None where its words say nothing of that.
-    pub fn how(&self) -> Option<How> {
+    fn how(&self) -> Option<How> {
         match self {
             Command::Once { how, .. } | Command::Run { how, .. } | Command::Audit { how, .. } => {
                 Some(*how)
             }
             Command::Input | Command::Stream { .. } | Command::Explain { .. } => None,
+        }
+    }
+
+    /// Whether its rows are to be shown.
+    pub fn shows(&self) -> bool {
+        match self {
+            Command::Stream { options, .. } => options.show,
+            _ => self.how().is_some_and(|how| how.show),
+        }
+    }
+
+    /// Whether its faults are to be told in sentences.
+    pub fn explains_faults(&self) -> bool {
+        match self {
+            Command::Stream { options, .. } => options.explain_faults,
+            _ => self.how().is_some_and(|how| how.explain_faults),
         }
     }
 }
@@ -121,7 +150,7 @@ fn explain_faults<'a>(alloc: Global) -> Arg<'a> {
 /// What can be denied.
 const DENIED: &[&str] = &["refused", "empty"];
 
-fn deny<'a>(alloc: Global) -> Arg<'a> {
+fn denied<'a>(alloc: Global) -> Arg<'a> {
     setting(
         alloc,
         "deny",
@@ -147,7 +176,7 @@ fn with_how<'a>(alloc: Global, command: Draft<'a>) -> Draft<'a> {
         .arg(show(alloc))
         .arg(explain_faults(alloc))
         .arg(summary(alloc))
-        .arg(deny(alloc))
+        .arg(denied(alloc))
 }
 
 /// A command with these words in its help.
@@ -163,7 +192,8 @@ fn fragments<'a>(alloc: Global) -> Arg<'a> {
     word(
         alloc,
         "FRAGMENT",
-        "Path of a fragment text, at most 8,388,608 bytes; each is one edit",
+        "Path of a fragment text, at most 8,388,608 bytes, each one edit; a folder stands for its files in order of name, @LIST for the \
+paths in the file LIST, - for standard input",
     )
     .action(ArgAction::Append)
     .num_args(1..)
@@ -219,8 +249,18 @@ fn inputs<'a>(alloc: Global) -> Arg<'a> {
         .action(ArgAction::Append)
         .num_args(0..)
         .help(
-            "Path of fragment texts one after another, of any length; standard input without one, or as -",
+            "Path of fragment texts one after another, of any length; a folder stands for its files in order of name, @LIST for the \
+paths in the file LIST; standard input without one, or as -",
         )
+}
+
+fn stream_setup<'a>(alloc: Global) -> Arg<'a> {
+    setting(
+        alloc,
+        "setup",
+        "SCRIPT",
+        "Carries out the commands region and attach of this script before the first beat",
+    )
 }
 
 fn stream<'a>(alloc: Global) -> Draft<'a> {
@@ -229,6 +269,9 @@ fn stream<'a>(alloc: Global) -> Draft<'a> {
     described(alloc, "stream", about, STREAM_EXAMPLE)
         .arg(topology(alloc))
         .arg(inputs(alloc))
+        .arg(stream_setup(alloc))
+        .arg(show(alloc))
+        .arg(explain_faults(alloc))
 }
 
 fn entry<'a>(alloc: Global) -> Arg<'a> {
@@ -323,7 +366,12 @@ fn paths_asked<'a>(
 fn stream_asked<'a>(alloc: Global, found: &ArgMatches<'a>) -> Result<Command<'a>, Error> {
     Ok(Command::Stream {
         topology: found.get_str("TOPO").unwrap_or(""),
-        inputs: paths_asked(alloc, found, "FILE")?,
+        options: StreamOptions {
+            inputs: paths_asked(alloc, found, "FILE")?,
+            setup: found.get_str("setup"),
+            show: found.get_flag("show"),
+            explain_faults: found.get_flag("explain-faults"),
+        },
     })
 }
 
@@ -449,7 +497,7 @@ pub enum Told {
 }
 
 /// What clap tells.
-fn told(alloc: Global, error: &Error) -> Told {
+fn told_by(alloc: Global, error: &Error) -> Told {
     if matches!(error.kind(), ErrorKind::OutOfMemory) {
         return Told::Memory;
     }
@@ -474,7 +522,7 @@ pub fn read_words<'a>(alloc: Global, words: &'a [String]) -> Result<Command<'a>,
     }
     match command_in(alloc, words) {
         Ok(command) => Ok(command),
-        Err(error) => Err(told(alloc, &error)),
+        Err(error) => Err(told_by(alloc, &error)),
     }
 }
 
@@ -487,7 +535,7 @@ fn refused_text(alloc: Global) -> Result<Error, Error> {
 /// What there is to tell of words of which one is no UTF-8 text.
 pub fn not_utf8(alloc: Global) -> Told {
     match refused_text(alloc) {
-        Ok(error) => told(alloc, &error),
+        Ok(error) => told_by(alloc, &error),
         Err(_) => Told::Memory,
     }
 }

@@ -1,12 +1,12 @@
 -- What is shown is the plain text with notes.
-use Rattle.std.proofs.Common.{◌≡◌, ℕ, zero, suc, ◌<◌, Bool, true, false, cond, List, [], ◌∷◌, ◌++◌, append-nil, length, map, take, drop, Option, Some, None, Result, Ok, Err, refl, sym, ap, ◌∙◌, subst, arith}
+use Rattle.std.proofs.Common.{◌≡◌, ℕ, zero, suc, ◌+◌, ◌<◌, Bool, true, false, cond, List, [], ◌∷◌, ◌++◌, append-nil, length, map, take, drop, get_or, Option, Some, None, Result, Ok, Err, refl, sym, ap, ◌∙◌, subst, arith}
 use Rattle.std.specs.Prelude.{not, ◌==◌, ◌-◌, ◌^◌, IfOk, String, string_bytes, codes, find, slice_index_or}
 use Rattle.std.specs.List.{All, AllByRecursion, list_all, flat_map, slice_get}
 use Rattle.std.specs.Fmt.{decimal, digits}
 use Rattle.std.specs.Option.{option_map, option_map_or}
 use Rattle.std.proofs.lemmas.Bool.{and_from, and_parts}
 use Rattle.std.proofs.lemmas.Grind.{flat_map-append}
-use Rattle.std.proofs.lemmas.List.{take-append-drop}
+use Rattle.std.proofs.lemmas.List.{take-append-drop, take_more}
 use Rattle.std.proofs.lemmas.Option.{same_Some}
 use Rattle.tl_text.specs.Names.{is_name}
 use Rattle.tl_text.specs.Words.{cut, line_at}
@@ -32,7 +32,7 @@ use Rattle.tl_report.specs.Output.{row_text}
 use Rattle.tl_report.specs.Notes.{is_unbroken, IsNoted}
 use Rattle.tl_report.proofs.NoteLaws.{unbroken_more, digits_unbroken, decimal_unbroken, name_unbroken, rule_unbroken, row_is_plain, Ends, ends_here, ends_more, noted_nil, noted_more, note_line}
 use Rattle.tl_words.specs.Words.{joined, chan_text_of, op_text_of, param_texts, param_text_of, op_text_with, named_text_of, plain_text_of, numbered_text_of, coded_text_of, message_text_of, bytes_text_of, access_text_of, release_text_of, reply_text_of, ack_text_of, fields_text_of, bits_text_of, beat_text_of, rule_line_of}
-use Rattle.tl_show.specs.Lines.{link_at, words_of, beat_line_of, rule_row_of, place_text_of, named_line_of, missing_of, missing_line_of, reason_line_of, most_line_of, block_line_of, within_line_of, mask_line_of, source_line_of, head_of, is_partial, lanes_line_of, own_field_of, field_of, differs_line_of, block_at, expected_line_of, told_lines_of, IsStanding, IsNaming, IsSoundTold}
+use Rattle.tl_show.specs.Lines.{link_at, words_of, beat_line_of, rule_row_of, place_text_of, named_line_of, missing_of, missing_line_of, reason_line_of, most_line_of, block_line_of, within_line_of, mask_line_of, source_line_of, head_of, is_partial, lanes_line_of, own_field_of, field_of, differs_line_of, block_at, expected_line_of, told_lines_of, bare_lines_of, IsStanding, IsNaming, IsSoundTold}
 use Rattle.tl_show.specs.Shown.{is_row, lines_for, shown_row, rest_line_of, checked_text_of, asked_text_of, given_text_of, counts_line_of, shown_count, shown_rows, shown_bytes}
 use Rattle.tl_show.specs.declared.survey.Counts.{Counts}
 use Rattle.tl_show.proofs.KeptLaws.{all_rec, found_kept}
@@ -456,6 +456,21 @@ module _ (topo : Topology) (names : AreNamed topo) where
         last_within (suc n) [] all = tt
         last_within (suc n) (row ∷ rows) all = last_within n rows all.1
 
+-- one row more after others
+pub rows_more : (topo : Topology) (rows : List Row) (i : ℕ) (d : Row) (text own : List ℕ) → i < length rows → IsNoted (flat_map (row_text topo) (take i rows)) text → IsNoted (row_text topo (get_or rows i d)) own
+    → IsNoted (flat_map (row_text topo) (take (i + 1) rows)) (text ++ own)
+rows_more topo rows i d text own within before is =
+    let row : Row = get_or rows i d in
+    let all : flat_map (row_text topo) (take i rows) ++ row_text topo row ≡ flat_map (row_text topo) (take (i + 1) rows) =
+    ap (λ t. flat_map (row_text topo) (take i rows) ++ t) (sym (append-nil (row_text topo row))) ∙ sym (flat_map-append (row_text topo) (take i rows) (row ∷ []))
+    ∙ sym (ap (flat_map (row_text topo)) (take_more rows i d within)) in
+    subst (λ p. IsNoted p (text ++ own)) all (noted_more _ _ text own before is)
+
+-- the lines of a row without the earlier beat
+pub bare_noted : (topo : Topology) → AreNamed topo → (p : Placed) → IsStanding topo p → (r : Rule) → IsNoted [] (bare_lines_of topo p r)
+unfolding bare_lines_of
+bare_noted topo names p stands r = noted_more [] [] _ _ (beat_noted topo names p stands) (rule_noted r)
+
 -- ---- the last lines
 
 rest_noted : (count : ℕ) → IsNoted [] (rest_line_of count)
@@ -547,6 +562,10 @@ whole_unbroken bytes e = no_newline bytes (none_is (cut 10 bytes).1 (cut 10 byte
 pub note_made : {Z E : Type 0} (made : Result (String Z) E) (bytes : List ℕ) → IfOk made (λ text. string_bytes text ≡ bytes) → IsNoted [] bytes → IfOk made (λ text. IsNoted [] (string_bytes text))
 note_made (Ok text) bytes is noted = subst (IsNoted []) (sym is) noted
 note_made (Err fault) bytes is noted = tt
+
+pub row_made : {Z E : Type 0} (made : Result (String Z) E) (plain bytes : List ℕ) → IfOk made (λ text. string_bytes text ≡ bytes) → IsNoted plain bytes → IfOk made (λ text. IsNoted plain (string_bytes text))
+row_made (Ok text) plain bytes is noted = subst (IsNoted plain) (sym is) noted
+row_made (Err fault) plain bytes is noted = tt
 
 pub line_made : {Z E : Type 0} (made : Result (String Z) E) (bytes target : List ℕ) → IfOk made (λ text. string_bytes text ≡ bytes) → target ≡ bytes → IsNoted bytes bytes → IfOk made (λ text. IsNoted target (string_bytes text))
 line_made (Ok text) bytes target is same plain = subst (λ t. IsNoted t (string_bytes text)) (sym same) (subst (IsNoted bytes) (sym is) plain)

@@ -143,6 +143,10 @@ told_lines_of topo told =
     joined (beat_line_of topo told.place ∷ rule_row_of told.row.rule ∷ reason_line_of topo told.row.rule told.reason
     ∷ expected_line_of topo (link_at topo told.place.link) told.row.rule told.place told.reason ∷ [])
 
+-- The lines of a row without the earlier beat that makes it so.
+unfoldable pub bare_lines_of : Topology → Placed → Rule → List ℕ
+bare_lines_of topo p broken = joined (beat_line_of topo p ∷ rule_row_of broken ∷ [])
+
 -- The place is of a link of the topology, and its beat a beat of a fragment.
 abbrev pub IsStanding : Topology → Placed → Type 0
 IsStanding topo p = (p.link < length topo.links) × IsWellFormed p.beat

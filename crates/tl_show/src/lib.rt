@@ -7,9 +7,10 @@ mod lines;
 mod quote;
 mod showing;
 mod shown;
+mod streaming;
 mod survey;
 
-pub use quote::first_line;
+pub use quote::{first_line, line_at, lines_from};
 pub use showing::{Showing, Shown};
 pub use shown::{shown_audit, shown_report, shown_row};
 pub use survey::{Counts, Survey, survey_beats};

@@ -2,7 +2,7 @@
 
 ghost use Rattle.std.specs.Prelude.{◌≡◌, ◌<◌, IfOk, length, string_bytes};
 ghost use Rattle.tl_beats.specs.Beats.{IsWellFormed};
-ghost use Rattle.tl_show.specs.Lines.{words_of, beat_line_of, rule_row_of, place_text_of, named_line_of, missing_of, missing_line_of, reason_line_of, told_lines_of, IsNaming, IsSoundTold};
+ghost use Rattle.tl_show.specs.Lines.{words_of, beat_line_of, rule_row_of, place_text_of, named_line_of, missing_of, missing_line_of, reason_line_of, told_lines_of, bare_lines_of, IsNaming, IsSoundTold};
 
 use crate::expected::expected_line;
 use std::alloc::{AllocError, Global};
@@ -131,4 +131,21 @@ pub(crate) fn told_lines(alloc: Global, topo: &Topo, told: &Told) -> Result<Stri
     let reason = reason_line(alloc, topo, rule, &told.reason)?;
     let expected = expected_line(alloc, topo, told)?;
     format!(in alloc; "{beat}{row}{reason}{expected}")
+}
+
+/// The lines of a row without the earlier beat that makes it so.
+#[tactic(auto, unfolding(crate::specs::Lines::bare_lines_of))]
+pub(crate) fn bare_lines(
+    alloc: Global,
+    topo: &Topo,
+    place: &Placed,
+    rule: Rule,
+) -> Result<String, AllocError>
+    requires link { place.now.link < length topo.now.links }
+    requires beat { IsWellFormed place.now.beat }
+    ensures { IfOk result (λ text. string_bytes text ≡ bare_lines_of topo.now place.now rule) }
+{
+    let beat = beat_line(alloc, topo, place)?;
+    let row = rule_row(alloc, rule)?;
+    format!(in alloc; "{beat}{row}")
 }

@@ -52,3 +52,21 @@ pub fn first_line(text: &[u8]) -> &[u8]
         None => text,
     }
 }
+
+/// A text from the line with this number on, from 1; from its last line on where it has fewer.
+pub fn lines_from(text: &[u8], number: u64) -> &[u8] {
+    let mut rest = text;
+    for _ in 1..number {
+        if let Some((_, after)) = line(rest) {
+            rest = after;
+        }
+    }
+    rest
+}
+
+/// The line of a text with this number, from 1, without its newline.
+pub fn line_at(text: &[u8], number: u64) -> &[u8]
+    ensures { is_unbroken result.now ≡ true }
+{
+    first_line(lines_from(text, number))
+}

@@ -92,7 +92,7 @@ fn keep(log: &mut Log, edit: Edit) -> Result<(), AllocError> {
 }
 
 /// A note with this text.
-fn note(alloc: Global, text: &str) -> Result<String, AllocError>
+pub(crate) fn note(alloc: Global, text: &str) -> Result<String, AllocError>
     requires { is_unbroken text.now ≡ true }
     ensures { IfOk result (λ note. IsNoted [] (string_bytes note)) }
 {

@@ -1,32 +1,33 @@
 -- One fragment accepted, by what the code knows.
 use Rattle.std.proofs.Common.{◌≡◌, ◌≢◌, ℕ, ◌<◌, ◌≤◌, ◌^◌, ◌⊎◌, inl, inr, true, false, List, length, get_or, Option, Some, None, refl, sym, ap, subst, ◌∙◌, arith, length-set}
 use Rattle.std.specs.Prelude.{nat_lt, slice_get, ◌==◌, is_none, is_some}
-use Rattle.std.specs.List.{All, Contains}
+use Rattle.std.specs.List.{All, Contains, list_all}
 use Rattle.std.specs.Option.{option_and_then}
 use Rattle.std.proofs.Math.ListN.{set}
 use Rattle.std.proofs.lemmas.Bool.Decides.{nat_tests}
 use Rattle.std.proofs.lemmas.List.{get_or-set_same, get_or-set_other}
-use Rattle.std.proofs.lemmas.List.Elements.{Contains-append_left, Contains-append_right, Contains-get_or}
-use Rattle.std.proofs.lemmas.Option.{slice_get-get_or, slice_get_past, slice_get_within}
+use Rattle.std.proofs.lemmas.List.Elements.{All-contains, Contains-append_left, Contains-append_right, Contains-get_or}
+use Rattle.std.proofs.lemmas.Option.{same_Some, slice_get-get_or, slice_get_past, slice_get_within}
 use Rattle.tl_topology.specs.Regions.{Area}
 use Rattle.tl_topology.specs.Topology.{Topology, number_of_name}
 use Rattle.tl_topology.specs.declared.LinkDecl.{LinkDecl}
-use Rattle.tl_beats.specs.Fragments.{Frag, IsFragment}
+use Rattle.tl_beats.specs.Fragments.{Frag, AreBeats}
 use Rattle.tl_beats.specs.declared.Row.{Row}
 use Rattle.tl_definitions.specs.Managers.{declared_links}
-use Rattle.tl_definitions.specs.Positions.{Recorded}
+use Rattle.tl_definitions.specs.Positions.{Recorded, clients_of}
 use Rattle.tl_manager_rules.proofs.DeclaredLaws.{declared_is_client}
-use Rattle.tl_windows.specs.Present.{recorded, numbered, overlapped, put_in, IsCapture}
+use Rattle.tl_windows.specs.Present.{recorded, numbered, overlapped, put_in, IsCapture, IsPresent}
+use Rattle.tl_windows.proofs.TouchLemmas.{put_here}
 use Rattle.tl_span.specs.declared.state.SpanState.{SpanState}
 use Rattle.tl_stream.specs.Courses.{HasCome, Advances, AreNewRows}
-use Rattle.tl_stream.specs.Fronts.{front_at, refusal_of, IsFrontOf}
+use Rattle.tl_stream.specs.Fronts.{front_at, refusal_of, has_reached, past, is_complete, IsFrontOf}
 use Rattle.tl_stream.specs.Streams.{StreamData, HasAccepted, Accepts, Refuses, IsCause, IsOn, areas_in, course_at, told_by}
 use Rattle.tl_stream.specs.Told.{untold}
 use Rattle.tl_stream.specs.declared.course.Course.{Course}
 use Rattle.tl_stream.specs.declared.fault.StreamFault.{StreamFault}
 use Rattle.tl_stream.specs.declared.fault.StreamFault.TheVariants as fault
 use Rattle.tl_stream.specs.declared.front.Front.{Front}
-use Rattle.tl_stream.proofs.FrontLemmas.{IsNewer, newest_is, front_elsewhere}
+use Rattle.tl_stream.proofs.FrontLemmas.{IsNewer, newest_is, front_elsewhere, complete_is_reached}
 use Rattle.tl_stream.proofs.StreamLemmas.{HasSet, newer_is, cause_is, is_absent, is_free, has_come, accepted_in, accepts_it, own_rows, still_present}
 use Rattle.tl_stream.proofs.LawLemmas.{telling_is_whole, whole_linked}
 
@@ -87,8 +88,21 @@ room_for fs s f has newer = (is_absent s.waiting f (λ g h of. newer g (has.amon
 
 -- ---- the fragment comes in
 
+-- What a fragment keeps of cycles.
+pub record IsTimed (f : Frag) : Type 0 where
+  pub order : f.first ≤ f.last
+  pub last : f.last < 2 ^ 64
+  pub beats : AreBeats f.first f.last f.beats
+
+-- The fragment that was put among others that are present keeps it.
+pub timed : (link last : ℕ) (f g : Frag) (old new : List Recorded) → g ≡ f → new ≡ put_in (recorded link g) old → IsPresent new → last ≡ f.last → last < 2 ^ 64 → IsTimed f
+timed link last f g old new same put present is short =
+    let here : Contains new (recorded link g) = subst (λ fs. Contains fs (recorded link g)) (sym put) (put_here (recorded link g) old) in
+    let own : IsCapture (recorded link f) = subst (λ (h : Frag). IsCapture (recorded link h)) same (All-contains IsCapture new (recorded link g) present.each here) in
+    record { order = own.order; last = subst (λ n. n < 2 ^ 64) is short; beats = own.beats }
+
 module _ (old : StreamData) (link : ℕ) (f : Frag) (decl : LinkDecl) (course : Course) (front : Front) (named : number_of_name old.topo.links f.link ≡ Some link) (declared : slice_get (declared_links old.topo) link ≡ Some decl)
-    (is : IsFragment f) (at : course_at old decl.manager ≡ Some course) (number : front.number ≡ f.number) (last : front.last ≡ f.last) (within : link < length old.fronts) (fs : List Recorded) (has : HasAccepted fs old)
+    (is : IsTimed f) (at : course_at old decl.manager ≡ Some course) (number : front.number ≡ f.number) (last : front.last ≡ f.last) (within : link < length old.fronts) (fs : List Recorded) (has : HasAccepted fs old)
     (newer : IsNewer fs (recorded link f)) where
   on : IsOn old.topo link decl.manager
   on = declared_is_client decl.manager link (declared_links old.topo) decl declared refl
@@ -150,3 +164,15 @@ module _ (old : StreamData) (link : ℕ) (f : Frag) (decl : LinkDecl) (course : 
         whole_linked old.topo (areas_in old) come decl.manager row (still_present old fs has link decl.manager f named on own short newer course at)
         (subst (λ rs. Contains rs row) (telling_is_whole old.topo (areas_in old) come decl.manager (still_present old fs has link decl.manager f named on own short newer course at))
         (Contains-append_left (told_by old come decl.manager) (untold old.topo (areas_in old) come decl.manager) row now))
+
+-- ---- what is complete
+
+pub through : (s : StreamData) (fs : List Recorded) (link manager : ℕ) (own decl : LinkDecl) (course : Course) (found : Option ℕ) → HasAccepted fs s → slice_get (declared_links s.topo) link ≡ Some own
+    → slice_get (declared_links s.topo) link ≡ Some decl → manager ≡ own.manager → course_at s manager ≡ Some course
+    → ((cycle : ℕ) → cycle < 2 ^ 64 → list_all (has_reached s.fronts cycle) course.links.items ≡ nat_lt cycle (past found)) → (cycle : ℕ) → cycle < 2 ^ 64
+    → is_complete (clients_of decl.manager (declared_links s.topo)) fs cycle ≡ nat_lt cycle (past found)
+through s fs link manager own decl course found has here there of at reached cycle short =
+    let same : own ≡ decl = same_Some _ _ (sym here ∙ there) in
+    let mine : course.manager ≡ decl.manager = has.courses.own manager course at ∙ of ∙ ap (λ (l : LinkDecl). l.manager) same in
+    let links : course.links.items ≡ clients_of decl.manager (declared_links s.topo) = (has.courses.each manager course at).running.links ∙ ap (λ m. clients_of m (declared_links s.topo)) mine in
+    ap (λ ls. is_complete ls fs cycle) (sym links) ∙ complete_is_reached fs s.fronts course.links.items cycle has.fronts ∙ reached cycle short

@@ -5,3 +5,4 @@ pub mod Courses
 pub mod Streams
 pub mod Laws
 pub mod Feeds
+pub mod Lookouts

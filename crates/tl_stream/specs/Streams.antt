@@ -1,8 +1,9 @@
 -- A stream as plain data, and the fragments that it accepted.
-use Rattle.std.specs.Prelude.{ℕ, ◌≡◌, ◌++◌, ◌≤◌, List, Option, Some, None, length, slice_get}
+use Rattle.std.specs.Prelude.{ℕ, ◌≡◌, ◌++◌, ◌<◌, ◌≤◌, ◌^◌, List, Option, Some, None, length, slice_get, nat_lt}
 use Rattle.std.specs.List.{Contains}
 use Rattle.tl_topology.specs.Regions.{Area}
 use Rattle.tl_topology.specs.Topology.{Topology, number_of_name}
+use Rattle.tl_topology.specs.declared.LinkDecl.{LinkDecl}
 use Rattle.tl_beats.specs.Fragments.{Frag}
 use Rattle.tl_beats.specs.declared.Row.{Row}
 use Rattle.tl_definitions.specs.Managers.{declared_links}
@@ -10,7 +11,7 @@ use Rattle.tl_definitions.specs.Positions.{Recorded, clients_of}
 use Rattle.tl_plain.specs.Captured.{areas_at}
 use Rattle.tl_windows.specs.Present.{recorded, put_in, IsPresent}
 use Rattle.tl_stream.specs.Courses.{AreCourses}
-use Rattle.tl_stream.specs.Fronts.{front_at, IsFrontOf}
+use Rattle.tl_stream.specs.Fronts.{front_at, past, is_complete, IsFrontOf}
 use Rattle.tl_stream.specs.Told.{told}
 use Rattle.tl_stream.specs.declared.course.Course.{Course}
 use Rattle.tl_stream.specs.declared.fault.StreamFault.{StreamFault}
@@ -77,3 +78,8 @@ IsCause fs topo f fault.Memory = Unit {0}
 abbrev pub Refuses : List Recorded → StreamData → Frag → StreamFault → StreamData → Type 0
 Refuses fs old f fault.Memory new = new.topo ≡ old.topo
 Refuses fs old f cause new = IsCause fs old.topo f cause × (new ≡ old)
+
+-- Exactly the cycles up to this one are complete on all links of the manager that has a link; none where there is none.
+abbrev pub IsThrough : StreamData → List Recorded → ℕ → Option ℕ → Type 0
+IsThrough s fs link through = (decl : LinkDecl) → slice_get (declared_links s.topo) link ≡ Some decl → (cycle : ℕ) → cycle < 2 ^ 64
+    → is_complete (clients_of decl.manager (declared_links s.topo)) fs cycle ≡ nat_lt cycle (past through)

@@ -64,7 +64,7 @@ impl Feed {
     }
 
     /// The bytes that no fragment had.
-    fn left(&self) -> &[u8]
+    pub(crate) fn left(&self) -> &[u8]
         ensures { result.now ≡ self.now }
     {
         &self.bytes[self.start..]

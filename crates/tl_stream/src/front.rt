@@ -1,6 +1,6 @@
 //! How far links have come.
 
-ghost use Rattle.std.specs.Prelude.{◌≡◌, ◌<◌, ◌^◌, ℕ, nat_lt};
+ghost use Rattle.std.specs.Prelude.{◌≡◌, ◌<◌, ◌^◌, ℕ, None, IfSome, nat_lt};
 ghost use Rattle.std.specs.List.{list_all};
 ghost use Rattle.tl_stream.specs.Fronts.{front_at, has_reached, past};
 
@@ -28,4 +28,16 @@ pub(crate) fn reached(fronts: &[Option<Front>], links: &[u16]) -> Option<u64>
         least = least.min(front.last);
     }
     Some(least)
+}
+
+/// The first of these links that has no front, if there is one.
+pub(crate) fn silent_of(fronts: &[Option<Front>], links: &[u16]) -> Option<u16>
+    ensures { IfSome result (λ link. front_at fronts.now link ≡ None) }
+{
+    for link in links {
+        if front_of(fronts, *link).is_none() {
+            return Some(*link);
+        }
+    }
+    None
 }

@@ -3,6 +3,7 @@
 ghost use Rattle.std.specs.Prelude.{◌≡◌, ◌<◌, ◌^◌, OnOk};
 
 use crate::feed::Feed;
+use crate::form::RowForm;
 use crate::teller::{TellFault, Teller};
 use std::alloc::Global;
 use tl_beats::{Fragment, FragmentFault};
@@ -12,16 +13,18 @@ use tl_text::{ByteIn, ByteOut, write_all};
 const MOST_READS: u64 = 1 << 61;
 
 /// Where the text of an input is at fault.
-#[derive(Clone, Copy, Debug, PartialEq, Eq)]
+#[derive(Drop)]
 pub struct StreamStop {
     /// The code of the fault.
     pub code: u8,
     /// The line of the input, from 1.
     pub line: u64,
+    /// What is noted after that.
+    pub notes: String,
 }
 
 /// What one more step on an input came to.
-#[derive(Clone, Copy)]
+#[derive(Drop)]
 enum Step {
     /// A fragment was read that ends with this cycle.
     Took(u64),
@@ -54,25 +57,29 @@ impl Place {
     }
 
     /// Where the fragment that comes next is at fault: on its first line where the fault names none.
-    fn stop_at(&self, fault: FragmentFault) -> StreamStop {
+    fn stop_at(&self, fault: FragmentFault, notes: String) -> StreamStop {
         let line = u64::from(fault.number().unwrap_or(1));
         StreamStop {
             code: fault.code(),
             line: self.lines.saturating_add(line),
+            notes,
         }
     }
 }
 
 /// Reads the next fragment of an input and writes what comes of it.
-fn take_step<I: ByteIn, O: ByteOut>(
+fn take_step<I: ByteIn, F: RowForm, O: ByteOut, E: ByteOut>(
     alloc: Global,
     place: &mut Place,
     input: &mut I,
-    teller: &mut Teller,
+    teller: &mut Teller<'_, F>,
     out: &mut O,
+    err: &mut E,
 ) -> Result<Step, TellFault>
-    requires { O.failure_count out.old < 2 ^ 63 }
-    ensures { OnOk result (O.failure_count out.new ≡ O.failure_count out.old) }
+    requires out { O.failure_count out.old < 2 ^ 63 }
+    requires err { E.failure_count err.old < 2 ^ 63 }
+    ensures quiet { OnOk result (O.failure_count out.new ≡ O.failure_count out.old) }
+    ensures err { E.failure_count err.new < 2 ^ 63 }
 {
     if input.reads() >= MOST_READS || input.failures() >= MOST_READS {
         return Ok(Step::Ended);
@@ -81,12 +88,15 @@ fn take_step<I: ByteIn, O: ByteOut>(
         Ok(Some(fragment)) => {
             let last = fragment.last();
             place.pass(&fragment);
-            teller.take(alloc, fragment, out)?;
+            teller.take(alloc, fragment, out, err)?;
             Ok(Step::Took(last))
         }
         Ok(None) => Ok(Step::Ended),
         Err(FragmentFault::Memory) => Err(TellFault::Memory),
-        Err(fault) => Ok(Step::Stopped(place.stop_at(fault))),
+        Err(fault) => {
+            let notes = teller.stop_notes(alloc, fault, place.feed.left());
+            Ok(Step::Stopped(place.stop_at(fault, notes)))
+        }
     }
 }
 
@@ -134,18 +144,21 @@ fn next_of<I: ByteIn>(sources: &[Source<I>]) -> Option<usize> {
 }
 
 /// Streams one input, up to its end or to the first fault of its text.
-pub fn stream_input<I: ByteIn, O: ByteOut>(
+pub fn stream_input<I: ByteIn, F: RowForm, O: ByteOut, E: ByteOut>(
     alloc: Global,
-    teller: &mut Teller,
+    teller: &mut Teller<'_, F>,
     input: &mut I,
     out: &mut O,
+    err: &mut E,
 ) -> Result<Option<StreamStop>, TellFault>
-    requires { O.failure_count out.old < 2 ^ 63 }
-    ensures { OnOk result (O.failure_count out.new ≡ O.failure_count out.old) }
+    requires out { O.failure_count out.old < 2 ^ 63 }
+    requires err { E.failure_count err.old < 2 ^ 63 }
+    ensures quiet { OnOk result (O.failure_count out.new ≡ O.failure_count out.old) }
+    ensures err { E.failure_count err.new < 2 ^ 63 }
 {
     let mut place = Place::new(alloc);
     for _ in 0..u64::MAX {
-        match take_step(alloc, &mut place, input, teller, out)? {
+        match take_step(alloc, &mut place, input, teller, out, err)? {
             Step::Took(_) => {}
             Step::Ended => return Ok(None),
             Step::Stopped(stop) => return Ok(Some(stop)),
@@ -155,20 +168,23 @@ pub fn stream_input<I: ByteIn, O: ByteOut>(
 }
 
 /// Streams several inputs, up to the ends of all or to the first fault of a text.
-pub fn stream_sources<I: ByteIn, O: ByteOut>(
+pub fn stream_sources<I: ByteIn, F: RowForm, O: ByteOut, E: ByteOut>(
     alloc: Global,
-    teller: &mut Teller,
+    teller: &mut Teller<'_, F>,
     sources: &mut [Source<I>],
     out: &mut O,
+    err: &mut E,
 ) -> Result<Option<StreamStop>, TellFault>
-    requires { O.failure_count out.old < 2 ^ 63 }
-    ensures { OnOk result (O.failure_count out.new ≡ O.failure_count out.old) }
+    requires out { O.failure_count out.old < 2 ^ 63 }
+    requires err { E.failure_count err.old < 2 ^ 63 }
+    ensures quiet { OnOk result (O.failure_count out.new ≡ O.failure_count out.old) }
+    ensures err { E.failure_count err.new < 2 ^ 63 }
 {
     for _ in 0..u64::MAX {
         let Some(source) = next_of(sources).and_then(|index| sources.get_mut(index)) else {
             return Ok(None);
         };
-        match take_step(alloc, &mut source.place, &mut source.input, teller, out)? {
+        match take_step(alloc, &mut source.place, &mut source.input, teller, out, err)? {
             Step::Took(last) => source.last = Some(last),
             Step::Ended => source.has_ended = true,
             Step::Stopped(stop) => return Ok(Some(stop)),
@@ -177,23 +193,50 @@ pub fn stream_sources<I: ByteIn, O: ByteOut>(
     Ok(None)
 }
 
-/// Writes the last line of a stream: where it stopped, or after the rows that are left what it came to. Answers how many rows were
-/// written where it came to its end, and None where it stopped.
-pub fn stream_end<O: ByteOut>(
+/// Writes the line of a stop, and what is noted after it.
+fn write_stop<O: ByteOut>(alloc: Global, stop: &StreamStop, out: &mut O) -> Result<(), TellFault>
+    requires { O.failure_count out.old < 2 ^ 63 }
+{
+    let code = stop.code;
+    let line = stop.line;
+    let notes = stop.notes.as_str();
+    let text = format!(in alloc; "stopped {code} {line}\n{notes}")?;
+    write_all(out, text.as_bytes())?;
+    Ok(())
+}
+
+/// Writes what a stream came to that reached its end, after the rows that are left and what else is told there.
+fn write_count<F: RowForm, O: ByteOut>(
     alloc: Global,
-    teller: Teller,
+    teller: Teller<'_, F>,
+    told: &str,
+    out: &mut O,
+) -> Result<u64, TellFault>
+    requires { O.failure_count out.old < 2 ^ 63 }
+{
+    let count = teller.end(alloc, out)?;
+    write_all(out, told.as_bytes())?;
+    let text = count.text(alloc)?;
+    write_all(out, text.as_bytes())?;
+    Ok(count.rows)
+}
+
+/// Writes the last line of a stream: where it stopped, or after the rows that are left and what else is told at the end what it came
+/// to. Answers how many rows were written where it came to its end, and None where it stopped.
+pub fn stream_end<F: RowForm, O: ByteOut>(
+    alloc: Global,
+    teller: Teller<'_, F>,
     stop: Option<StreamStop>,
+    told: &str,
     out: &mut O,
 ) -> Result<Option<u64>, TellFault>
     requires { O.failure_count out.old < 2 ^ 63 }
 {
-    if let Some(StreamStop { code, line }) = stop {
-        let text = format!(in alloc; "stopped {code} {line}\n")?;
-        write_all(out, text.as_bytes())?;
-        return Ok(None);
+    match stop {
+        Some(stop) => {
+            write_stop(alloc, &stop, out)?;
+            Ok(None)
+        }
+        None => Ok(Some(write_count(alloc, teller, told, out)?)),
     }
-    let count = teller.end(alloc, out)?;
-    let text = count.text(alloc)?;
-    write_all(out, text.as_bytes())?;
-    Ok(Some(count.rows))
 }

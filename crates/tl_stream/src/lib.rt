@@ -4,14 +4,18 @@
 mod course;
 mod fault;
 mod feed;
+mod form;
 mod front;
 mod inputs;
 pub mod laws;
+mod lookout;
 mod stream;
 mod teller;
 
 pub use fault::StreamFault;
 pub use feed::Feed;
+pub use form::RowForm;
 pub use inputs::{Source, StreamStop, stream_end, stream_input, stream_sources};
+pub use lookout::Lookout;
 pub use stream::Stream;
 pub use teller::{StreamCount, TellFault, Teller};

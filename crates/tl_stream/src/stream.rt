@@ -1,6 +1,7 @@
 //! A capture that comes in fragments.
 
-ghost use Rattle.std.specs.Prelude.{◌≡◌, ◌≤◌, ◌<◌, ◌⊎◌, ℕ, length, List, [], Some, true, is_some, IfOk, OnOk};
+ghost use Rattle.std.specs.Prelude.{◌≡◌, ◌≤◌, ◌<◌, ◌⊎◌, ℕ, length, List, [], Some, None, true, is_some, IfOk, IfSome, OnOk, slice_get};
+ghost use Rattle.std.specs.Option.{option_copied};
 ghost use Rattle.std.specs.Arc.{arc_value};
 ghost use Rattle.std.specs.List.{All, Contains};
 ghost use Rattle.std.specs.Result.{IsErrOf};
@@ -9,13 +10,13 @@ ghost use Rattle.tl_plain.specs.Captured.{areas_at};
 ghost use Rattle.tl_windows.specs.Present.{IsPresent};
 ghost use Rattle.tl_stream.specs.declared.fault.StreamFault.{StreamFault};
 ghost use Rattle.tl_stream.specs.Courses.{IsRunning, HasCome, HasEnded, Advances, AreNewRows, AreNewCourses, Loses};
-ghost use Rattle.tl_stream.specs.Fronts.{refusal_of};
-ghost use Rattle.tl_stream.specs.Streams.{HasAccepted, Accepts, Refuses, areas_in};
+ghost use Rattle.tl_stream.specs.Fronts.{refusal_of, IsFrontOf};
+ghost use Rattle.tl_stream.specs.Streams.{HasAccepted, Accepts, Refuses, IsThrough, areas_in};
 ghost use Rattle.tl_stream.specs.Told.{untold_of};
 
 use crate::course::Course;
 use crate::fault::StreamFault;
-use crate::front::{Front, front_of, reached};
+use crate::front::{Front, front_of, reached, silent_of};
 use std::alloc::{AllocError, Global};
 use std::marker::Model;
 use std::sync::Arc;
@@ -76,6 +77,13 @@ fn new_courses(alloc: Global, topo: &Topo) -> Result<Vec<Course>, AllocError>
         courses.push(Course::new(alloc, topo, manager as u16)?)?;
     }
     Ok(courses)
+}
+
+/// The course of a manager.
+fn course_of(courses: &[Course], manager: u16) -> Option<&Course>
+    ensures { option_copied result ≡ slice_get courses.now manager }
+{
+    courses.get(usize::from(manager))
 }
 
 /// Takes the fragments of these links that end by a cycle out of those that wait.
@@ -186,19 +194,22 @@ impl Stream {
         &self.topo
     }
 
-    /// The next fragment of its link: answers the rows of the beats that are complete with it, in the order of positions. A refused
-    /// fragment changes nothing: UnknownLink where the topology has no such link, NumberNotAbove where one of its number or a higher
-    /// one came, RangeNotAfter where its range does not begin after those that came. Memory where memory is refused: then the rows of
-    /// its manager are lost, and each further fragment of it is refused too.
-    pub fn accept(&mut self, alloc: Global, fragment: Fragment) -> Result<Vec<Row>, StreamFault>
-        ensures ok { (fs : List Recorded) → HasAccepted fs self.old → IfOk result (λ rows. Accepts fs self.old fragment self.new rows.items) }
+    /// Takes in a fragment, which is shared.
+    fn take_in(
+        &mut self,
+        alloc: Global,
+        fragment: &Fragment,
+        shared: Arc<Fragment>,
+    ) -> Result<Vec<Row>, StreamFault>
+        requires { arc_value shared ≡ fragment.now }
+        ensures ok { (fs : List Recorded) → HasAccepted fs self.old → IfOk result (λ rows. Accepts fs self.old fragment.now self.new rows.items) }
         ensures links { IfOk result (λ rows. All (λ row. row.link < length self.new.topo.links) rows.items) }
-        ensures err { (fs : List Recorded) (e : StreamFault) → HasAccepted fs self.old → IsErrOf result e → Refuses fs self.old fragment e self.new }
+        ensures err { (fs : List Recorded) (e : StreamFault) → HasAccepted fs self.old → IsErrOf result e → Refuses fs self.old fragment.now e self.new }
     {
         let Some(link) = self.topo.link_of(&fragment.link()) else {
             return Err(StreamFault::UnknownLink);
         };
-        if let Some(fault) = refusal(front_of(&self.fronts, link), &fragment) {
+        if let Some(fault) = refusal(front_of(&self.fronts, link), fragment) {
             return Err(fault);
         }
         let front = Front {
@@ -206,8 +217,9 @@ impl Stream {
             last: fragment.last(),
         };
         let manager = self.topo.link(link).unwrap().manager;
-        let fragment = Arc::new(alloc, fragment)?;
-        self.waiting.put(link, fragment)?;
+        self.waiting.put(link, shared)?;
+        // What is there is a fragment's.
+        let _ = self.waiting.is_empty();
         self.fronts[usize::from(link)] = Some(front);
         let course = &mut self.courses[usize::from(manager)];
         let rows = advance(
@@ -219,6 +231,42 @@ impl Stream {
             course,
         )?;
         Ok(rows)
+    }
+
+    /// The next fragment of its link: answers the rows of the beats that are complete with it, in the order of positions. A refused
+    /// fragment changes nothing: UnknownLink where the topology has no such link, NumberNotAbove where one of its number or a higher
+    /// one came, RangeNotAfter where its range does not begin after those that came. Memory where memory is refused: then the rows of
+    /// its manager are lost, and each further fragment of it is refused too.
+    pub fn accept(
+        &mut self,
+        alloc: Global,
+        fragment: Arc<Fragment>,
+    ) -> Result<Vec<Row>, StreamFault>
+        ensures ok { (fs : List Recorded) → HasAccepted fs self.old → IfOk result (λ rows. Accepts fs self.old (arc_value fragment) self.new rows.items) }
+        ensures links { IfOk result (λ rows. All (λ row. row.link < length self.new.topo.links) rows.items) }
+        ensures err { (fs : List Recorded) (e : StreamFault) → HasAccepted fs self.old → IsErrOf result e → Refuses fs self.old (arc_value fragment) e self.new }
+    {
+        let own = Arc::try_clone(&fragment)?;
+        self.take_in(alloc, &own, fragment)
+    }
+
+    /// The last cycle that is complete on all links of the manager of a link, if there is one: each of them has a fragment that ends
+    /// with it or after it.
+    pub fn complete(&self, link: u16) -> Option<u64>
+        ensures { (fs : List Recorded) → HasAccepted fs self.now → IsThrough self.now fs link result }
+    {
+        let manager = self.topo.link(link)?.manager;
+        let course = course_of(&self.courses, manager)?;
+        reached(&self.fronts, &course.links)
+    }
+
+    /// The first link of the manager of a link of which no fragment has come, if there is one.
+    pub fn silent(&self, link: u16) -> Option<u16>
+        ensures { (fs : List Recorded) → HasAccepted fs self.now → IfSome result (λ other. IsFrontOf other fs None) }
+    {
+        let manager = self.topo.link(link)?.manager;
+        let course = course_of(&self.courses, manager)?;
+        silent_of(&self.fronts, &course.links)
     }
 
     /// The rows of all beats that no fragment completed, one manager after the other, each in the order of positions. AllocError

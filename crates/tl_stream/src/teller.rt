@@ -1,17 +1,25 @@
 //! A stream whose rows are written as they are found.
 
-ghost use Rattle.std.specs.Prelude.{◌≡◌, ◌<◌, ◌^◌, OnOk, length};
+ghost use Rattle.std.specs.Prelude.{◌≡◌, ◌<◌, ◌^◌, IfOk, OnOk, length};
 ghost use Rattle.std.specs.List.{All};
 
 use crate::fault::StreamFault;
+use crate::form::RowForm;
+use crate::lookout::{Lookout, placed};
 use crate::stream::Stream;
 use std::alloc::{AllocError, AllocFailed, Global};
 use std::sync::Arc;
 use thiserror::Error;
-use tl_beats::{Fragment, Row};
-use tl_report::listed;
+use tl_beats::{Fragment, FragmentFault, Row, Watch};
 use tl_text::{ByteOut, WriteFault, write_all};
 use tl_topology::Topo;
+use tl_windows::Present;
+
+/// So many beats that wait for a link without a fragment that this is told.
+const MANY_BEATS: u64 = 1_000_000;
+
+/// So many writes that failed that none is tried any more.
+const MANY_FAILURES: u64 = (1 << 63) - 1;
 
 /// What a stream came to.
 #[derive(Clone, Copy, Debug, PartialEq, Eq)]
@@ -31,6 +39,18 @@ impl StreamCount {
         let beats = self.beats;
         let rows = self.rows;
         format!(in alloc; "stream fragments {fragments} beats {beats} rows {rows}\n")
+    }
+
+    /// Counts a fragment with its beats.
+    fn count_fragment(&mut self, fragment: &Fragment) {
+        let beats = fragment.beats().len() as u64;
+        self.fragments = self.fragments.saturating_add(1);
+        self.beats = self.beats.saturating_add(beats);
+    }
+
+    /// Counts rows.
+    fn count_rows(&mut self, rows: &[Row]) {
+        self.rows = self.rows.saturating_add(rows.len() as u64);
     }
 }
 
@@ -63,11 +83,17 @@ impl From<WriteFault> for TellFault {
     }
 }
 
-/// A stream, with what was written of it so far.
+/// A stream, with the watches of monitors over it, and what was written of it so far.
 #[derive(Drop)]
-pub struct Teller {
+pub struct Teller<'f, F: RowForm> {
     stream: Stream,
+    form: &'f F,
     count: StreamCount,
+    lookouts: Vec<Lookout>,
+    // The fragments whose rows may still come, where the form tells of their beats.
+    kept: Present,
+    // How many beats came of each manager while one of its links had no fragment.
+    waits: Vec<u64>,
 }
 
 /// The line of a refusal.
@@ -79,10 +105,12 @@ fn refused_text(alloc: Global, fault: StreamFault) -> Result<String, AllocError>
     }
 }
 
-/// Writes rows, a line for each.
-fn write_rows<O: ByteOut>(
+/// Writes rows in a form.
+fn write_rows<F: RowForm, O: ByteOut>(
     alloc: Global,
+    form: &F,
     topo: &Topo,
+    kept: &Present,
     rows: &[Row],
     out: &mut O,
 ) -> Result<(), TellFault>
@@ -90,22 +118,122 @@ fn write_rows<O: ByteOut>(
     requires out { O.failure_count out.old < 2 ^ 63 }
     ensures { OnOk result (O.failure_count out.new ≡ O.failure_count out.old) }
 {
-    let text = listed(alloc, topo, String::new(alloc), rows)?;
-    write_all(out, text.as_bytes())?;
+    if !rows.is_empty() {
+        let text = form.rows(alloc, topo, kept, rows)?;
+        write_all(out, text.as_bytes())?;
+    }
     Ok(())
 }
 
-impl Teller {
-    /// A stream of which nothing was written.
-    pub fn new(stream: Stream) -> Teller {
-        Teller {
+/// Keeps a fragment, if none that is kept has its number or a cycle of its range.
+fn keep(kept: &mut Present, link: u16, fragment: &Arc<Fragment>) -> Result<(), AllocError> {
+    if kept.get(link, fragment.number()).is_none() && kept.overlapped(link, fragment).is_none() {
+        kept.put(link, Arc::try_clone(fragment)?)?;
+    }
+    Ok(())
+}
+
+/// No longer keeps the fragments of a manager that end by a cycle.
+fn forget(kept: &mut Present, topo: &Topo, manager: u16, cycle: u64) {
+    for link in 0..topo.link_count() {
+        let link = link as u16;
+        if topo.link(link).is_some_and(|decl| decl.manager == manager) {
+            kept.drop_ended(link, cycle);
+        }
+    }
+}
+
+/// The rows that a watch flags of a fragment of its link.
+fn flagged_by(
+    alloc: Global,
+    link: u16,
+    fragment: &Arc<Fragment>,
+    lookout: &mut Lookout,
+) -> Result<Vec<Row>, AllocError> {
+    let beats = placed(alloc, link, fragment)?;
+    lookout.judge(alloc, &beats)
+}
+
+/// The rows that the watches of a link flag of a fragment, one watch after the other.
+fn flagged(
+    alloc: Global,
+    topo: &Topo,
+    link: u16,
+    fragment: &Arc<Fragment>,
+    lookouts: &mut [Lookout],
+) -> Result<Vec<Row>, AllocError> {
+    let mut rows = Vec::new(alloc);
+    for index in 0..lookouts.len() {
+        let lookout = &mut lookouts[index];
+        if topo.link_of(&lookout.watch.link()) == Some(link) {
+            let found = flagged_by(alloc, link, fragment, lookout)?;
+            rows.extend_from_slice(&found)?;
+        }
+    }
+    Ok(rows)
+}
+
+/// Writes rows that watches flag, each by itself.
+fn write_flagged<F: RowForm, O: ByteOut>(
+    alloc: Global,
+    form: &F,
+    topo: &Topo,
+    kept: &Present,
+    rows: &[Row],
+    out: &mut O,
+) -> Result<(), TellFault>
+    requires { O.failure_count out.old < 2 ^ 63 }
+    ensures { OnOk result (O.failure_count out.new ≡ O.failure_count out.old) }
+{
+    for row in rows {
+        if usize::from(row.link) < topo.link_count() {
+            write_rows(alloc, form, topo, kept, &[*row], out)?;
+        }
+    }
+    Ok(())
+}
+
+/// Tells that many beats wait for a link; that this can't be written changes nothing.
+fn tell_wait<E: ByteOut>(alloc: Global, topo: &Topo, silent: u16, err: &mut E)
+    requires { E.failure_count err.old < 2 ^ 63 }
+    ensures { E.failure_count err.new < 2 ^ 63 }
+{
+    let Some(decl) = topo.link(silent) else {
+        return;
+    };
+    let name = decl.name;
+    if let Ok(line) = format!(in alloc; "tlcheck: {MANY_BEATS} beats wait for link {name}, which has no fragment yet\n")
+        && err.failures() < MANY_FAILURES
+    {
+        let _ = write_all(err, line.as_bytes());
+    }
+}
+
+impl<'f, F: RowForm> Teller<'f, F> {
+    /// A stream of which nothing was written, in this form. AllocError where memory is refused.
+    pub fn new(alloc: Global, stream: Stream, form: &'f F) -> Result<Teller<'f, F>, AllocError> {
+        let mut waits = Vec::new(alloc);
+        for _ in 0..stream.topo().manager_count() {
+            waits.push(0)?;
+        }
+        Ok(Teller {
             stream,
+            form,
             count: StreamCount {
                 fragments: 0,
                 beats: 0,
                 rows: 0,
             },
-        }
+            lookouts: Vec::new(alloc),
+            kept: Present::new(alloc),
+            waits,
+        })
+    }
+
+    /// Watches the beats that come from now on too, for the monitor of this number. AllocError where memory is refused.
+    pub fn watch(&mut self, number: u32, watch: Watch) -> Result<(), AllocError> {
+        self.lookouts.push(Lookout::new(number, watch))?;
+        Ok(())
     }
 
     /// What it came to so far.
@@ -113,23 +241,32 @@ impl Teller {
         self.count
     }
 
-    /// The next fragment of its link: writes the rows of the beats that are complete with it, or the line of its refusal.
-    pub fn take<O: ByteOut>(
+    /// Notes after the line of a stop, at which the text of an input begins with no fragment.
+    pub(crate) fn stop_notes(&self, alloc: Global, fault: FragmentFault, text: &[u8]) -> String {
+        self.form.stop_notes(alloc, fault, text)
+    }
+
+    /// The next fragment of its link: writes the rows of the beats that are complete with it and those that the watches of its link
+    /// flag of it, or the line of its refusal. Where many beats wait for a link without a fragment, this is told on `err` once.
+    pub fn take<O: ByteOut, E: ByteOut>(
         &mut self,
         alloc: Global,
         fragment: Fragment,
         out: &mut O,
+        err: &mut E,
     ) -> Result<(), TellFault>
-        requires { O.failure_count out.old < 2 ^ 63 }
-        ensures { OnOk result (O.failure_count out.new ≡ O.failure_count out.old) }
+        requires out { O.failure_count out.old < 2 ^ 63 }
+        requires err { E.failure_count err.old < 2 ^ 63 }
+        ensures quiet { OnOk result (O.failure_count out.new ≡ O.failure_count out.old) }
+        ensures err { E.failure_count err.new < 2 ^ 63 }
     {
-        let beats = fragment.beats().len() as u64;
-        match self.stream.accept(alloc, fragment) {
+        let shared = Arc::new(alloc, fragment)?;
+        match self.stream.accept(alloc, Arc::try_clone(&shared)?) {
             Ok(rows) => {
-                self.count.fragments = self.count.fragments.saturating_add(1);
-                self.count.beats = self.count.beats.saturating_add(beats);
-                self.count.rows = self.count.rows.saturating_add(rows.len() as u64);
-                write_rows(alloc, self.stream.topo(), &rows, out)
+                let link = self.stream.topo().link_of(&shared.link()).unwrap_or(0);
+                self.tell(alloc, link, &shared, &rows, out)?;
+                self.wait(alloc, link, &shared, err);
+                Ok(())
             }
             Err(StreamFault::Memory) => Err(TellFault::Memory),
             Err(fault) => {
@@ -140,16 +277,76 @@ impl Teller {
         }
     }
 
+    /// Writes what is to be told of a fragment of this link that was accepted, with which these rows are complete.
+    fn tell<O: ByteOut>(
+        &mut self,
+        alloc: Global,
+        link: u16,
+        fragment: &Arc<Fragment>,
+        rows: &[Row],
+        out: &mut O,
+    ) -> Result<(), TellFault>
+        requires rows { All (λ row. row.link < length self.old.stream.topo.links) rows.now }
+        requires out { O.failure_count out.old < 2 ^ 63 }
+        ensures { OnOk result (O.failure_count out.new ≡ O.failure_count out.old) }
+    {
+        let topo = self.stream.topo();
+        let found = flagged(alloc, topo, link, fragment, &mut self.lookouts)?;
+        if self.form.has_beats() {
+            keep(&mut self.kept, link, fragment)?;
+        }
+        write_rows(alloc, self.form, topo, &self.kept, rows, out)?;
+        write_flagged(alloc, self.form, topo, &self.kept, &found, out)?;
+        self.count.count_fragment(fragment);
+        self.count.count_rows(rows);
+        self.count.count_rows(&found);
+        if let (Some(cycle), Some(decl)) = (self.stream.complete(link), topo.link(link)) {
+            forget(&mut self.kept, topo, decl.manager, cycle);
+        }
+        Ok(())
+    }
+
+    /// Counts the beats of a fragment of this link among those that wait for a link without one.
+    fn wait<E: ByteOut>(
+        &mut self,
+        alloc: Global,
+        link: u16,
+        fragment: &Arc<Fragment>,
+        err: &mut E,
+    )
+        requires { E.failure_count err.old < 2 ^ 63 }
+        ensures { E.failure_count err.new < 2 ^ 63 }
+    {
+        let topo = self.stream.topo();
+        let (Some(silent), Some(decl)) = (self.stream.silent(link), topo.link(link)) else {
+            return;
+        };
+        let Some(wait) = self.waits.get_mut(usize::from(decl.manager)) else {
+            return;
+        };
+        let before = *wait;
+        *wait = before.saturating_add(fragment.beats().len() as u64);
+        if before < MANY_BEATS && *wait >= MANY_BEATS {
+            tell_wait(alloc, topo, silent, err);
+        }
+    }
+
     /// Writes the rows of all beats that no fragment completed, and answers what the stream came to.
     pub fn end<O: ByteOut>(self, alloc: Global, out: &mut O) -> Result<StreamCount, TellFault>
         requires { O.failure_count out.old < 2 ^ 63 }
         ensures { OnOk result (O.failure_count out.new ≡ O.failure_count out.old) }
     {
-        let topo = Arc::try_clone(self.stream.shared_topo())?;
-        let mut count = self.count;
-        let rows = self.stream.end(alloc)?;
-        write_rows(alloc, &topo, &rows, out)?;
-        count.rows = count.rows.saturating_add(rows.len() as u64);
+        let Teller {
+            stream,
+            form,
+            mut count,
+            kept,
+            ..
+        } = self;
+        let topo = Arc::try_clone(stream.shared_topo())?;
+        let rows = stream.end(alloc)?;
+        write_rows(alloc, form, &topo, &kept, &rows, out)?;
+        count.count_rows(&rows);
         Ok(count)
     }
 }

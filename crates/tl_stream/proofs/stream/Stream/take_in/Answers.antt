@@ -7,7 +7,7 @@ use Rattle.std.specs.Result.{IsErrOf}
 use Rattle.std.proofs.lemmas.Option.{slice_get-map, slice_get-get_or}
 use Rattle.tl_topology.specs.Topology.{Topology, number_of_name}
 use Rattle.tl_topology.specs.declared.LinkDecl.{LinkDecl}
-use Rattle.tl_beats.specs.Fragments.{Frag, IsFragment}
+use Rattle.tl_beats.specs.Fragments.{Frag}
 use Rattle.tl_beats.specs.declared.Row.{Row}
 use Rattle.tl_definitions.specs.Managers.{declared_links}
 use Rattle.tl_definitions.specs.Positions.{Recorded}
@@ -20,8 +20,8 @@ use Rattle.tl_stream.specs.declared.course.Course.{Course}
 use Rattle.tl_stream.specs.declared.fault.StreamFault.{StreamFault}
 use Rattle.tl_stream.specs.declared.front.Front.{Front}
 use Rattle.tl_stream.proofs.AcceptLemmas as lemmas
-use Rattle.tl_stream.proofs.AcceptLemmas.{fresh, refused, room_for}
-use Rattle.tl_stream.proofs.stream.Stream.accept.Goals as goal
+use Rattle.tl_stream.proofs.AcceptLemmas.{IsTimed, timed, fresh, refused, room_for}
+use Rattle.tl_stream.proofs.stream.Stream.take_in.Goals as goal
 
 err_is : (x e : StreamFault) → IsErrOf {T = Vec Row Global} (Err x) e → x ≡ e
 err_is x e is = cc
@@ -30,7 +30,7 @@ pub returns-in-Some-refusal-clause-err : goal.returns-in-Some-refusal-clause-err
 returns-in-Some-refusal-clause-err c fs e has is =
     let old : StreamData = record { topo = arc_value c.self.inside.topo; regions = c.self.inside.regions.items; fronts = c.self.inside.fronts.items; waiting = c.self.inside.waiting; courses = c.self.inside.courses.items } in
     let link : ℕ = c.in-Some.link in
-    let f : Frag = c.args.fragment in
+    let f : Frag = c.args.fragment.now in
     let at : c.front_of.result ≡ front_at old.fronts link = c.front_of.ensures ∙ ap (λ fronts. front_at fronts link) c.deref-2.ensures.value in
     let named : number_of_name old.topo.links f.link ≡ Some link =
     ap (λ (t : Topology). number_of_name t.links f.link) (sym c.deref.ensures) ∙ ap (number_of_name c.deref.result.now.links) (sym c.link.ensures) ∙ sym c.link_of.ensures.exact ∙ c.in-Some.is in
@@ -41,33 +41,33 @@ pub put-requires-clause-absent : goal.put-requires-clause-absent
 put-requires-clause-absent c =
     let old : StreamData = record { topo = arc_value c.self.inside.topo; regions = c.self.inside.regions.items; fronts = c.self.inside.fronts.items; waiting = c.self.inside.waiting; courses = c.self.inside.courses.items } in
     let link : ℕ = c.in-Some.link in
-    let f : Frag = c.args.fragment in
+    let f : Frag = c.args.fragment.now in
     let at : c.front_of.result ≡ front_at old.fronts link = c.front_of.ensures ∙ ap (λ fronts. front_at fronts link) c.deref-2.ensures.value in
     let named : number_of_name old.topo.links f.link ≡ Some link =
     ap (λ (t : Topology). number_of_name t.links f.link) (sym c.deref.ensures) ∙ ap (number_of_name c.deref.result.now.links) (sym c.link.ensures) ∙ sym c.link_of.ensures.exact ∙ c.in-Some.is in
     let fs : List Recorded = c.self.invariant.0 in
     let has : HasAccepted fs old = c.self.invariant.1 in
     let free : refusal_of c.front_of.result f ≡ None = sym c.refusal.ensures ∙ c.in_default-refusal.is in
-    subst (λ (g : Frag). numbered link g.number old.waiting ≡ None) (sym c.in_ok-fragment.ensures.ok) (room_for fs old (recorded link f) has (fresh fs old link f c.front_of.result has at free)).0
+    subst (λ (g : Frag). numbered link g.number old.waiting ≡ None) (sym c.requires) (room_for fs old (recorded link f) has (fresh fs old link f c.front_of.result has at free)).0
 
 pub put-requires-clause-free : goal.put-requires-clause-free
 put-requires-clause-free c =
     let old : StreamData = record { topo = arc_value c.self.inside.topo; regions = c.self.inside.regions.items; fronts = c.self.inside.fronts.items; waiting = c.self.inside.waiting; courses = c.self.inside.courses.items } in
     let link : ℕ = c.in-Some.link in
-    let f : Frag = c.args.fragment in
+    let f : Frag = c.args.fragment.now in
     let at : c.front_of.result ≡ front_at old.fronts link = c.front_of.ensures ∙ ap (λ fronts. front_at fronts link) c.deref-2.ensures.value in
     let named : number_of_name old.topo.links f.link ≡ Some link =
     ap (λ (t : Topology). number_of_name t.links f.link) (sym c.deref.ensures) ∙ ap (number_of_name c.deref.result.now.links) (sym c.link.ensures) ∙ sym c.link_of.ensures.exact ∙ c.in-Some.is in
     let fs : List Recorded = c.self.invariant.0 in
     let has : HasAccepted fs old = c.self.invariant.1 in
     let free : refusal_of c.front_of.result f ≡ None = sym c.refusal.ensures ∙ c.in_default-refusal.is in
-    subst (λ (g : Frag). overlapped (recorded link g) old.waiting ≡ None) (sym c.in_ok-fragment.ensures.ok) (room_for fs old (recorded link f) has (fresh fs old link f c.front_of.result has at free)).1
+    subst (λ (g : Frag). overlapped (recorded link g) old.waiting ≡ None) (sym c.requires) (room_for fs old (recorded link f) has (fresh fs old link f c.front_of.result has at free)).1
 
 pub advance-requires : goal.advance-requires
 advance-requires c =
     let old : StreamData = record { topo = arc_value c.self.inside.topo; regions = c.self.inside.regions.items; fronts = c.self.inside.fronts.items; waiting = c.self.inside.waiting; courses = c.self.inside.courses.items } in
     let link : ℕ = c.in-Some.link in
-    let f : Frag = c.args.fragment in
+    let f : Frag = c.args.fragment.now in
     let at : c.front_of.result ≡ front_at old.fronts link = c.front_of.ensures ∙ ap (λ fronts. front_at fronts link) c.deref-2.ensures.value in
     let named : number_of_name old.topo.links f.link ≡ Some link =
     ap (λ (t : Topology). number_of_name t.links f.link) (sym c.deref.ensures) ∙ ap (number_of_name c.deref.result.now.links) (sym c.link.ensures) ∙ sym c.link_of.ensures.exact ∙ c.in-Some.is in
@@ -88,7 +88,7 @@ pub invariant_of-self-in_err-rows : goal.invariant_of-self-in_err-rows
 invariant_of-self-in_err-rows c =
     let old : StreamData = record { topo = arc_value c.self.inside.topo; regions = c.self.inside.regions.items; fronts = c.self.inside.fronts.items; waiting = c.self.inside.waiting; courses = c.self.inside.courses.items } in
     let link : ℕ = c.in-Some.link in
-    let f : Frag = c.args.fragment in
+    let f : Frag = c.args.fragment.now in
     let at : c.front_of.result ≡ front_at old.fronts link = c.front_of.ensures ∙ ap (λ fronts. front_at fronts link) c.deref-2.ensures.value in
     let named : number_of_name old.topo.links f.link ≡ Some link =
     ap (λ (t : Topology). number_of_name t.links f.link) (sym c.deref.ensures) ∙ ap (number_of_name c.deref.result.now.links) (sym c.link.ensures) ∙ sym c.link_of.ensures.exact ∙ c.in-Some.is in
@@ -105,14 +105,14 @@ invariant_of-self-in_err-rows c =
     let declared : slice_get (declared_links old.topo) link ≡ Some decl =
     slice_get-map (λ p. p.1) old.topo.links link ∙ ap (λ (t : Topology). option_map (λ (p : List ℕ × LinkDecl). p.1) (slice_get t.links link)) (sym c.deref-3.ensures) ∙ sym c.link-2.ensures.exact ∙ ap option_copied c.unwrap.ensures in
     let front : Front = record { number = c.number.result; last = c.last.result } in
-    let is : IsFragment f = subst IsFragment c.fragment.view_is c.fragment.invariant in
+    let is : IsTimed f = timed link c.last.result f (arc_value c.args.shared) old.waiting c.put.new.self c.requires c.in_ok-put.ensures.ok c.is_empty.ensures.kept c.last.ensures.exact c.last.type_inv in
     let its : course_at old decl.manager ≡ Some course = subst (λ k. course_at old k ≡ Some course) c.from-2.ensures there in
     let within : link < length old.fronts = (let less = c.in-Some.ensures.within in let links = ap (λ (t : Topology). length t.links) c.deref.ensures in let all = has.links in omega (arith, less, links, all)) in
     let newer = fresh fs old link f c.front_of.result has at free in
     let come : List Recorded = put_in (recorded link f) fs in
     let coming = lemmas.come_in old link f decl course front named declared is its c.number.ensures c.last.ensures.exact within fs has newer in
     let fronts : set old.fronts link (Some front) ≡ c.deref-6.result.now = ap (λ k. set old.fronts k (Some front)) (sym c.from.ensures) ∙ sym c.deref-6.ensures.value in
-    let waiting : put_in (recorded link f) old.waiting ≡ c.put.new.self = ap (λ (g : Frag). put_in (recorded link g) old.waiting) (sym c.in_ok-fragment.ensures.ok) ∙ sym c.in_ok-put.ensures.ok in
+    let waiting : put_in (recorded link f) old.waiting ≡ c.put.new.self = ap (λ (g : Frag). put_in (recorded link g) old.waiting) (sym c.requires) ∙ sym c.in_ok-put.ensures.ok in
     let advanced = lemmas.moved_advance old.topo c.deref-4.result.now (areas_in old course.manager) (areas_at c.deref-5.result.now course.manager) (set old.fronts link (Some front)) c.deref-6.result.now
     (put_in (recorded link f) old.waiting) c.put.new.self come course (sym c.deref-4.ensures) (ap (λ rs. areas_at rs course.manager) (sym c.deref-5.ensures.value)) fronts waiting coming
     c.advance.new.course c.advance.new.waiting (c.advance.ensures.all come) in (
@@ -126,7 +126,7 @@ pub invariant_of-self-2 : goal.invariant_of-self-2
 invariant_of-self-2 c =
     let old : StreamData = record { topo = arc_value c.self.inside.topo; regions = c.self.inside.regions.items; fronts = c.self.inside.fronts.items; waiting = c.self.inside.waiting; courses = c.self.inside.courses.items } in
     let link : ℕ = c.in-Some.link in
-    let f : Frag = c.args.fragment in
+    let f : Frag = c.args.fragment.now in
     let at : c.front_of.result ≡ front_at old.fronts link = c.front_of.ensures ∙ ap (λ fronts. front_at fronts link) c.deref-2.ensures.value in
     let named : number_of_name old.topo.links f.link ≡ Some link =
     ap (λ (t : Topology). number_of_name t.links f.link) (sym c.deref.ensures) ∙ ap (number_of_name c.deref.result.now.links) (sym c.link.ensures) ∙ sym c.link_of.ensures.exact ∙ c.in-Some.is in
@@ -143,14 +143,14 @@ invariant_of-self-2 c =
     let declared : slice_get (declared_links old.topo) link ≡ Some decl =
     slice_get-map (λ p. p.1) old.topo.links link ∙ ap (λ (t : Topology). option_map (λ (p : List ℕ × LinkDecl). p.1) (slice_get t.links link)) (sym c.deref-3.ensures) ∙ sym c.link-2.ensures.exact ∙ ap option_copied c.unwrap.ensures in
     let front : Front = record { number = c.number.result; last = c.last.result } in
-    let is : IsFragment f = subst IsFragment c.fragment.view_is c.fragment.invariant in
+    let is : IsTimed f = timed link c.last.result f (arc_value c.args.shared) old.waiting c.put.new.self c.requires c.in_ok-put.ensures.ok c.is_empty.ensures.kept c.last.ensures.exact c.last.type_inv in
     let its : course_at old decl.manager ≡ Some course = subst (λ k. course_at old k ≡ Some course) c.from-2.ensures there in
     let within : link < length old.fronts = (let less = c.in-Some.ensures.within in let links = ap (λ (t : Topology). length t.links) c.deref.ensures in let all = has.links in omega (arith, less, links, all)) in
     let newer = fresh fs old link f c.front_of.result has at free in
     let come : List Recorded = put_in (recorded link f) fs in
     let coming = lemmas.come_in old link f decl course front named declared is its c.number.ensures c.last.ensures.exact within fs has newer in
     let fronts : set old.fronts link (Some front) ≡ c.deref-6.result.now = ap (λ k. set old.fronts k (Some front)) (sym c.from.ensures) ∙ sym c.deref-6.ensures.value in
-    let waiting : put_in (recorded link f) old.waiting ≡ c.put.new.self = ap (λ (g : Frag). put_in (recorded link g) old.waiting) (sym c.in_ok-fragment.ensures.ok) ∙ sym c.in_ok-put.ensures.ok in
+    let waiting : put_in (recorded link f) old.waiting ≡ c.put.new.self = ap (λ (g : Frag). put_in (recorded link g) old.waiting) (sym c.requires) ∙ sym c.in_ok-put.ensures.ok in
     let advanced = lemmas.moved_advance old.topo c.deref-4.result.now (areas_in old course.manager) (areas_at c.deref-5.result.now course.manager) (set old.fronts link (Some front)) c.deref-6.result.now
     (put_in (recorded link f) old.waiting) c.put.new.self come course (sym c.deref-4.ensures) (ap (λ rs. areas_at rs course.manager) (sym c.deref-5.ensures.value)) fronts waiting coming
     c.advance.new.course c.advance.new.waiting (c.advance.ensures.all come) in (
@@ -164,7 +164,7 @@ pub returns-clause-ok : goal.returns-clause-ok
 returns-clause-ok c fs had =
     let old : StreamData = record { topo = arc_value c.self.inside.topo; regions = c.self.inside.regions.items; fronts = c.self.inside.fronts.items; waiting = c.self.inside.waiting; courses = c.self.inside.courses.items } in
     let link : ℕ = c.in-Some.link in
-    let f : Frag = c.args.fragment in
+    let f : Frag = c.args.fragment.now in
     let at : c.front_of.result ≡ front_at old.fronts link = c.front_of.ensures ∙ ap (λ fronts. front_at fronts link) c.deref-2.ensures.value in
     let named : number_of_name old.topo.links f.link ≡ Some link =
     ap (λ (t : Topology). number_of_name t.links f.link) (sym c.deref.ensures) ∙ ap (number_of_name c.deref.result.now.links) (sym c.link.ensures) ∙ sym c.link_of.ensures.exact ∙ c.in-Some.is in
@@ -180,14 +180,14 @@ returns-clause-ok c fs had =
     let declared : slice_get (declared_links old.topo) link ≡ Some decl =
     slice_get-map (λ p. p.1) old.topo.links link ∙ ap (λ (t : Topology). option_map (λ (p : List ℕ × LinkDecl). p.1) (slice_get t.links link)) (sym c.deref-3.ensures) ∙ sym c.link-2.ensures.exact ∙ ap option_copied c.unwrap.ensures in
     let front : Front = record { number = c.number.result; last = c.last.result } in
-    let is : IsFragment f = subst IsFragment c.fragment.view_is c.fragment.invariant in
+    let is : IsTimed f = timed link c.last.result f (arc_value c.args.shared) old.waiting c.put.new.self c.requires c.in_ok-put.ensures.ok c.is_empty.ensures.kept c.last.ensures.exact c.last.type_inv in
     let its : course_at old decl.manager ≡ Some course = subst (λ k. course_at old k ≡ Some course) c.from-2.ensures there in
     let within : link < length old.fronts = (let less = c.in-Some.ensures.within in let links = ap (λ (t : Topology). length t.links) c.deref.ensures in let all = has.links in omega (arith, less, links, all)) in
     let newer = fresh fs old link f c.front_of.result has at free in
     let come : List Recorded = put_in (recorded link f) fs in
     let coming = lemmas.come_in old link f decl course front named declared is its c.number.ensures c.last.ensures.exact within fs has newer in
     let fronts : set old.fronts link (Some front) ≡ c.deref-6.result.now = ap (λ k. set old.fronts k (Some front)) (sym c.from.ensures) ∙ sym c.deref-6.ensures.value in
-    let waiting : put_in (recorded link f) old.waiting ≡ c.put.new.self = ap (λ (g : Frag). put_in (recorded link g) old.waiting) (sym c.in_ok-fragment.ensures.ok) ∙ sym c.in_ok-put.ensures.ok in
+    let waiting : put_in (recorded link f) old.waiting ≡ c.put.new.self = ap (λ (g : Frag). put_in (recorded link g) old.waiting) (sym c.requires) ∙ sym c.in_ok-put.ensures.ok in
     let advanced = lemmas.moved_advance old.topo c.deref-4.result.now (areas_in old course.manager) (areas_at c.deref-5.result.now course.manager) (set old.fronts link (Some front)) c.deref-6.result.now
     (put_in (recorded link f) old.waiting) c.put.new.self come course (sym c.deref-4.ensures) (ap (λ rs. areas_at rs course.manager) (sym c.deref-5.ensures.value)) fronts waiting coming
     c.advance.new.course c.advance.new.waiting (c.advance.ensures.all come) in
@@ -204,7 +204,7 @@ pub returns-clause-links : goal.returns-clause-links
 returns-clause-links c =
     let old : StreamData = record { topo = arc_value c.self.inside.topo; regions = c.self.inside.regions.items; fronts = c.self.inside.fronts.items; waiting = c.self.inside.waiting; courses = c.self.inside.courses.items } in
     let link : ℕ = c.in-Some.link in
-    let f : Frag = c.args.fragment in
+    let f : Frag = c.args.fragment.now in
     let at : c.front_of.result ≡ front_at old.fronts link = c.front_of.ensures ∙ ap (λ fronts. front_at fronts link) c.deref-2.ensures.value in
     let named : number_of_name old.topo.links f.link ≡ Some link =
     ap (λ (t : Topology). number_of_name t.links f.link) (sym c.deref.ensures) ∙ ap (number_of_name c.deref.result.now.links) (sym c.link.ensures) ∙ sym c.link_of.ensures.exact ∙ c.in-Some.is in
@@ -221,14 +221,14 @@ returns-clause-links c =
     let declared : slice_get (declared_links old.topo) link ≡ Some decl =
     slice_get-map (λ p. p.1) old.topo.links link ∙ ap (λ (t : Topology). option_map (λ (p : List ℕ × LinkDecl). p.1) (slice_get t.links link)) (sym c.deref-3.ensures) ∙ sym c.link-2.ensures.exact ∙ ap option_copied c.unwrap.ensures in
     let front : Front = record { number = c.number.result; last = c.last.result } in
-    let is : IsFragment f = subst IsFragment c.fragment.view_is c.fragment.invariant in
+    let is : IsTimed f = timed link c.last.result f (arc_value c.args.shared) old.waiting c.put.new.self c.requires c.in_ok-put.ensures.ok c.is_empty.ensures.kept c.last.ensures.exact c.last.type_inv in
     let its : course_at old decl.manager ≡ Some course = subst (λ k. course_at old k ≡ Some course) c.from-2.ensures there in
     let within : link < length old.fronts = (let less = c.in-Some.ensures.within in let links = ap (λ (t : Topology). length t.links) c.deref.ensures in let all = has.links in omega (arith, less, links, all)) in
     let newer = fresh fs old link f c.front_of.result has at free in
     let come : List Recorded = put_in (recorded link f) fs in
     let coming = lemmas.come_in old link f decl course front named declared is its c.number.ensures c.last.ensures.exact within fs has newer in
     let fronts : set old.fronts link (Some front) ≡ c.deref-6.result.now = ap (λ k. set old.fronts k (Some front)) (sym c.from.ensures) ∙ sym c.deref-6.ensures.value in
-    let waiting : put_in (recorded link f) old.waiting ≡ c.put.new.self = ap (λ (g : Frag). put_in (recorded link g) old.waiting) (sym c.in_ok-fragment.ensures.ok) ∙ sym c.in_ok-put.ensures.ok in
+    let waiting : put_in (recorded link f) old.waiting ≡ c.put.new.self = ap (λ (g : Frag). put_in (recorded link g) old.waiting) (sym c.requires) ∙ sym c.in_ok-put.ensures.ok in
     let advanced = lemmas.moved_advance old.topo c.deref-4.result.now (areas_in old course.manager) (areas_at c.deref-5.result.now course.manager) (set old.fronts link (Some front)) c.deref-6.result.now
     (put_in (recorded link f) old.waiting) c.put.new.self come course (sym c.deref-4.ensures) (ap (λ rs. areas_at rs course.manager) (sym c.deref-5.ensures.value)) fronts waiting coming
     c.advance.new.course c.advance.new.waiting (c.advance.ensures.all come) in

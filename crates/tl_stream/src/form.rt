@@ -1,0 +1,58 @@
+//! How the rows of a stream are written.
+
+ghost use Rattle.std.specs.Prelude.{◌<◌, Bool, [], false, IfOk, length, string_bytes};
+ghost use Rattle.std.specs.List.{All, flat_map};
+ghost use Rattle.tl_report.specs.Notes.{Tells};
+ghost use Rattle.tl_report.specs.Output.{row_text};
+
+use std::alloc::{AllocError, Global};
+use tl_beats::{FragmentFault, Row};
+use tl_report::{Plain, listed};
+use tl_topology::Topo;
+use tl_windows::Present;
+
+/// How the rows of a stream are written: their lines alone, or with notes.
+pub trait RowForm {
+    /// Whether there are notes.
+    ghost noted: { Bool };
+
+    /// Whether notes tell of the beats of rows, whose fragments are then kept until their rows are written.
+    fn has_beats(&self) -> bool;
+
+    /// The text of rows of a topology that has their links. AllocError where memory is refused.
+    fn rows(
+        &self,
+        alloc: Global,
+        topo: &Topo,
+        kept: &Present,
+        rows: &[Row],
+    ) -> Result<String, AllocError>
+        requires { All (λ row. row.link < length topo.now.links) rows.now }
+        ensures { IfOk result (λ text. Tells noted (flat_map (row_text topo.now) rows.now) (string_bytes text)) };
+
+    /// Notes after the line of a stop, at which the text of an input begins with no fragment; none where memory is refused.
+    fn stop_notes(&self, alloc: Global, fault: FragmentFault, text: &[u8]) -> String
+        ensures { Tells noted [] (string_bytes result) };
+}
+
+impl RowForm for Plain {
+    ghost noted = { false };
+
+    fn has_beats(&self) -> bool {
+        false
+    }
+
+    fn rows(
+        &self,
+        alloc: Global,
+        topo: &Topo,
+        _kept: &Present,
+        rows: &[Row],
+    ) -> Result<String, AllocError> {
+        listed(alloc, topo, String::new(alloc), rows)
+    }
+
+    fn stop_notes(&self, alloc: Global, _fault: FragmentFault, _text: &[u8]) -> String {
+        String::new(alloc)
+    }
+}

@@ -212,16 +212,25 @@ fn workers<'a>(alloc: Global) -> Arg<'a> {
         alloc,
         "workers",
         "N",
-        "How many threads check windows beside the first, 0 to 16; 0 without this option",
+        "How many threads check windows beside the first, 0 to 16; 0 without this option, and with - for the script",
     )
     .value_parser(ValueParser::unsigned(0, MOST_WORKERS))
+}
+
+fn run_script<'a>(alloc: Global) -> Arg<'a> {
+    word(
+        alloc,
+        "SCRIPT",
+        "Path of the script, at most 67,108,864 bytes; - for standard input, of any length, each command of which is carried out as it \
+comes",
+    )
 }
 
 fn run<'a>(alloc: Global) -> Draft<'a> {
     let about = "Runs a script of edits and publishes, and writes what each comes to";
     let run = described(alloc, "run", about, RUN_EXAMPLE)
         .arg(topology(alloc))
-        .arg(script(alloc))
+        .arg(run_script(alloc))
         .arg(workers(alloc));
     with_how(alloc, run)
 }
@@ -319,7 +328,7 @@ const HELP: &str =
     "tlcheck once TOPO FRAGMENT.. checks the fragments of a capture together, from files: TOPO is a topology text \
 of at most 1,048,576 bytes, each FRAGMENT a fragment text of at most 8,388,608 bytes.\n\
 tlcheck run TOPO SCRIPT runs a script of at most 67,108,864 bytes: edits of fragments, regions and monitors, and \
-reports between them. tlcheck audit TOPO SCRIPT EDIT checks anew what its first EDIT accepted edits leave.\n\
+reports between them; with - for SCRIPT commands are carried out as they come. tlcheck audit TOPO SCRIPT EDIT checks anew what its first EDIT accepted edits leave.\n\
 tlcheck stream TOPO [FILE..] checks fragments as they come: of each link with rising numbers and ranges, as long as they come.\n\
 Without words tlcheck reads a topology and a script right behind it from standard input, at most 67,108,864 bytes, \
 and does as run.\n\n\
@@ -391,15 +400,37 @@ fn once_asked<'a>(
     })
 }
 
-/// The script and the number of workers that the words of `run` name.
-fn run_asked<'a>(found: &ArgMatches<'a>) -> Command<'a> {
+/// Refuses what the words of `run` can't have for a script from standard input: workers and a summary.
+fn refuse_beside_input(
+    program: &mut clap::Command<'_>,
+    found: &ArgMatches<'_>,
+    workers: u64,
+) -> Result<(), Error> {
+    if found.get_str("SCRIPT") != Some("-") {
+        return Ok(());
+    }
+    if workers > 0 {
+        return Err(refusal(program, "--workers wants the script in a file")?);
+    }
+    if found.get_flag("summary") {
+        return Err(refusal(program, "--summary wants the script in a file")?);
+    }
+    Ok(())
+}
+
+/// What the words of `run` ask for.
+fn run_asked<'a>(
+    program: &mut clap::Command<'a>,
+    found: &ArgMatches<'a>,
+) -> Result<Command<'a>, Error> {
     let workers = found.get_one("workers").unwrap_or(0);
-    Command::Run {
+    refuse_beside_input(program, found, workers)?;
+    Ok(Command::Run {
         topology: found.get_str("TOPO").unwrap_or(""),
         script: found.get_str("SCRIPT").unwrap_or(""),
         workers: u8::try_from(workers).unwrap_or(0),
         how: how_asked(found),
-    }
+    })
 }
 
 /// What the words of `audit` ask for.
@@ -451,7 +482,7 @@ fn command_named<'a>(
     found: &ArgMatches<'a>,
 ) -> Result<Command<'a>, Error> {
     if name == "run" {
-        Ok(run_asked(found))
+        run_asked(program, found)
     } else if name == "audit" {
         audit_asked(alloc, program, found)
     } else if name == "stream" {

@@ -1,6 +1,7 @@
 //! The program without its process: it does what the words of the command line ask for.
 #![tactic(auto)]
 
+mod coming;
 mod monitors;
 mod run;
 mod screen;

@@ -3,6 +3,7 @@
 ghost use Rattle.std.specs.Prelude.{◌≡◌, ◌<◌, ◌≤◌, ◌^◌};
 ghost use Rattle.tl_cli.specs.Status.{status_of};
 
+use crate::coming::run_of_coming;
 use crate::screen::Screen;
 use crate::scripts::{run_of_files, run_of_input};
 use std::alloc::Global;
@@ -459,6 +460,12 @@ fn do_command<R: Files + Threads + Wait + Sync + AllocGlobal + Clone + Drop, I: 
             how,
             view,
         } => once_of_files(rt, *topology, fragments, screen.how(*how), view, out),
+        Command::Run {
+            topology,
+            script: "-",
+            how,
+            ..
+        } => run_of_coming(rt, *topology, input, screen.how(*how), out),
         Command::Run {
             topology,
             script,

@@ -22,13 +22,13 @@ use tl_workers::{Script, run_with, show_with};
 
 /// A script that is run.
 #[derive(Clone, Copy)]
-struct ScriptRun<'a> {
+pub(crate) struct ScriptRun<'a> {
     /// The topology that it runs on.
-    topo: &'a Topo,
+    pub(crate) topo: &'a Topo,
     /// The script's text.
-    text: &'a [u8],
+    pub(crate) text: &'a [u8],
     /// Whether its reports are shown.
-    show: bool,
+    pub(crate) show: bool,
 }
 
 /// The run of a script with these monitors, of whatever kind: a script of boxes is not seen through by the borrow checker. Leaves
@@ -86,7 +86,7 @@ fn run_boxed<R: Threads + Wait + Sync + AllocGlobal, O: ByteOut>(
 }
 
 /// Writes what these monitors told at their end, a line each.
-fn write_settlements<O: ByteOut>(
+pub(crate) fn write_settlements<O: ByteOut>(
     alloc: Global,
     attached: &[Attached],
     out: &mut O,
@@ -150,7 +150,7 @@ fn summary_of(
 }
 
 /// How the run of a script ends that came to this, with this last report: denied or not, and told in a summary or not.
-fn ending_told(
+pub(crate) fn ending_told(
     alloc: Global,
     run: ScriptRun<'_>,
     how: How,

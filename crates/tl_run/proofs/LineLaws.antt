@@ -5,14 +5,13 @@ use Rattle.std.proofs.KnownBytes.{Appends-nil, Appends-trans}
 use Rattle.std.proofs.lemmas.List.{take-append-le}
 use Rattle.std.proofs.Math.Seq.{take-append-add}
 use Rattle.tl_text.specs.Written.{Writes}
-use Rattle.std.specs.Option.{option_map_or}
 use Rattle.tl_text.specs.Numbers.{numeral}
 use Rattle.tl_report.specs.Notes.{Tells, IsNoted, is_note, is_unbroken}
 use Rattle.std.specs.Prelude.{codes}
 use Rattle.std.specs.Fmt.{decimal}
 use Rattle.tl_report.specs.Output.{joined}
 use Rattle.tl_run.specs.Output.{edit_text, refused_text, and_number}
-use Rattle.tl_report.proofs.NoteLaws.{Ends, ends_here, ends_more, joined_ends, digits_unbroken, decimal_unbroken, unbroken_more, plain_line, noted_nil, tells_more, tells_plain}
+use Rattle.tl_report.proofs.NoteLaws.{ends_here, ends_more, joined_ends, digits_unbroken, decimal_unbroken, unbroken_more, plain_line, noted_nil, tells_more, tells_plain}
 use Rattle.tl_run.specs.Stops.{IsSaid, IsFront, AreSaid, IsFrontOf, stop_front, stop_text, last_text}
 use Rattle.tl_run.specs.declared.stop.Stop.{Stop}
 use Rattle.tl_run.specs.declared.stop.StopCause.{StopCause}
@@ -133,6 +132,13 @@ said_more noted old now new gathered kept before line text tells more (told, are
 pub said_front : (noted : Bool) (old now new : Known) (gathered before line text : List ℕ) → Tells noted line text
     → ((told : List ℕ) → IsSaid old now gathered told → IsFront old new (told ++ text)) → AreSaid noted old now gathered before → IsFrontOf noted old new (before ++ line)
 said_front noted old now new gathered before line text tells front (told, are, said) = (told ++ text, tells_more noted before line told text are tells, front told said)
+
+-- what was said goes out, or is cut
+pub said_out : (noted : Bool) (old now new : Known) (gathered kept lines : List ℕ) → AreSaid noted old now gathered lines → ((told : List ℕ) → IsSaid old now gathered told → IsSaid old new kept told) → AreSaid noted old new kept lines
+said_out noted old now new gathered kept lines (told, are, said) out = (told, are, out told said)
+
+pub said_cut : (noted : Bool) (old now new : Known) (gathered lines : List ℕ) → AreSaid noted old now gathered lines → ((told : List ℕ) → IsSaid old now gathered told → IsFront old new told) → IsFrontOf noted old new lines
+said_cut noted old now new gathered lines (told, are, said) front = (told, are, front told said)
 
 -- ---- lines of edits are no notes
 

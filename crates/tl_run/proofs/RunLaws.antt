@@ -1,6 +1,6 @@
 -- A run from one command to the next, and to its end.
-use Rattle.std.proofs.Common.{Bool, false, ◌≡◌, ℕ, ◌+◌, ◌-◌, ◌<◌, ◌≤◌, List, [], ◌∷◌, ◌++◌, append_assoc, append-nil, length, length-append, length-drop, take, drop, Option, Some, None, Result, Ok, Err, refl, sym, ap, ◌∙◌, subst, arith}
-use Rattle.std.proofs.Math.Seq.{take-append_seam, take-length}
+use Rattle.std.proofs.Common.{Bool, false, ◌≡◌, ℕ, ◌+◌, ◌-◌, ◌<◌, List, [], ◌∷◌, ◌++◌, append_assoc, append-nil, length, take, drop, Option, Some, None, Ok, Err, refl, sym, ap, ◌∙◌, subst, arith}
+use Rattle.std.proofs.Math.Seq.{take-length}
 use Rattle.std.specs.Option.{option_map}
 use Rattle.std.specs.Prelude.{slice_get}
 use Rattle.std.proofs.lemmas.Grind.{flat_map-append}
@@ -10,12 +10,12 @@ use Rattle.std.specs.Io.KnownBytes.{Appends}
 use Rattle.tl_script.specs.declared.command.Command.{Command}
 use Rattle.tl_script.specs.declared.fault.ScriptFault.{ScriptFault}
 use Rattle.tl_script.specs.Reading.{command_in}
-use Rattle.tl_script.specs.Scripts.{Script, script_by, commands_of, fault_of}
+use Rattle.tl_script.specs.Scripts.{Script, commands_of, fault_of}
 use Rattle.tl_script.proofs.ReadCommands.{IsRead, none_read, one_read, all_read, fault_read, first_are, few_are}
 use Rattle.tl_beats.specs.declared.watch.Watch.{Watch}
 use Rattle.tl_run.specs.Commands.{asked, attached_by, watches_of}
 use Rattle.tl_inputs.specs.Edits.{AnEdit}
-use Rattle.tl_run.specs.Audits.{edits_of, IsStopAt}
+use Rattle.tl_run.specs.Audits.{IsStopAt}
 use Rattle.tl_run.specs.Output.{Progress, start, IsStep, IsOutput, TakesBox, LacksBox, accepted, edits_with}
 use Rattle.tl_script.specs.Text.{IsCommand}
 use Rattle.tl_script.proofs.CommandTexts.{reads_are_spelled}
@@ -24,9 +24,9 @@ use Rattle.tl_run.specs.declared.stop.Outcome.{Outcome}
 use Rattle.tl_run.specs.declared.stop.Stop.{Stop}
 use Rattle.tl_run.specs.declared.stop.StopCause.{StopCause}
 use Rattle.tl_run.specs.declared.stop.StopCause.TheVariants as cause
-use Rattle.tl_run.specs.Stops.{HaveBoxes, IsUnboxed, IsSaid, IsFront, AreSaid, IsFrontOf, IsCut, IsCutAs, IsCutBy, IsOutcome, IsWritten, IsWrittenAs, HasCome, Stops, StopsFor, commands_before, of_script, last_text, stop_text}
-use Rattle.tl_report.specs.Notes.{Tells, IsNoted, is_note}
-use Rattle.tl_report.proofs.NoteLaws.{tells_nil, tells_more, tells_plain, put_plain}
+use Rattle.tl_run.specs.Stops.{HaveBoxes, IsUnboxed, IsSaid, IsFront, AreSaid, IsFrontOf, IsCut, IsCutAs, IsCutBy, IsWritten, IsWrittenAs, HasCome, Stops, StopsFor, commands_before, of_script, last_text}
+use Rattle.tl_report.specs.Notes.{Tells}
+use Rattle.tl_report.proofs.NoteLaws.{tells_nil, tells_more, put_plain}
 use Rattle.tl_run.proofs.LineLaws.{nothing_said, last_tells}
 use Rattle.tl_run.proofs.OutputLaws.{output_more}
 

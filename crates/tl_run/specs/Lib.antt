@@ -2,4 +2,5 @@ pub mod Boxes
 pub mod Commands
 pub mod Output
 pub mod Stops
+pub mod Coming
 pub mod Audits

@@ -88,6 +88,11 @@ IsStep topo now (an_edit e) line next = IsEdit now e (refusal (length now.edits)
 IsStep topo now (no_fragment fault) line next = (line ≡ refused_text (fragment.code_of fault) (fragment.number_of fault)) × (next ≡ now)
 IsStep topo now a_report line next = IsPublish topo now (nat_lt now.reports most_versions) line next
 
+-- a run after what a command attaches was made ready, where that is done
+abbrev pub supplied : Bool → Asking → RunData → RunData
+supplied true asking run = record { topo = run.topo; now = run.now; boxes = run.boxes ++ attached_by asking }
+supplied false asking run = run
+
 -- The next of the monitors is the one that is attached, if one is, and these are left.
 abbrev pub TakesBox : List Watch → Asking → List Watch → Type 0
 TakesBox boxes asking left = boxes ≡ attached_by asking ++ left

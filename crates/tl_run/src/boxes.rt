@@ -1,9 +1,10 @@
 //! The monitors that a script's commands are to attach.
 
-ghost use Rattle.std.specs.Prelude.{◌≡◌, ◌∷◌, List, IfSome, OnSome, IsNone};
+ghost use Rattle.std.specs.Prelude.{◌≡◌, ◌∷◌, ◌++◌, [], List, IfSome, OnOk, OnErr, OnSome, IsNone};
 ghost use Rattle.tl_beats.specs.declared.watch.Watch.{Watch as AnyWatch};
 ghost use Rattle.tl_run.specs.Boxes.{watches_in};
 
+use std::alloc::AllocError;
 use std::collections::VecDeque;
 use std::marker::Model;
 use tl_beats::Watch;
@@ -33,6 +34,17 @@ impl<M: Monitor> Boxes<M> {
     {
         Boxes {
             boxes: VecDeque::from(boxes),
+        }
+    }
+
+    /// One monitor more, after the others. AllocError, with nothing changed, where memory is refused: the monitor is then dropped.
+    pub fn put(&mut self, monitor: M) -> Result<(), AllocError>
+        ensures ok { OnOk result (self.new ≡ self.old ++ (M.held monitor).watch ∷ []) }
+        ensures err { OnErr result (self.new ≡ self.old) }
+    {
+        match self.boxes.push_back(monitor) {
+            Ok(()) => Ok(()),
+            Err(_) => Err(AllocError),
         }
     }
 

@@ -40,7 +40,7 @@ pub fn read_script<I: ByteIn>(alloc: Global, input: &mut I) -> Result<Vec<u8>, T
 
 /// The lines of one command, before which so many bytes of the script are left, put after those that are gathered. Memory and
 /// WrongBox write nothing.
-fn run_command<S: Runner, O: ByteOut>(
+pub(crate) fn run_command<S: Runner, O: ByteOut>(
     alloc: Global,
     runner: &mut S,
     command: &Command<'_>,
@@ -143,7 +143,12 @@ fn run_commands<'s, S: Runner, O: ByteOut>(
 }
 
 /// Notes after the line of a stop, if there is one.
-fn last_notes<S: Runner>(alloc: Global, runner: &S, stop: Option<Stop>, rest: &[u8]) -> String
+pub(crate) fn last_notes<S: Runner>(
+    alloc: Global,
+    runner: &S,
+    stop: Option<Stop>,
+    rest: &[u8],
+) -> String
     ensures { Tells S.noted [] (string_bytes result) }
 {
     match stop {

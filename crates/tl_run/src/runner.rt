@@ -1,11 +1,11 @@
 //! What carries out the commands of a script.
 
-ghost use Rattle.std.specs.Prelude.{◌≡◌, [], Bool, false, IfOk, OnOk, length, string_bytes};
+ghost use Rattle.std.specs.Prelude.{◌≡◌, [], Bool, false, IfOk, OnOk, OnErr, length, string_bytes};
 ghost use Rattle.std.specs.Result.{IsErrOf};
 ghost use Rattle.tl_report.specs.Notes.{Tells};
 ghost use Rattle.tl_script.specs.Text.{IsCommand};
 ghost use Rattle.tl_run.specs.Commands.{asked, asking};
-ghost use Rattle.tl_run.specs.Output.{RunData, text_of, IsLinked, IsStep, TakesBox, LacksBox};
+ghost use Rattle.tl_run.specs.Output.{RunData, supplied, text_of, IsLinked, IsStep, TakesBox, LacksBox};
 
 use crate::answer::{Answer, answer_text};
 use crate::asked::{Asked, asked_by};
@@ -24,6 +24,9 @@ pub trait Runner {
     /// Whether it puts notes between its lines.
     ghost noted: { Bool };
 
+    /// Whether it makes the monitors that commands attach, before they come.
+    ghost supplies: { Bool };
+
     /// Its topology.
     fn topo(&self) -> &Topo
         ensures { result.now ≡ (so_far self.now).topo };
@@ -32,6 +35,12 @@ pub trait Runner {
     fn ask(&self, alloc: Global, command: &Command<'_>, left: usize) -> Result<Asked, AllocError>
         requires { IsCommand command.now }
         ensures { IfOk result (λ found. asking found ≡ asked command.now) };
+
+    /// Makes ready for a command: where it makes monitors, the one that the command attaches comes after those that no command has
+    /// attached yet. AllocError, with nothing changed, where memory is refused.
+    fn supply(&mut self, alloc: Global, command: &Command<'_>) -> Result<(), AllocError>
+        ensures ok { OnOk result (so_far self.new ≡ supplied supplies (asked command.now) (so_far self.old)) }
+        ensures err { OnErr result (so_far self.new ≡ so_far self.old) };
 
     /// What comes of one command more. WrongBox, with nothing changed, where it attaches a monitor and the next one is missing or
     /// watches something else; Memory where memory is refused: the run is then at its end.
@@ -61,6 +70,8 @@ impl<M: Monitor> Runner for Session<M> {
 
     ghost noted = { false };
 
+    ghost supplies = { false };
+
     fn topo(&self) -> &Topo {
         Session::topo(self)
     }
@@ -70,6 +81,10 @@ impl<M: Monitor> Runner for Session<M> {
         ensures { IfOk result (λ found. asking found ≡ asked command.now) }
     {
         asked_by(alloc, command)
+    }
+
+    fn supply(&mut self, _alloc: Global, _command: &Command<'_>) -> Result<(), AllocError> {
+        Ok(())
     }
 
     fn answer(&mut self, alloc: Global, asked: Asked) -> Result<Answer, CommandFault> {

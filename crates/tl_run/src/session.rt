@@ -1,6 +1,6 @@
 //! What a run has come to, and the lines of one command more.
 
-ghost use Rattle.std.specs.Prelude.{◌≡◌, [], IfOk, IfSome, OnOk, length};
+ghost use Rattle.std.specs.Prelude.{◌≡◌, ◌∷◌, ◌++◌, [], IfOk, IfSome, OnOk, OnErr, length};
 ghost use Rattle.std.specs.Result.{IsErrOf};
 ghost use Rattle.std.specs.Option.{option_map_or};
 ghost use Rattle.tl_inputs.specs.Edits.{plain_change, attach};
@@ -72,6 +72,18 @@ impl<M: Monitor> Session<M> {
             desk: Desk::new(alloc, topo.copy(alloc)?)?,
             boxes: Boxes::new(boxes),
         })
+    }
+
+    /// Lends it a monitor, which comes after those that no command has attached. AllocError, with nothing changed, where memory is
+    /// refused: the monitor is then dropped.
+    pub fn lend(&mut self, monitor: M) -> Result<(), AllocError>
+        ensures topo { self.new.topo ≡ self.old.topo }
+        ensures now { self.new.now ≡ self.old.now }
+        ensures ok { OnOk result (self.new.boxes ≡ self.old.boxes ++ (M.held monitor).watch ∷ []) }
+        ensures err { OnErr result (self.new ≡ self.old) }
+    {
+        let _ = &self.desk;
+        self.boxes.put(monitor)
     }
 
     /// Its topology.

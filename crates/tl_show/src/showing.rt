@@ -130,6 +130,8 @@ impl<S: Runner + Drop> Runner for Showing<S> {
 
     ghost noted = { true };
 
+    ghost supplies = { S.supplies };
+
     fn topo(&self) -> &Topo {
         let _ = &self.log;
         self.runner.topo()
@@ -141,6 +143,10 @@ impl<S: Runner + Drop> Runner for Showing<S> {
     {
         let _ = &self.log;
         self.runner.ask(alloc, command, left)
+    }
+
+    fn supply(&mut self, alloc: Global, command: &Command<'_>) -> Result<(), AllocError> {
+        self.runner.supply(alloc, command)
     }
 
     fn answer(&mut self, alloc: Global, asked: Asked) -> Result<Answer, CommandFault> {

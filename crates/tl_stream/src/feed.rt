@@ -5,6 +5,7 @@ ghost use Rattle.std.specs.Io.KnownBytes.{Keeps, IsAtEnd};
 ghost use Rattle.tl_beats.specs.Text.{fragment_text};
 ghost use Rattle.tl_stream.specs.Feeds.{all_left, Gives};
 
+use crate::ahead::Ahead;
 use std::alloc::Global;
 use std::marker::Model;
 use tl_beats::{Fragment, FragmentFault, parse_fragment};
@@ -13,25 +14,18 @@ use tl_text::{ByteIn, line};
 /// The most bytes of a fragment's text.
 const MOST_BYTES: usize = 8_388_608;
 
-/// How many bytes are asked for at once.
-const CHUNK: usize = 65_536;
-
 /// The bytes of an input of fragments that were read and that no fragment had.
 #[derive(Drop)]
 pub struct Feed {
-    bytes: Vec<u8>,
-    // Where they begin.
-    start: usize,
+    ahead: Ahead,
 }
 
 impl Model for Feed {
-    ghost use Rattle.std.specs.Prelude.{ℕ, List, drop, length, ◌≤◌};
+    ghost use Rattle.std.specs.Prelude.{ℕ, List};
 
     ghost Value = { List ℕ };
 
-    ghost view = { λ f. drop f.start f.bytes.items };
-
-    ghost invariant = { λ f. f.start ≤ length f.bytes.items };
+    ghost view = { λ f. f.ahead };
 }
 
 /// Whether a line from a place on is the last of a fragment, and where the line begins that no newline ends.
@@ -58,8 +52,7 @@ impl Feed {
         ensures { result ≡ [] }
     {
         Feed {
-            bytes: Vec::new(alloc),
-            start: 0,
+            ahead: Ahead::new(alloc),
         }
     }
 
@@ -67,7 +60,7 @@ impl Feed {
     pub(crate) fn left(&self) -> &[u8]
         ensures { result.now ≡ self.now }
     {
-        &self.bytes[self.start..]
+        self.ahead.left()
     }
 
     /// Reads once more, and answers whether that was the end.
@@ -80,17 +73,7 @@ impl Feed {
         ensures quiet { OnOk result (I.failure_count input.new ≡ I.failure_count input.old) }
         ensures counted { I.read_count input.new ≡ I.read_count input.old + 1 }
     {
-        self.bytes.drain(..self.start);
-        self.start = 0;
-        let mut chunk = [0u8; CHUNK];
-        match input.read(&mut chunk) {
-            Err(_) => Err(FragmentFault::ReadFault),
-            Ok(0) => Ok(true),
-            Ok(taken) => {
-                self.bytes.extend_from_slice(&chunk[..taken])?;
-                Ok(false)
-            }
-        }
+        Ok(self.ahead.read_more(input)?)
     }
 
     /// The next fragment, read in at most 8,388,610 reads; None where nothing is left. Its fault where what is left does not begin
@@ -136,7 +119,7 @@ impl Feed {
         ensures err { OnErr result (self.new ≡ self.old) }
     {
         let (fragment, used) = parse_fragment(alloc, self.left())?;
-        self.start += used;
+        self.ahead.pass(used);
         Ok(fragment)
     }
 }

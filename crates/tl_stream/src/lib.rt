@@ -1,6 +1,7 @@
 //! Captures without an end: fragments as they come, and the rows of what is complete.
 #![tactic(auto)]
 
+mod ahead;
 mod course;
 mod fault;
 mod feed;
@@ -12,6 +13,7 @@ mod lookout;
 mod stream;
 mod teller;
 
+pub use ahead::Ahead;
 pub use fault::StreamFault;
 pub use feed::Feed;
 pub use form::RowForm;

@@ -189,6 +189,8 @@ impl<'x, 'h, 't, 's, R: Wait, M: Monitor, G: Gate> Runner for Crew<'x, 'h, 't, '
 
     ghost noted = { false };
 
+    ghost supplies = { false };
+
     fn topo(&self) -> &Topo {
         let _ = &self.boxes;
         self.topo
@@ -203,6 +205,10 @@ impl<'x, 'h, 't, 's, R: Wait, M: Monitor, G: Gate> Runner for Crew<'x, 'h, 't, '
             Some(asked) => Ok(asked),
             None => asked_by(alloc, command),
         }
+    }
+
+    fn supply(&mut self, _alloc: Global, _command: &Command<'_>) -> Result<(), AllocError> {
+        Ok(())
     }
 
     #[tactic(auto, unfolding(tl_run::specs::Output::IsStep))]

@@ -1,0 +1,236 @@
+//! Runs of scripts whose commands are carried out as they come.
+
+ghost use Rattle.std.specs.Prelude.{◌≡◌, ◌<◌, ◌^◌, [], OnOk};
+ghost use Rattle.tl_run.specs.Output.{start};
+
+use crate::monitors::Attached;
+use crate::scripts::{ScriptRun, ending_told, write_settlements};
+use std::alloc::{AllocError, Global};
+use std::rt::Files;
+use std::sync::{Arc, OnceLock};
+use tl_beats::Watch;
+use tl_commands::{Ending, Fault, topology_of};
+use tl_inputs::Log;
+use tl_monitor::{After, Budget, Monitor};
+use tl_options::How;
+use tl_report::Report;
+use tl_run::{ComingFault, Maker, Making, Outcome, carry_out_coming, run_nothing};
+use tl_show::Showing;
+use tl_text::{ByteIn, ByteOut, ReadFailed, TextFault};
+use tl_topology::Topo;
+
+/// An input that keeps what it gives, where that is wanted.
+#[derive(Drop)]
+struct Kept<'a, I: ByteIn> {
+    input: &'a mut I,
+    /// What it gave; None where that isn't kept, or memory was refused for it.
+    text: Option<Vec<u8>>,
+}
+
+impl<'a, I: ByteIn> ByteIn for Kept<'a, I> {
+    ghost remaining = { λ k. I.remaining k.input.now };
+
+    ghost read_count = { λ k. I.read_count k.input.now };
+
+    ghost failure_count = { λ k. I.failure_count k.input.now };
+
+    fn read(&mut self, buffer: &mut [u8]) -> Result<usize, ReadFailed> {
+        let taken = self.input.read(buffer)?;
+        if let Some(text) = &mut self.text
+            && text.extend_from_slice(&buffer[..taken]).is_err()
+        {
+            self.text = None;
+        }
+        Ok(taken)
+    }
+
+    fn reads(&self) -> u64 {
+        self.input.reads()
+    }
+
+    fn failures(&self) -> u64 {
+        self.input.failures()
+    }
+}
+
+/// Makes monitors that each leave in a cell what they tell at their end.
+#[derive(Drop)]
+struct Boxing {
+    attached: Vec<Attached>,
+}
+
+impl Maker for Boxing {
+    type Made = Box<dyn Monitor + Send>;
+
+    fn make(
+        &mut self,
+        alloc: Global,
+        number: u32,
+        watch: &Watch,
+    ) -> Result<Box<dyn Monitor + Send>, AllocError> {
+        let cell = Arc::new(alloc, OnceLock::new())?;
+        let kept = Arc::try_clone(&cell)?;
+        let boxed: Box<dyn Monitor + Send> = match *watch {
+            Watch::Budget { link, class, limit } => {
+                Box::new(alloc, Budget::new(link, class, limit, cell))?
+            }
+            Watch::After {
+                link,
+                first,
+                second,
+            } => Box::new(alloc, After::new(link, first, second, cell))?,
+        };
+        self.attached.push(Attached {
+            number,
+            watch: *watch,
+            cell: kept,
+        })?;
+        Ok(boxed)
+    }
+}
+
+/// The fault of a run without an outcome.
+fn fault_of(fault: ComingFault) -> Fault {
+    match fault {
+        ComingFault::ReadFault => TextFault::ReadFault.into(),
+        ComingFault::TooLong => TextFault::TooLong.into(),
+        ComingFault::WriteFault => Fault::WRITE,
+    }
+}
+
+/// The log by which a run on the topology is shown, if it is.
+fn log_if(alloc: Global, topo: &Topo, show: bool) -> Result<Option<Log>, AllocError> {
+    if show {
+        Ok(Some(Log::new(alloc, topo.copy(alloc)?)?))
+    } else {
+        Ok(None)
+    }
+}
+
+/// Carries out an input's commands on a run that makes monitors, of whatever kind, and gives the run back.
+fn carried_out<K: Maker + Drop, I: ByteIn, O: ByteOut>(
+    alloc: Global,
+    making: Making<K>,
+    log: Option<Log>,
+    input: &mut I,
+    out: &mut O,
+) -> (Making<K>, Result<Outcome, ComingFault>)
+    requires out { O.failure_count out.old < 2 ^ 63 }
+    requires new { making.now ≡ start }
+    requires none { making.boxes ≡ [] }
+    ensures { OnOk result.1 (O.failure_count out.new ≡ O.failure_count out.old) }
+{
+    match log {
+        Some(log) => {
+            let mut showing = Showing::new(making, log);
+            let told = carry_out_coming(alloc, &mut showing, input, out);
+            (showing.into_runner(), told)
+        }
+        None => {
+            let mut making = making;
+            let told = carry_out_coming(alloc, &mut making, input, out);
+            (making, told)
+        }
+    }
+}
+
+/// What a run leaves: what made its monitors, which are closed, and its last report; None where there was no memory to begin.
+type Left<K> = Option<(K, Option<Report>)>;
+
+/// The run of an input's commands with this maker.
+fn outcome_of<K: Maker + Drop, I: ByteIn, O: ByteOut>(
+    alloc: Global,
+    topo: &Topo,
+    maker: K,
+    show: bool,
+    input: &mut I,
+    out: &mut O,
+) -> Result<(Outcome, Left<K>), Fault>
+    requires { O.failure_count out.old < 2 ^ 63 }
+    ensures { OnOk result (O.failure_count out.new ≡ O.failure_count out.old) }
+{
+    let Ok(log) = log_if(alloc, topo, show) else {
+        return Ok((run_nothing(alloc, out)?, None));
+    };
+    let Ok(making) = Making::new(alloc, topo, maker) else {
+        return Ok((run_nothing(alloc, out)?, None));
+    };
+    let (making, told) = carried_out(alloc, making, log, input, out);
+    let last = making.last().and_then(|report| report.copy().ok());
+    let (maker, _) = making.finish();
+    match told {
+        Ok(outcome) => Ok((outcome, Some((maker, last)))),
+        Err(fault) => Err(fault_of(fault)),
+    }
+}
+
+/// Whether the text of a run is wanted at its end.
+fn is_wanted(how: How) -> bool {
+    how.summary || how.deny.refused || how.deny.empty
+}
+
+/// How a run ends that didn't stop, of which this text was kept.
+fn ending_kept(
+    alloc: Global,
+    topo: &Topo,
+    text: Option<&[u8]>,
+    how: How,
+    outcome: Outcome,
+    last: Option<&Report>,
+) -> Result<Ending, Fault> {
+    match text {
+        Some(text) => {
+            let run = ScriptRun {
+                topo,
+                text,
+                show: how.show,
+            };
+            ending_told(alloc, run, how, outcome, last)
+        }
+        None if how.deny.refused || how.deny.empty => Err(Fault::MEMORY),
+        None => Ok(Ending::Came(outcome)),
+    }
+}
+
+/// The run of an input's commands on a topology, and after a run that did not stop what each of its monitors told.
+fn run_coming<I: ByteIn, O: ByteOut>(
+    alloc: Global,
+    topo: &Topo,
+    input: &mut I,
+    how: How,
+    out: &mut O,
+) -> Result<Ending, Fault>
+    requires { O.failure_count out.old < 2 ^ 63 }
+{
+    let boxing = Boxing {
+        attached: Vec::new(alloc),
+    };
+    let text = if is_wanted(how) {
+        Some(Vec::new(alloc))
+    } else {
+        None
+    };
+    let mut kept = Kept { input, text };
+    let (outcome, left) = outcome_of(alloc, topo, boxing, how.show, &mut kept, out)?;
+    match left {
+        Some((boxing, last)) if outcome.stop.is_none() => {
+            write_settlements(alloc, &boxing.attached, out)?;
+            ending_kept(alloc, topo, kept.text.as_deref(), how, outcome, last.as_ref())
+        }
+        _ => Ok(Ending::Came(outcome)),
+    }
+}
+
+/// The run of an input's commands on a file's topology, each carried out as it comes.
+pub(crate) fn run_of_coming<R: Files + AllocGlobal, I: ByteIn, O: ByteOut>(
+    rt: &R,
+    topology: &str,
+    input: &mut I,
+    how: How,
+    out: &mut O,
+) -> Result<Ending, Fault>
+    requires { O.failure_count out.old < 2 ^ 63 }
+{
+    let topo = topology_of(rt, topology)?;
+    run_coming(rt.alloc(), &topo, input, how, out)
+}

@@ -1,0 +1,53 @@
+-- What the run of a script writes whose commands are carried out as they come.
+use Rattle.std.specs.Prelude.{ℕ, Bool, true, false, ◌≡◌, List, Option, Some, None, Result, Ok, Err}
+use Rattle.std.specs.Io.KnownBytes.{Consumes}
+use Rattle.tl_topology.specs.Topology.{Topology}
+use Rattle.tl_beats.specs.declared.watch.Watch.{Watch}
+use Rattle.tl_report.specs.Notes.{IsPut}
+use Rattle.tl_script.specs.Reading.{command_in}
+use Rattle.tl_script.specs.Scripts.{commands_of}
+use Rattle.tl_script.specs.declared.command.Command.{Command}
+use Rattle.tl_script.specs.declared.fault.ScriptFault.{ScriptFault}
+use Rattle.tl_script.specs.declared.fault.ScriptFault.TheVariants as fault
+use Rattle.tl_run.specs.declared.stop.Outcome.{Outcome}
+use Rattle.tl_run.specs.Commands.{watches_of}
+use Rattle.tl_run.specs.Output.{Progress, start, IsOutput}
+use Rattle.tl_run.specs.Stops.{IsWrittenAs, IsCutAs, HasCome}
+
+-- the watches of the monitors that a script attaches, in their order
+abbrev pub all_watches : List ℕ → List Watch
+all_watches script = watches_of (commands_of script).commands
+
+-- All that the run of the script writes was written, where the run has the monitors that the script attaches.
+abbrev pub IsCarriedOut : Bool → Topology → Outcome → Option (List ℕ) → Option (List ℕ) → List ℕ → Type 0
+IsCarriedOut noted topo outcome old new script = IsWrittenAs noted topo script (all_watches script) outcome old new
+
+-- A front of it was written.
+abbrev pub IsCutOff : Bool → Topology → Option (List ℕ) → Option (List ℕ) → List ℕ → Type 0
+IsCutOff noted topo old new script = IsCutAs noted topo (commands_of script) (all_watches script) old new
+
+-- Such a run came to its end or its stop: its lines were written or are gathered.
+abbrev pub HasComeTo : Bool → Topology → Option (List ℕ) → Option (List ℕ) → List ℕ → Outcome → List ℕ → Type 0
+HasComeTo noted topo old new gathered outcome script = HasCome noted topo (commands_of script) (all_watches script) old new gathered outcome
+
+-- This was read of the script, the rest is left, and the lines of all commands that were read whole were written, and nothing else.
+pub record KeepsUp (noted : Bool) (topo : Topology) (left old new : Option (List ℕ)) (script : List ℕ) : Type 0 where
+  pub read : List ℕ
+  pub consumed : Consumes (Some script) left read
+  pub lines : List ℕ
+  pub next : Progress
+  pub output : IsOutput topo start (commands_of read).commands lines next
+  pub put : IsPut noted old new lines
+
+-- ---- the first command of what was read
+
+-- It doesn't go on in what comes.
+abbrev pub is_whole : Result (Option (Command × ℕ)) ScriptFault → Bool
+is_whole (Ok None) = false
+is_whole (Ok (Some read)) = true
+is_whole (Err fault.BadCommand) = true
+is_whole (Err fault.Truncated) = false
+
+-- The first command of all that is left is the first of what was read of it.
+abbrev pub IsFirstOf : List ℕ → List ℕ → Type 0
+IsFirstOf read left = command_in left ≡ command_in read

@@ -1,0 +1,85 @@
+//! Bytes of an input that were read ahead.
+
+ghost use Rattle.std.specs.Prelude.{◌≡◌, ◌+◌, ◌<◌, ◌≤◌, ◌^◌, [], IfOk, OnOk, drop, length, true};
+ghost use Rattle.std.specs.Result.{IsErrOf};
+ghost use Rattle.std.specs.Io.KnownBytes.{Keeps, IsAtEnd};
+ghost use Rattle.tl_stream.specs.Feeds.{all_left};
+
+use std::alloc::Global;
+use std::marker::Model;
+use tl_text::{ByteIn, TextFault};
+
+/// How many bytes are asked for at once.
+const CHUNK: usize = 65_536;
+
+/// The bytes of an input that were read, but for those that are done with.
+#[derive(Drop)]
+pub struct Ahead {
+    bytes: Vec<u8>,
+    // Where they begin.
+    start: usize,
+}
+
+impl Model for Ahead {
+    ghost use Rattle.std.specs.Prelude.{ℕ, List, drop, length, ◌≤◌};
+
+    ghost Value = { List ℕ };
+
+    ghost view = { λ a. drop a.start a.bytes.items };
+
+    ghost invariant = { λ a. a.start ≤ length a.bytes.items };
+}
+
+impl Ahead {
+    /// No bytes.
+    pub fn new(alloc: Global) -> Ahead
+        ensures { result ≡ [] }
+    {
+        Ahead {
+            bytes: Vec::new(alloc),
+            start: 0,
+        }
+    }
+
+    /// The bytes.
+    pub fn left(&self) -> &[u8]
+        ensures { result.now ≡ self.now }
+    {
+        &self.bytes[self.start..]
+    }
+
+    /// Reads once more, and answers whether that was the end. ReadFault where the read fails, which changes nothing; Memory where
+    /// memory is refused: what was read is then lost.
+    pub fn read_more<I: ByteIn>(&mut self, input: &mut I) -> Result<bool, TextFault>
+        requires reads { I.read_count input.old < 2 ^ 63 }
+        requires failures { I.failure_count input.old < 2 ^ 63 }
+        ensures kept { OnOk result (Keeps (all_left self.old (I.remaining input.old)) (all_left self.new (I.remaining input.new))) }
+        ensures grown { OnOk result (length self.old ≤ length self.new) }
+        ensures end { IfOk result (λ is_end. is_end ≡ true → IsAtEnd (I.remaining input.new)) }
+        ensures quiet { OnOk result (I.failure_count input.new ≡ I.failure_count input.old) }
+        ensures counted { I.read_count input.new ≡ I.read_count input.old + 1 }
+        ensures unread { IsErrOf result TextFault.ReadFault → (self.new ≡ self.old) × Keeps (I.remaining input.old) (I.remaining input.new)
+            × (I.failure_count input.new ≡ I.failure_count input.old + 1) }
+        ensures faults { IsErrOf result TextFault.TooLong → ⊥ }
+    {
+        self.bytes.drain(..self.start);
+        self.start = 0;
+        let mut chunk = [0u8; CHUNK];
+        match input.read(&mut chunk) {
+            Err(_) => Err(TextFault::ReadFault),
+            Ok(0) => Ok(true),
+            Ok(taken) => {
+                self.bytes.extend_from_slice(&chunk[..taken])?;
+                Ok(false)
+            }
+        }
+    }
+
+    /// Is done with the first so many of them.
+    pub fn pass(&mut self, count: usize)
+        requires { count ≤ length self.old }
+        ensures { self.new ≡ drop count self.old }
+    {
+        self.start += count;
+    }
+}

@@ -465,7 +465,7 @@ fn do_command<R: Files + Threads + Wait + Sync + AllocGlobal + Clone + Drop, I: 
             script: "-",
             how,
             ..
-        } => run_of_coming(rt, *topology, input, screen.how(*how), out),
+        } => run_of_coming(rt, *topology, input, *how, out),
         Command::Run {
             topology,
             script,

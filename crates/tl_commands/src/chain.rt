@@ -48,7 +48,10 @@ impl<'a, R: Files> Read for Chain<'a, R> {
             }
         }
         self.file = None;
-        while let Some(path) = self.paths.pop() {
+        for _ in 0..self.paths.len() {
+            let Some(path) = self.paths.pop() else {
+                return Ok(0);
+            };
             let mut file = fs::open(self.files, path.as_str())?;
             let taken = file.read(buf)?;
             if taken > 0 {

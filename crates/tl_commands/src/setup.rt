@@ -1,5 +1,7 @@
 //! What stands before the first beat of a stream: regions and monitors.
 
+ghost use Rattle.tl_script.specs.Text.{IsCommand};
+
 use crate::fault::Fault;
 use crate::files::script_of;
 use std::alloc::{AllocError, Global};
@@ -40,7 +42,9 @@ struct Settings {
 }
 
 /// The edit that a command of a setup asks for; None for a command that a setup may not have.
-fn edit_of(alloc: Global, command: &Command<'_>) -> Result<Option<Edit>, AllocError> {
+fn edit_of(alloc: Global, command: &Command<'_>) -> Result<Option<Edit>, AllocError>
+    requires { IsCommand command.now }
+{
     if !matches!(command, Command::SetRegion { .. } | Command::Attach { .. }) {
         return Ok(None);
     }

@@ -400,22 +400,13 @@ fn once_asked<'a>(
     })
 }
 
-/// Refuses what the words of `run` can't have for a script from standard input: workers and a summary.
-fn refuse_beside_input(
-    program: &mut clap::Command<'_>,
-    found: &ArgMatches<'_>,
-    workers: u64,
-) -> Result<(), Error> {
-    if found.get_str("SCRIPT") != Some("-") {
-        return Ok(());
-    }
-    if workers > 0 {
+/// The number of workers that the words of `run` name; above 0 it is refused for a script from standard input.
+fn workers_asked(program: &mut clap::Command<'_>, found: &ArgMatches<'_>) -> Result<u8, Error> {
+    let workers = found.get_one("workers").unwrap_or(0);
+    if workers > 0 && found.get_str("SCRIPT") == Some("-") {
         return Err(refusal(program, "--workers wants the script in a file")?);
     }
-    if found.get_flag("summary") {
-        return Err(refusal(program, "--summary wants the script in a file")?);
-    }
-    Ok(())
+    Ok(u8::try_from(workers).unwrap_or(0))
 }
 
 /// What the words of `run` ask for.
@@ -423,12 +414,10 @@ fn run_asked<'a>(
     program: &mut clap::Command<'a>,
     found: &ArgMatches<'a>,
 ) -> Result<Command<'a>, Error> {
-    let workers = found.get_one("workers").unwrap_or(0);
-    refuse_beside_input(program, found, workers)?;
     Ok(Command::Run {
         topology: found.get_str("TOPO").unwrap_or(""),
         script: found.get_str("SCRIPT").unwrap_or(""),
-        workers: u8::try_from(workers).unwrap_or(0),
+        workers: workers_asked(program, found)?,
         how: how_asked(found),
     })
 }

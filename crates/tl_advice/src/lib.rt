@@ -19,5 +19,5 @@ pub use kinds::{Role, kind_of};
 pub use places::{Line, Look, More, Place, Sentence};
 pub use refusals::{Script, script_sentences};
 pub use sentences::{Home, fragment_cause, length_cause, line_of, topology_cause};
-pub use tl_show::line_at;
 pub use summary::{report_summary, run_summary};
+pub use tl_show::line_at;

@@ -215,7 +215,14 @@ fn run_coming<I: ByteIn, O: ByteOut>(
     match left {
         Some((boxing, last)) if outcome.stop.is_none() => {
             write_settlements(alloc, &boxing.attached, out)?;
-            ending_kept(alloc, topo, kept.text.as_deref(), how, outcome, last.as_ref())
+            ending_kept(
+                alloc,
+                topo,
+                kept.text.as_deref(),
+                how,
+                outcome,
+                last.as_ref(),
+            )
         }
         _ => Ok(Ending::Came(outcome)),
     }

@@ -358,13 +358,12 @@ pub fn refuse_words<E: ByteOut>(alloc: Global, err: &mut E, error: &io::Error) -
 }
 
 /// Does what the words ask for where standard error is no terminal: `run_words_at` with `Screen::None`.
-pub fn run_words<R: Files + Threads + Wait + Sync + AllocGlobal + Clone + Drop, I: ByteIn, O: ByteOut, E: ByteOut>(
-    rt: &R,
-    words: &[String],
-    input: &mut I,
-    out: &mut O,
-    err: &mut E,
-) -> u8
+pub fn run_words<
+    R: Files + Threads + Wait + Sync + AllocGlobal + Clone + Drop,
+    I: ByteIn,
+    O: ByteOut,
+    E: ByteOut,
+>(rt: &R, words: &[String], input: &mut I, out: &mut O, err: &mut E) -> u8
     requires reads { I.read_count input.old < 2 ^ 63 }
     requires failures { I.failure_count input.old < 2 ^ 63 }
     requires out { O.failure_count out.old < 2 ^ 63 }
@@ -437,14 +436,12 @@ fn tell_ending<R: Files + AllocGlobal + Clone + Drop, E: ByteOut>(
 }
 
 /// Does what a command asks for, and answers the exit status.
-fn do_command<R: Files + Threads + Wait + Sync + AllocGlobal + Clone + Drop, I: ByteIn, O: ByteOut, E: ByteOut>(
-    rt: &R,
-    command: &Command<'_>,
-    input: &mut I,
-    out: &mut O,
-    err: &mut E,
-    screen: Screen,
-) -> u8
+fn do_command<
+    R: Files + Threads + Wait + Sync + AllocGlobal + Clone + Drop,
+    I: ByteIn,
+    O: ByteOut,
+    E: ByteOut,
+>(rt: &R, command: &Command<'_>, input: &mut I, out: &mut O, err: &mut E, screen: Screen) -> u8
     requires reads { I.read_count input.old < 2 ^ 63 }
     requires failures { I.failure_count input.old < 2 ^ 63 }
     requires out { O.failure_count out.old < 2 ^ 63 }

@@ -9,9 +9,7 @@ use std::sync::{Arc, Wait};
 use std::thread::Threads;
 use tl_advice::run_summary;
 use tl_beats::Watch;
-use tl_commands::{
-    Ending, Fault, denial_of_run, edits_in, ending_of, script_of, topology_of,
-};
+use tl_commands::{Ending, Fault, denial_of_run, edits_in, ending_of, script_of, topology_of};
 use tl_monitor::{After, Budget, Monitor};
 use tl_options::How;
 use tl_report::Report;

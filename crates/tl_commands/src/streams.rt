@@ -53,7 +53,9 @@ fn teller_of<'f, R: Files + AllocGlobal, F: RowForm>(
     form: &'f F,
 ) -> Result<Teller<'f, F>, Fault> {
     let Setup {
-        regions, watches, ..
+        regions,
+        watches,
+        ..
     } = setup;
     let stream = Stream::new(rt.alloc(), topo, regions)?;
     let mut teller = Teller::new(rt.alloc(), stream, form)?;
@@ -64,13 +66,7 @@ fn teller_of<'f, R: Files + AllocGlobal, F: RowForm>(
 }
 
 /// Streams the inputs of words, or standard input where there is none or `-` alone.
-fn read_all<
-    R: Files + AllocGlobal + Clone + Drop,
-    F: RowForm,
-    I: ByteIn,
-    O: ByteOut,
-    E: ByteOut,
->(
+fn read_all<R: Files + AllocGlobal + Clone + Drop, F: RowForm, I: ByteIn, O: ByteOut, E: ByteOut>(
     rt: &R,
     teller: &mut Teller<'_, F>,
     words: &[&str],
@@ -146,12 +142,7 @@ struct Streams<'a> {
 /// Streams the fragments of files, or of standard input where none is named or `-` alone, and writes each row once it is certain. A
 /// word is one input: its file, or the files of a folder or of a list one after another. The fault of the topology, of the setup, or
 /// of the first file of an input that can't be opened; want of memory, or a write that fails.
-pub fn stream_of_files<
-    R: Files + AllocGlobal + Clone + Drop,
-    I: ByteIn,
-    O: ByteOut,
-    E: ByteOut,
->(
+pub fn stream_of_files<R: Files + AllocGlobal + Clone + Drop, I: ByteIn, O: ByteOut, E: ByteOut>(
     rt: &R,
     topology: &str,
     options: &StreamOptions<'_>,

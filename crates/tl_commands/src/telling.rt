@@ -465,11 +465,7 @@ pub fn input_sentence(
 }
 
 /// What the run of the script on standard input refused and where it stopped, in sentences.
-pub fn input_sentences(
-    alloc: Global,
-    text: &[u8],
-    look: Look,
-) -> Result<Option<String>, Fault> {
+pub fn input_sentences(alloc: Global, text: &[u8], look: Look) -> Result<Option<String>, Fault> {
     let (topo, used) = read_topo(alloc, text)?;
     let script = Script {
         path: INPUT,

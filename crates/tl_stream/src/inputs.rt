@@ -184,7 +184,14 @@ pub fn stream_sources<I: ByteIn, F: RowForm, O: ByteOut, E: ByteOut>(
         let Some(source) = next_of(sources).and_then(|index| sources.get_mut(index)) else {
             return Ok(None);
         };
-        match take_step(alloc, &mut source.place, &mut source.input, teller, out, err)? {
+        match take_step(
+            alloc,
+            &mut source.place,
+            &mut source.input,
+            teller,
+            out,
+            err,
+        )? {
             Step::Took(last) => source.last = Some(last),
             Step::Ended => source.has_ended = true,
             Step::Stopped(stop) => return Ok(Some(stop)),

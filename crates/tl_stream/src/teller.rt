@@ -202,7 +202,9 @@ fn tell_wait<E: ByteOut>(alloc: Global, topo: &Topo, silent: u16, err: &mut E)
         return;
     };
     let name = decl.name;
-    if let Ok(line) = format!(in alloc; "tlcheck: {MANY_BEATS} beats wait for link {name}, which has no fragment yet\n")
+    if let Ok(line) = format!(in alloc;
+        "tlcheck: {MANY_BEATS} beats wait for link {name}, which has no fragment yet\n"
+    )
         && err.failures() < MANY_FAILURES
     {
         let _ = write_all(err, line.as_bytes());
@@ -307,13 +309,7 @@ impl<'f, F: RowForm> Teller<'f, F> {
     }
 
     /// Counts the beats of a fragment of this link among those that wait for a link without one.
-    fn wait<E: ByteOut>(
-        &mut self,
-        alloc: Global,
-        link: u16,
-        fragment: &Arc<Fragment>,
-        err: &mut E,
-    )
+    fn wait<E: ByteOut>(&mut self, alloc: Global, link: u16, fragment: &Arc<Fragment>, err: &mut E)
         requires { E.failure_count err.old < 2 ^ 63 }
         ensures { E.failure_count err.new < 2 ^ 63 }
     {

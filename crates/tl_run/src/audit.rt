@@ -20,7 +20,7 @@ use crate::stop::Stop;
 use std::alloc::{AllocError, Global};
 use thiserror::Error;
 use tl_inputs::{Edit, EditFault, Log, PastFault};
-use tl_plain::scratch;
+use tl_passes::scratch;
 use tl_report::{Form, Plain};
 use tl_script::{Command, ScriptFault, Spot, Visitor, visit_all};
 use tl_text::{ByteOut, WriteFault, write_all};

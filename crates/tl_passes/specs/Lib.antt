@@ -1,0 +1,4 @@
+pub mod Requests
+pub mod Links
+pub mod Managers
+pub mod Clean

@@ -40,7 +40,7 @@ fn push_entry<R: Files + AllocGlobal + Clone + Drop>(
     push_path(rt.alloc(), entry.path().to_string_lossy(), all)
 }
 
-/// The files of a folder, in the order of their names; those whose names begin with a dot are left out.
+/// The files of a folder, in the order of their names; those whose names begin with a dot are left out. FILE where it has none.
 fn folder_paths<R: Files + AllocGlobal + Clone + Drop>(
     rt: &R,
     path: &str,
@@ -55,6 +55,9 @@ fn folder_paths<R: Files + AllocGlobal + Clone + Drop>(
             Ok(entry) => push_entry(rt, &entry, &mut all)?,
             Err(error) => return Err(fault_of(&error)),
         }
+    }
+    if all.is_empty() {
+        return Err(Fault::FILE);
     }
     all.sort()?;
     Ok(all)
@@ -111,14 +114,19 @@ fn push_lines<R: Files + AllocGlobal + Clone + Drop>(
     Ok(())
 }
 
-/// Puts the files that the lines of a list's file stand for after others.
+/// Puts the files that the lines of a list's file stand for after others. FILE where there is none.
 fn push_list<R: Files + AllocGlobal + Clone + Drop>(
     rt: &R,
     path: &str,
     all: &mut Vec<String>,
 ) -> Result<(), Fault> {
+    let before = all.len();
     let text = list_text(rt, path)?;
-    push_lines(rt, &text, all)
+    push_lines(rt, &text, all)?;
+    if all.len() == before {
+        return Err(Fault::FILE);
+    }
+    Ok(())
 }
 
 /// The list that a word of the command line names, if it names one: that of `@LIST` is LIST.
@@ -127,7 +135,7 @@ pub(crate) fn list_of(word: &str) -> Option<&str> {
 }
 
 /// The files that a word of the command line stands for: those of a folder in the order of their names, those of the lines of LIST for
-/// `@LIST`, standard input for `-`, or its own. FILE where a folder or a list can't be read.
+/// `@LIST`, standard input for `-`, or its own. FILE where a folder or a list can't be read, or has no file.
 pub(crate) fn files_of<R: Files + AllocGlobal + Clone + Drop>(
     rt: &R,
     word: &str,

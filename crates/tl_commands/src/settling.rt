@@ -20,17 +20,3 @@ pub fn settlement_line(
         }
     }
 }
-
-/// The lines of what these monitors tell at their end, all closed by the same edit.
-pub(crate) fn settlement_lines(
-    alloc: Global,
-    watches: &[(u32, Watch)],
-    closed_at: u64,
-) -> Result<String, AllocError> {
-    let mut text = String::new(alloc);
-    for (number, watch) in watches {
-        let line = settlement_line(alloc, *number, *watch, closed_at)?;
-        text.push_str(line.as_str())?;
-    }
-    Ok(text)
-}

@@ -4,6 +4,7 @@ ghost use Rattle.tl_script.specs.Text.{IsCommand};
 
 use crate::fault::Fault;
 use crate::files::script_of;
+use crate::settling::settlement_line;
 use std::alloc::{AllocError, Global};
 use std::rt::Files;
 use tl_beats::Watch;
@@ -25,10 +26,18 @@ pub(crate) struct Setup {
     pub(crate) regions: Vec<RegionMap>,
     /// The watches of monitors, each with its number.
     pub(crate) watches: Vec<(u32, Watch)>,
-    /// How many of its commands were accepted.
-    pub(crate) edits: u64,
-    /// The lines of those that were refused.
+    /// The lines of its commands that were refused.
     pub(crate) refused: String,
+    /// The lines of what its monitors tell at the end.
+    pub(crate) settlements: String,
+}
+
+/// A monitor that a command attaches, or is refused.
+#[derive(Clone, Copy)]
+struct Attachment {
+    number: u32,
+    watch: Watch,
+    is_accepted: bool,
 }
 
 /// A log that the commands of a setup are added to.
@@ -37,6 +46,7 @@ struct Settings {
     alloc: Global,
     log: Log,
     refused: String,
+    attachments: Vec<Attachment>,
     /// The first command that a setup may not have.
     stray: Option<u64>,
 }
@@ -56,16 +66,34 @@ fn edit_of(alloc: Global, command: &Command<'_>) -> Result<Option<Edit>, AllocEr
 }
 
 impl Settings {
-    /// Makes an edit, or puts the line of its refusal after those before.
-    fn make(&mut self, edit: Edit) -> Result<(), AllocError> {
+    /// Makes an edit, or puts the line of its refusal after those before; answers whether it was made.
+    fn make(&mut self, edit: Edit) -> Result<bool, AllocError> {
         match self.log.push(edit) {
-            Ok(_) => Ok(()),
+            Ok(_) => Ok(true),
             Err(EditFault::Memory) => Err(AllocError),
             Err(fault) => {
                 let line = refusal_line(self.alloc, fault.code(), fault.number())?;
-                self.refused.push_str(line.as_str())
+                self.refused.push_str(line.as_str())?;
+                Ok(false)
             }
         }
+    }
+
+    /// Makes an edit, and keeps what it attaches.
+    fn take(&mut self, edit: Edit) -> Result<(), AllocError> {
+        let attached = match &edit {
+            Edit::Attach(number, watch) => Some((*number, *watch)),
+            Edit::Change(_) => None,
+        };
+        let is_accepted = self.make(edit)?;
+        if let Some((number, watch)) = attached {
+            self.attachments.push(Attachment {
+                number,
+                watch,
+                is_accepted,
+            })?;
+        }
+        Ok(())
     }
 }
 
@@ -74,7 +102,7 @@ impl<'s> Visitor<'s> for Settings {
 
     fn visit(&mut self, command: &Command<'s>, spot: Spot<'s>) -> Result<(), AllocError> {
         match edit_of(self.alloc, command)? {
-            Some(edit) => self.make(edit),
+            Some(edit) => self.take(edit),
             None => {
                 self.stray = self.stray.or(Some(spot.number));
                 Ok(())
@@ -100,13 +128,33 @@ fn regions_of(alloc: Global, log: &Log) -> Result<Vec<RegionMap>, AllocError> {
     Ok(regions)
 }
 
+/// The lines of what monitors tell at the end: those that were attached are closed by the last of so many edits.
+fn settlements_of(
+    alloc: Global,
+    attachments: &[Attachment],
+    edits: u64,
+) -> Result<String, AllocError> {
+    let mut text = String::new(alloc);
+    for each in attachments {
+        let closed_at = if each.is_accepted { edits } else { 0 };
+        let line = settlement_line(alloc, each.number, each.watch, closed_at)?;
+        text.push_str(line.as_str())?;
+    }
+    Ok(text)
+}
+
 /// What settings leave that have no command that a setup may not have.
 fn settled(alloc: Global, settings: Settings) -> Result<Setup, Fault> {
-    let Settings { log, refused, .. } = settings;
+    let Settings {
+        log,
+        refused,
+        attachments,
+        ..
+    } = settings;
     Ok(Setup {
         regions: regions_of(alloc, &log)?,
         watches: log.inputs().watches(alloc)?,
-        edits: log.len(),
+        settlements: settlements_of(alloc, &attachments, log.len())?,
         refused,
     })
 }
@@ -117,6 +165,7 @@ fn setup_in(alloc: Global, topo: &Topo, text: &[u8]) -> Result<Setup, Fault> {
         alloc,
         log: Log::new(alloc, topo.copy(alloc)?)?,
         refused: String::new(alloc),
+        attachments: Vec::new(alloc),
         stray: None,
     };
     let end = visit_all(text, &mut settings)?;

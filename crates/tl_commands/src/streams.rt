@@ -7,10 +7,11 @@ use crate::fault::Fault;
 use crate::files::topology_of;
 use crate::paths::files_of;
 use crate::reports::{Ending, report_of};
-use crate::settling::settlement_lines;
 use crate::setup::{Setup, setup_of};
+use std::alloc::{AllocError, Global};
 use std::rt::Files;
 use std::sync::Arc;
+use tl_beats::Watch;
 use tl_options::StreamOptions;
 use tl_report::Plain;
 use tl_show::Shown;
@@ -19,7 +20,6 @@ use tl_stream::{
     stream_sources,
 };
 use tl_text::{ByteIn, ByteOut, CountedReader, write_all};
-use tl_topology::Topo;
 
 /// An input of files.
 type FilesIn<'a, R> = Source<CountedReader<Chain<'a, R>>>;
@@ -45,21 +45,15 @@ fn sources_of<'a, R: Files + AllocGlobal + Clone + Drop>(
     Ok(sources)
 }
 
-/// A stream of which no fragment has come, in a form, with the regions and the watches of a setup.
-fn teller_of<'f, R: Files + AllocGlobal, F: RowForm>(
-    rt: &R,
-    topo: Arc<Topo>,
-    setup: Setup,
+/// What is told of a stream of which no fragment has come, in a form, with the watches of monitors.
+fn teller_of<'f, F: RowForm>(
+    alloc: Global,
+    stream: Stream,
+    watches: &[(u32, Watch)],
     form: &'f F,
-) -> Result<Teller<'f, F>, Fault> {
-    let Setup {
-        regions,
-        watches,
-        ..
-    } = setup;
-    let stream = Stream::new(rt.alloc(), topo, regions)?;
-    let mut teller = Teller::new(rt.alloc(), stream, form)?;
-    for (number, watch) in &watches {
+) -> Result<Teller<'f, F>, AllocError> {
+    let mut teller = Teller::new(alloc, stream, form)?;
+    for (number, watch) in watches {
         teller.watch(*number, *watch)?;
     }
     Ok(teller)
@@ -156,20 +150,23 @@ pub fn stream_of_files<R: Files + AllocGlobal + Clone + Drop, I: ByteIn, O: Byte
 {
     let alloc = rt.alloc();
     let topo = Arc::new(alloc, topology_of(rt, topology)?)?;
-    let mut setup = setup_of(rt, &topo, options.setup)?;
-    let told = settlement_lines(alloc, &setup.watches, setup.edits)?;
-    let refused = setup.refused;
-    setup.refused = String::new(alloc);
+    let Setup {
+        regions,
+        watches,
+        refused,
+        settlements,
+    } = setup_of(rt, &topo, options.setup)?;
     let streams = Streams {
         words: &options.inputs,
         refused: refused.as_str(),
-        told: told.as_str(),
+        told: settlements.as_str(),
     };
+    let stream = Stream::new(alloc, topo, regions)?;
     if options.show {
-        let teller = teller_of(rt, topo, setup, &Shown)?;
+        let teller = teller_of(alloc, stream, &watches, &Shown)?;
         stream_in_form(rt, teller, streams, input, out, err)
     } else {
-        let teller = teller_of(rt, topo, setup, &Plain)?;
+        let teller = teller_of(alloc, stream, &watches, &Plain)?;
         stream_in_form(rt, teller, streams, input, out, err)
     }
 }

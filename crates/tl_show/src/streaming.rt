@@ -72,12 +72,24 @@ fn wrong_there(fault: FragmentFault) -> &'static str
     }
 }
 
+/// A line as a note; none where it is empty.
+fn line_note(alloc: Global, line: &[u8]) -> Result<String, AllocError>
+    requires { is_unbroken line.now ≡ true }
+    ensures { IfOk result (λ text. IsNoted [] (string_bytes text)) }
+{
+    if line.is_empty() {
+        Ok(String::new(alloc))
+    } else {
+        note(alloc, quoted(line))
+    }
+}
+
 /// The line that a stream stops at, and what is wrong there, as notes.
 fn stop_text(alloc: Global, fault: FragmentFault, text: &[u8]) -> Result<String, AllocError>
     ensures { IfOk result (λ notes. IsNoted [] (string_bytes notes)) }
 {
     let number = u64::from(fault.number().unwrap_or(1));
-    let own = note(alloc, quoted(line_at(text, number)))?;
+    let own = line_note(alloc, line_at(text, number))?;
     let last = note(alloc, wrong_there(fault))?;
     format!(in alloc; "{own}{last}")
 }

@@ -5,13 +5,13 @@ ghost use Rattle.tl_run.specs.Output.{start};
 
 use crate::monitors::Attached;
 use crate::scripts::{ScriptRun, ending_told, write_settlements};
+use crate::watcher::Watcher;
 use std::alloc::{AllocError, Global};
 use std::rt::Files;
 use std::sync::{Arc, OnceLock};
 use tl_beats::Watch;
 use tl_commands::{Ending, Fault, topology_of};
 use tl_inputs::Log;
-use tl_monitor::{After, Budget, Monitor};
 use tl_options::How;
 use tl_report::Report;
 use tl_run::{ComingFault, Maker, Making, Outcome, carry_out_coming, run_nothing};
@@ -55,37 +55,22 @@ impl<'a, I: ByteIn> ByteIn for Kept<'a, I> {
 
 /// Makes monitors that each leave in a cell what they tell at their end.
 #[derive(Drop)]
-struct Boxing {
+struct Watchers {
     attached: Vec<Attached>,
 }
 
-impl Maker for Boxing {
-    type Made = Box<dyn Monitor + Send>;
+impl Maker for Watchers {
+    type Made = Watcher;
 
-    fn make(
-        &mut self,
-        alloc: Global,
-        number: u32,
-        watch: &Watch,
-    ) -> Result<Box<dyn Monitor + Send>, AllocError> {
+    fn make(&mut self, alloc: Global, number: u32, watch: &Watch) -> Result<Watcher, AllocError> {
         let cell = Arc::new(alloc, OnceLock::new())?;
         let kept = Arc::try_clone(&cell)?;
-        let boxed: Box<dyn Monitor + Send> = match *watch {
-            Watch::Budget { link, class, limit } => {
-                Box::new(alloc, Budget::new(link, class, limit, cell))?
-            }
-            Watch::After {
-                link,
-                first,
-                second,
-            } => Box::new(alloc, After::new(link, first, second, cell))?,
-        };
         self.attached.push(Attached {
             number,
             watch: *watch,
             cell: kept,
         })?;
-        Ok(boxed)
+        Ok(Watcher::new(*watch, cell))
     }
 }
 
@@ -202,7 +187,7 @@ fn run_coming<I: ByteIn, O: ByteOut>(
 ) -> Result<Ending, Fault>
     requires { O.failure_count out.old < 2 ^ 63 }
 {
-    let boxing = Boxing {
+    let watchers = Watchers {
         attached: Vec::new(alloc),
     };
     let text = if is_wanted(how) {
@@ -211,10 +196,10 @@ fn run_coming<I: ByteIn, O: ByteOut>(
         None
     };
     let mut kept = Kept { input, text };
-    let (outcome, left) = outcome_of(alloc, topo, boxing, how.show, &mut kept, out)?;
+    let (outcome, left) = outcome_of(alloc, topo, watchers, how.show, &mut kept, out)?;
     match left {
-        Some((boxing, last)) if outcome.stop.is_none() => {
-            write_settlements(alloc, &boxing.attached, out)?;
+        Some((watchers, last)) if outcome.stop.is_none() => {
+            write_settlements(alloc, &watchers.attached, out)?;
             ending_kept(
                 alloc,
                 topo,

@@ -6,6 +6,7 @@ mod monitors;
 mod run;
 mod screen;
 mod scripts;
+mod watcher;
 
 pub use run::{refuse_words, run_words, run_words_at};
 pub use screen::Screen;

@@ -3,6 +3,7 @@
 ghost use Rattle.std.specs.Prelude.{◌≤◌, ◌^◌};
 
 use crate::fault::Fault;
+use crate::paths::files_of;
 use std::alloc::Global;
 use std::rt::Files;
 use std::sync::Arc;
@@ -60,14 +61,27 @@ fn push_fragment<R: Files + AllocGlobal>(
     Ok(())
 }
 
-/// The fragments of files, each read and parsed before the next is opened.
-pub(crate) fn fragments_of<R: Files + AllocGlobal>(
+/// Puts the fragments of files after those of the files before them.
+fn push_fragments<R: Files + AllocGlobal>(
     rt: &R,
-    paths: &[String],
+    files: &[String],
+    fragments: &mut Vec<Arc<Fragment>>,
+) -> Result<(), Fault> {
+    for path in files {
+        push_fragment(rt, path.as_str(), fragments)?;
+    }
+    Ok(())
+}
+
+/// The fragments of the files that words stand for, each read and parsed before the next is opened.
+pub(crate) fn fragments_of<R: Files + AllocGlobal + Clone + Drop>(
+    rt: &R,
+    words: &[&str],
 ) -> Result<Vec<Arc<Fragment>>, Fault> {
     let mut fragments = Vec::new(rt.alloc());
-    for path in paths {
-        push_fragment(rt, path.as_str(), &mut fragments)?;
+    for word in words {
+        let files = files_of(rt, *word)?;
+        push_fragments(rt, &files, &mut fragments)?;
     }
     Ok(fragments)
 }

@@ -147,16 +147,3 @@ pub(crate) fn files_of<R: Files + AllocGlobal + Clone + Drop>(
     }
     Ok(all)
 }
-
-/// The files that these words stand for, those of one word after the other.
-pub(crate) fn all_files_of<R: Files + AllocGlobal + Clone + Drop>(
-    rt: &R,
-    words: &[&str],
-) -> Result<Vec<String>, Fault> {
-    let mut all = Vec::new(rt.alloc());
-    for word in words {
-        let mut files = files_of(rt, *word)?;
-        all.append(&mut files)?;
-    }
-    Ok(all)
-}

@@ -5,7 +5,6 @@ ghost use Rattle.std.specs.Prelude.{◌<◌, ◌^◌};
 use crate::denial::{Denial, denial_of_audit, denial_of_fragments};
 use crate::fault::Fault;
 use crate::files::{fragments_of, script_of, topology_of};
-use crate::paths::all_files_of;
 use crate::picking::{Trouble, Written, order_of, write_audit, write_once};
 use std::rt::Files;
 use std::sync::Arc;
@@ -142,8 +141,7 @@ fn once_on<R: Files + AllocGlobal + Clone + Drop, O: ByteOut>(
 ) -> Result<Ending, Fault>
     requires { O.failure_count out.old < 2 ^ 63 }
 {
-    let files = all_files_of(rt, fragments)?;
-    let fragments = fragments_of(rt, &files)?;
+    let fragments = fragments_of(rt, fragments)?;
     once_denied(rt, topo, &fragments, how, view, out)
 }
 

@@ -2,7 +2,7 @@
 
 use crate::fault::Fault;
 use crate::files::{Seen, line_after, seen_at, whole_topology};
-use crate::paths::{all_files_of, files_of, list_of};
+use crate::paths::{files_of, list_of};
 use std::alloc::Global;
 use std::rt::Files;
 use std::sync::Arc;
@@ -279,20 +279,33 @@ fn word_again<R: Files + AllocGlobal>(
     seen_sentence(rt.alloc(), suspect, &seen, Role::Fragment)
 }
 
-/// The sentence of the first of these words whose folder or list can't be read, or of the first of their files that the fault is of.
+/// The files that these words stand for, up to the first word whose folder or list can't be read, and that word.
+fn files_before<'a, R: Files + AllocGlobal + Clone + Drop>(
+    rt: &R,
+    words: &[&'a str],
+) -> Result<(Vec<String>, Option<&'a str>), Fault> {
+    let mut files = Vec::new(rt.alloc());
+    for word in words {
+        let Ok(mut own) = files_of(rt, *word) else {
+            return Ok((files, Some(*word)));
+        };
+        files.append(&mut own)?;
+    }
+    Ok((files, None))
+}
+
+/// The sentence of the first of the files of these words that the fault is of, or of the first word whose folder or list can't be read.
 fn words_again<R: Files + AllocGlobal + Clone + Drop>(
     rt: &R,
     topology: Suspect<'_>,
     words: &[&str],
     topo: Topo,
 ) -> Result<Option<String>, Fault> {
-    for word in words {
-        if files_of(rt, *word).is_err() {
-            return word_again(rt, topology, *word);
-        }
+    let (files, lost) = files_before(rt, words)?;
+    match (fragments_again(rt, topology, &files, topo)?, lost) {
+        (None, Some(word)) => word_again(rt, topology, word),
+        (sentence, _) => Ok(sentence),
     }
-    let files = all_files_of(rt, words)?;
-    fragments_again(rt, topology, &files, topo)
 }
 
 /// The sentence of a fault of `once`, whose files are read again: that of the first that it is of. None where it is of none.

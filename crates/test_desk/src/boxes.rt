@@ -7,7 +7,7 @@ use std::alloc::Global;
 use std::sync::{Arc, OnceLock};
 use std::test::Fail;
 use tl_desk::Desk;
-use tl_inputs::{Change, EditFault};
+use tl_edits::{Change, EditFault};
 use tl_monitor::{Budget, Settlement};
 use tl_topology::read_topo;
 

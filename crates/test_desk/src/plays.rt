@@ -8,7 +8,7 @@ use crate::texts::{GETS, MISALIGNED_GET};
 use std::alloc::Global;
 use std::test::Fail;
 use tl_desk::{Desk, Piece, PublishFault, Reply, Step as Played};
-use tl_inputs::EditFault;
+use tl_edits::EditFault;
 
 /// A step as a list has it.
 fn played(alloc: Global, calls: &Calls, step: Step<'_>) -> Result<Played<Counting>, Fail> {

@@ -10,7 +10,7 @@ use std::sync::atomic::Ordering;
 use std::test::Fail;
 use tl_beats::Watch;
 use tl_desk::{Desk, Job};
-use tl_inputs::Change;
+use tl_edits::Change;
 use tl_monitor::Settlement;
 use tl_topology::Name;
 

@@ -7,7 +7,7 @@ use std::sync::Arc;
 use std::test::Fail;
 use tl_beats::parse_whole_fragment;
 use tl_desk::{Desk, Done, HandIn, Job, work};
-use tl_inputs::Change;
+use tl_edits::Change;
 use tl_topology::{Name, read_topo};
 
 /// A desk without edits, if no memory is refused.

@@ -7,7 +7,7 @@ use std::sync::{Arc, Wait};
 use tl_beats::{Fragment, Row, parse_whole_fragment};
 use tl_desk::{Done, HandIn, Job, Piece, Report, work};
 use tl_hall::{Hall, Pass};
-use tl_inputs::Change;
+use tl_edits::Change;
 use tl_monitor::Budget;
 use tl_tables::{Chan, Rule};
 use tl_topology::{Topo, read_topo};

@@ -10,7 +10,7 @@ use std::test::Fail;
 use tl_beats::{Class, Row};
 use tl_desk::Desk;
 use tl_hall::{Gate, Hall, Pass, WorkCount, worker};
-use tl_inputs::Change;
+use tl_edits::Change;
 use tl_monitor::Budget;
 use tl_tables::{Chan, Rule};
 use tl_topology::Name;

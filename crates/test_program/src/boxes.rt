@@ -1,14 +1,13 @@
 //! A monitor that is detached while it is out: its cell is empty until it comes back.
 
 ghost use Rattle.std.specs.Prelude.{◌≡◌, None, OnOk};
-ghost use Rattle.tl_boxes.specs.Boxes.{place_at, attached_at};
+ghost use Rattle.tl_monitor.specs.Boxes.{place_at, attached_at};
 
 use std::alloc::Global;
 use std::sync::{Arc, OnceLock};
 use std::test::Fail;
 use tl_beats::{Class, Watch};
-use tl_boxes::Boxes;
-use tl_monitor::{Budget, Settlement, Watched};
+use tl_monitor::{Boxes, Budget, Settlement, Watched};
 use tl_tables::Chan;
 use tl_topology::Name;
 

@@ -2,8 +2,8 @@
 
 use std::alloc::Global;
 use std::fmt::Display;
-use tl_inputs::{EditFault, PastFault};
-use tl_report::OnceFault;
+use tl_edits::{EditFault, PastFault};
+use tl_check::OnceFault;
 use tl_run::{AuditFault, Stop, StopCause};
 use tl_script::ScriptFault;
 

@@ -2,8 +2,8 @@
 use Rattle.std.specs.Prelude.{ℕ, ◌≡◌, ◌<◌, List, [], ◌∷◌, length, reverse, slice_index_or}
 use Rattle.tl_topology.specs.Topology.{Topology}
 use Rattle.tl_definitions.specs.Positions.{Recorded, beats_of_all}
-use Rattle.tl_reasons.specs.Counts.{AreOpen}
-use Rattle.tl_reasons.specs.States.{manager_with}
+use Rattle.tl_rows.specs.Counts.{AreOpen}
+use Rattle.tl_rows.specs.States.{manager_with}
 use Rattle.tl_show.specs.Lines.{link_at, block_at}
 use Rattle.tl_advice.specs.declared.links.LinkCount.{LinkCount}
 

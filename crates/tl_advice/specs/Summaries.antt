@@ -6,12 +6,12 @@ use Rattle.tl_tables.specs.Rules.{rule_text_of}
 use Rattle.tl_topology.specs.Topology.{Topology}
 use Rattle.tl_beats.specs.declared.Row.{Row}
 use Rattle.tl_definitions.specs.Positions.{Recorded}
-use Rattle.tl_pick.specs.Waivers.{all_rules}
-use Rattle.tl_reasons.specs.declared.counts.OpenCounts.{OpenCounts}
-use Rattle.tl_inputs.specs.Edits.{AnEdit}
-use Rattle.tl_inputs.specs.Log.{inputs_after}
-use Rattle.tl_report.specs.Output.{ReportData}
-use Rattle.tl_words.specs.Words.{joined}
+use Rattle.tl_rows.specs.Waivers.{all_rules}
+use Rattle.tl_rows.specs.declared.counts.OpenCounts.{OpenCounts}
+use Rattle.tl_edits.specs.Edits.{AnEdit}
+use Rattle.tl_edits.specs.Log.{inputs_after}
+use Rattle.tl_check.specs.Output.{ReportData}
+use Rattle.tl_rows.specs.Words.{joined}
 use Rattle.tl_show.specs.Lines.{newline}
 use Rattle.tl_advice.specs.Tallies.{AreLinked, AreTallied}
 use Rattle.tl_advice.specs.LinkCounts.{AreCounted}

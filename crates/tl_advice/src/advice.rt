@@ -2,7 +2,7 @@
 
 use crate::causes::{Advice, Cause};
 use crate::kinds::{Kind, Role};
-use tl_inputs::EditFault;
+use tl_edits::EditFault;
 use tl_topology::Topo;
 
 /// What is said of a text of another role than its place among the words.

@@ -7,7 +7,7 @@ use crate::places::{Line, Look, Place, Sentence};
 use crate::sentences::{Before, Home, fragment_cause, line_of, stop_cause};
 use std::alloc::{AllocError, Global};
 use tl_beats::FragmentFault;
-use tl_inputs::{Edit, EditFault, Log};
+use tl_edits::{Edit, EditFault, Log};
 use tl_run::{Asked, asked_by};
 use tl_script::{Command, ScriptFault, Spot, Visitor, visit_all};
 use tl_show::{first_line, line_at};

@@ -8,8 +8,8 @@ use std::rt::{Clock, Files};
 use std::time::Instant;
 use std::{env, fs};
 use tl_beats::{Beat, Request};
-use tl_perm_rules::ClientState;
-use tl_same::Same;
+use tl_client_rules::ClientState;
+use tl_state::Same;
 use tl_tables::{Chan, Level, Op};
 use tl_topology::{LinkDecl, Name};
 

@@ -12,7 +12,7 @@ use tl_beats::Watch;
 use tl_commands::{Ending, Fault, denial_of_run, edits_in, ending_of, script_of, topology_of};
 use tl_monitor::{After, Budget, Monitor};
 use tl_options::How;
-use tl_report::Report;
+use tl_check::Report;
 use tl_run::Outcome;
 use tl_text::{ByteOut, WriteFault, write_all};
 use tl_topology::{Topo, read_topo};

@@ -5,7 +5,7 @@ use std::alloc::{AllocError, Global};
 use std::fmt;
 use std::sync::Arc;
 use tl_beats::Fragment;
-use tl_inputs::Inputs;
+use tl_edits::Inputs;
 use tl_options::Deny;
 use tl_run::{AuditFault, log_of};
 use tl_script::{Command, Spot, Visitor, visit_all};

@@ -5,7 +5,7 @@ ghost use Rattle.std.specs.Prelude.{◌≡◌};
 use std::alloc::{AllocError, AllocFailed};
 use std::fmt;
 use tl_beats::FragmentFault;
-use tl_report::OnceFault;
+use tl_check::OnceFault;
 use tl_run::AuditFault;
 use tl_stream::TellFault;
 use tl_text::{TextFault, WriteFault};

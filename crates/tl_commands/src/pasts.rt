@@ -1,7 +1,7 @@
 //! What the edits of a script leave.
 
 use std::alloc::Global;
-use tl_inputs::{Inputs, Log};
+use tl_edits::{Inputs, Log};
 use tl_run::{AuditFault, log_of};
 use tl_topology::Topo;
 

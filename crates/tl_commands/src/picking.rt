@@ -11,12 +11,11 @@ use std::rt::Files;
 use std::sync::Arc;
 use tl_advice::report_summary;
 use tl_beats::{Fragment, Row};
-use tl_formats::{Title, print_rows};
-use tl_inputs::Inputs;
+use tl_show::{Title, print_rows};
+use tl_edits::Inputs;
 use tl_options::{How, View};
-use tl_passes::scratch;
-use tl_pick::{Format, Pick, Waiver, WaiverFault, read_waivers};
-use tl_report::all_added;
+use tl_check::{all_added, scratch};
+use tl_rows::{Format, Pick, Waiver, WaiverFault, read_waivers};
 use tl_text::{ByteOut, CountedReader, TextFault, read_text, write_all};
 use tl_topology::{Name, Topo};
 

@@ -8,7 +8,7 @@ use crate::settling::settlement_line;
 use std::alloc::{AllocError, Global};
 use std::rt::Files;
 use tl_beats::Watch;
-use tl_inputs::{Edit, EditFault, Log};
+use tl_edits::{Edit, EditFault, Log};
 use tl_run::{Asked, asked_by, refusal_line};
 use tl_script::{Command, ScriptFault, Spot, Visitor, visit_all};
 use tl_topology::{RegionMap, Topo};

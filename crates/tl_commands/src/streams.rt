@@ -13,12 +13,9 @@ use std::rt::Files;
 use std::sync::Arc;
 use tl_beats::Watch;
 use tl_options::StreamOptions;
-use tl_report::Plain;
+use tl_check::Plain;
 use tl_show::Shown;
-use tl_stream::{
-    RowForm, Source, Stream, StreamStop, TellFault, Teller, stream_end, stream_input,
-    stream_sources,
-};
+use tl_stream::{RowForm, Source, Stream, StreamStop, TellFault, Teller, stream_end, stream_input, stream_sources};
 use tl_text::{ByteIn, ByteOut, CountedReader, write_all};
 
 /// An input of files.

@@ -4,30 +4,30 @@ use Rattle.std.specs.Prelude.{is_some, slice_index_or}
 use Rattle.tl_beats.specs.declared.Row.{Row}
 use Rattle.tl_definitions.specs.Captures.{manager_beats}
 use Rattle.tl_definitions.specs.Managers.{manager_at}
-use Rattle.tl_inputs.specs.Edits.{AnEdit}
-use Rattle.tl_inputs.specs.Inputs.{InputData}
-use Rattle.tl_inputs.specs.Log.{LogData, inputs_after}
-use Rattle.tl_pieces.specs.declared.key.PieceKey.{PieceKey}
-use Rattle.tl_pieces.specs.Keys.{value_at, change}
-use Rattle.tl_pieces.specs.Pieces.{Board, Piece, Pass, empty, IsBoard, IsAt, IsFirst, IsGood, Follows, IsWanted, IsWantedAt, ChainsFrom, opening_of, exit_before, left_by, piece_at, result_of, live_of, with_live}
-use Rattle.tl_span.specs.Links.{SameLink}
-use Rattle.tl_span.specs.States.{SameSpan, StandsFor}
-use Rattle.tl_span.specs.declared.links.LinkState.{LinkState}
-use Rattle.tl_span.specs.declared.state.SpanState.{SpanState}
-use Rattle.tl_span.proofs.StateLaws.{shown_same}
-use Rattle.tl_spans.specs.Edits.{EditsTo}
-use Rattle.tl_spans.specs.Spans.{SpansData, standing, IsSound}
-use Rattle.tl_spans.specs.Tickets.{HandsIn}
-use Rattle.tl_spans.specs.Touch.{Touches}
-use Rattle.tl_spans.specs.Windows.{with_checked}
-use Rattle.tl_spans.proofs.CheckLemmas.{owner_of}
-use Rattle.tl_watches.specs.declared.tally.Tally.{Tally}
-use Rattle.tl_watches.specs.Edits.{EditsBoth}
-use Rattle.tl_watches.specs.Outside.{HandsInWatch}
-use Rattle.tl_watches.specs.Tally.{SameTally}
-use Rattle.tl_watches.specs.Touch.{TouchesWatch}
-use Rattle.tl_watches.specs.Watches.{WatchesData, AreWatches}
-use Rattle.tl_windows.specs.Windows.{HasBeat}
+use Rattle.tl_edits.specs.Edits.{AnEdit}
+use Rattle.tl_edits.specs.Inputs.{InputData}
+use Rattle.tl_edits.specs.Log.{LogData, inputs_after}
+use Rattle.tl_results.specs.declared.key.PieceKey.{PieceKey}
+use Rattle.tl_results.specs.Keys.{value_at, change}
+use Rattle.tl_results.specs.Pieces.{Board, Piece, Pass, empty, IsBoard, IsAt, IsFirst, IsGood, Follows, IsWanted, IsWantedAt, ChainsFrom, opening_of, exit_before, left_by, piece_at, result_of, live_of, with_live}
+use Rattle.tl_check.specs.Links.{SameLink}
+use Rattle.tl_check.specs.States.{SameSpan, StandsFor}
+use Rattle.tl_check.specs.declared.links.LinkState.{LinkState}
+use Rattle.tl_check.specs.declared.state.SpanState.{SpanState}
+use Rattle.tl_check.proofs.StateLaws.{shown_same}
+use Rattle.tl_board.specs.Edits.{EditsTo}
+use Rattle.tl_board.specs.Spans.{SpansData, standing, IsSound}
+use Rattle.tl_board.specs.Tickets.{HandsIn}
+use Rattle.tl_board.specs.Touch.{Touches}
+use Rattle.tl_board.specs.Windows.{with_checked}
+use Rattle.tl_board.proofs.CheckLemmas.{owner_of}
+use Rattle.tl_board.specs.declared.tally.Tally.{Tally}
+use Rattle.tl_board.specs.Accepting.{EditsBoth}
+use Rattle.tl_board.specs.Outside.{HandsInWatch}
+use Rattle.tl_board.specs.Tally.{SameTally}
+use Rattle.tl_board.specs.TouchedWatches.{TouchesWatch}
+use Rattle.tl_board.specs.Watches.{WatchesData, AreWatches}
+use Rattle.tl_capture.specs.Windows.{HasBeat}
 use Rattle.tl_desk.specs.Alike.{AreBoth}
 use Rattle.tl_desk.specs.Jobs.{Unmarks, UnmarksWatch}
 use Rattle.tl_desk.proofs.TicketLemmas.{clash, one_value}

@@ -3,11 +3,11 @@ use Rattle.std.proofs.Common.{◌≡◌, ℕ, ◌⊎◌, inl, inr, List, [], ◌
 use Rattle.std.specs.Prelude.{is_some}
 use Rattle.std.specs.Option.{option_map, option_map_or, option_and_then}
 use Rattle.tl_beats.specs.declared.watch.Watch.{Watch}
-use Rattle.tl_boxes.specs.Boxes.{BoxesData, IsBoxes, place_at, held_at, away_at, placed_at, attached_at, retuned_at, detached_from, detached_at, taken_at, back_with, brought_back}
-use Rattle.tl_boxes.specs.Places.{Place, Here, Out, held_of, away_of, limit_of, tuned, place_tuned, place_left, leaving}
-use Rattle.tl_boxes.specs.declared.away.Away.{Away}
+use Rattle.tl_monitor.specs.Boxes.{BoxesData, IsBoxes, place_at, held_at, away_at, placed_at, attached_at, retuned_at, detached_from, detached_at, taken_at, back_with, brought_back}
+use Rattle.tl_monitor.specs.Places.{Place, Here, Out, held_of, away_of, limit_of, tuned, place_tuned, place_left, leaving}
+use Rattle.tl_monitor.specs.declared.away.Away.{Away}
 use Rattle.tl_definitions.specs.Watching.{retuned}
-use Rattle.tl_inputs.specs.Edits.{AnEdit, add, replace, withdraw, clear_link, set_region, remove_region, attach, retune, detach}
+use Rattle.tl_edits.specs.Edits.{AnEdit, add, replace, withdraw, clear_link, set_region, remove_region, attach, retune, detach}
 use Rattle.tl_monitor.specs.Held.{Held}
 use Rattle.tl_monitor.specs.declared.monitor.Settlement.{Settlement}
 use Rattle.tl_desk.specs.Alike.{without_holding, HaveSameMonitors}

@@ -2,34 +2,34 @@
 use Rattle.std.proofs.Common.{◌≡◌, ℕ, inl, inr, true, false, List, [], ◌∷◌, ◌++◌, Option, Some, None, length, refl, sym, ap, subst, ◌∙◌}
 use Rattle.tl_beats.specs.declared.Row.{Row}
 use Rattle.std.specs.Option.{option_map}
-use Rattle.tl_boxes.specs.Boxes.{BoxesData, away_at, brought_back}
-use Rattle.tl_boxes.specs.declared.away.Away.{Away}
+use Rattle.tl_monitor.specs.Boxes.{BoxesData, away_at, brought_back}
+use Rattle.tl_monitor.specs.declared.away.Away.{Away}
 use Rattle.tl_definitions.specs.Report.{IsReport}
 use Rattle.tl_definitions.proofs.ReportLaws.{one_report}
-use Rattle.tl_inputs.specs.Edits.{AnEdit, plain_change, attach}
-use Rattle.tl_inputs.specs.Inputs.{InputData}
-use Rattle.tl_inputs.specs.Log.{LogData, inputs_after}
+use Rattle.tl_edits.specs.Edits.{AnEdit, plain_change, attach}
+use Rattle.tl_edits.specs.Inputs.{InputData}
+use Rattle.tl_edits.specs.Log.{LogData, inputs_after}
 use Rattle.tl_jobs.specs.Jobs.{JobData, DoneData, piece_of}
 use Rattle.tl_jobs.specs.Monitors.{MonitorJobData, MonitorDoneData, monitor_piece}
-use Rattle.tl_pieces.specs.declared.key.PieceKey.{PieceKey}
-use Rattle.tl_pieces.specs.Keys.{value_at, change}
-use Rattle.tl_pieces.specs.Pieces.{Board, Pass, IsFirst, IsFree, IsFirstFree, ChainsFrom, piece_at, live_of, with_live}
-use Rattle.tl_plain.specs.Captured.{captures_after}
-use Rattle.tl_report.specs.Output.{ReportData}
-use Rattle.tl_span.specs.States.{SameSpan}
-use Rattle.tl_span.specs.declared.state.SpanState.{SpanState}
-use Rattle.tl_spans.specs.Spans.{SpansData}
-use Rattle.tl_spans.specs.Tickets.{HandsIn}
-use Rattle.tl_spans.specs.Windows.{key_of}
-use Rattle.tl_spans.proofs.EditLemmas.{same_entries}
-use Rattle.tl_tickets.specs.declared.piece.Piece.{Piece as APiece}
-use Rattle.tl_tickets.specs.declared.piece.Piece.TheVariants as piece
-use Rattle.tl_tickets.specs.Tickets.{IsOutFor}
+use Rattle.tl_results.specs.declared.key.PieceKey.{PieceKey}
+use Rattle.tl_results.specs.Keys.{value_at, change}
+use Rattle.tl_results.specs.Pieces.{Board, Pass, IsFirst, IsFree, IsFirstFree, ChainsFrom, piece_at, live_of, with_live}
+use Rattle.tl_check.specs.Captured.{captures_after}
+use Rattle.tl_check.specs.Output.{ReportData}
+use Rattle.tl_check.specs.States.{SameSpan}
+use Rattle.tl_check.specs.declared.state.SpanState.{SpanState}
+use Rattle.tl_board.specs.Spans.{SpansData}
+use Rattle.tl_board.specs.Tickets.{HandsIn}
+use Rattle.tl_board.specs.Windows.{key_of}
+use Rattle.tl_board.proofs.EditLemmas.{same_entries}
+use Rattle.tl_jobs.specs.declared.piece.Piece.{Piece as APiece}
+use Rattle.tl_jobs.specs.declared.piece.Piece.TheVariants as piece
+use Rattle.tl_jobs.specs.Tickets.{IsOutFor}
 use Rattle.tl_topology.specs.Topology.{Topology}
-use Rattle.tl_watches.specs.declared.tally.Tally.{Tally}
-use Rattle.tl_watches.specs.Outside.{HandsInWatch}
-use Rattle.tl_watches.specs.Tally.{SameTally}
-use Rattle.tl_watches.specs.Watches.{WatchesData, AreWatches}
+use Rattle.tl_board.specs.declared.tally.Tally.{Tally}
+use Rattle.tl_board.specs.Outside.{HandsInWatch}
+use Rattle.tl_board.specs.Tally.{SameTally}
+use Rattle.tl_board.specs.Watches.{WatchesData, AreWatches}
 use Rattle.tl_desk.specs.Alike.{HaveSameMonitors, AreAlike, CallsKeepDesksAlike}
 use Rattle.tl_desk.specs.Core.{Core, IsDesk, IsNew, AllSettled, log_of, standing}
 use Rattle.tl_desk.specs.Jobs.{IsHere, IsFirstFreeWatch, Takes, TakesWatch, Accepts, AcceptsWatch, Ends, EndsWatch, Recalls, RecallsWatch, Unmarks, UnmarksWatch, IsOwn, key_for, watch_key_for, given, ended}

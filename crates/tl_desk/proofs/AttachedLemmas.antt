@@ -10,23 +10,23 @@ use Rattle.std.specs.Map.{keys_of, lookup}
 use Rattle.std.proofs.lemmas.Cmp.{nat_cmp_total}
 use Rattle.tl_topology.specs.Topology.{number_of_name}
 use Rattle.tl_topology.specs.Regions.{Area, put_area, without_area}
-use Rattle.tl_windows.specs.Present.{recorded, put_in, without, cleared}
+use Rattle.tl_capture.specs.Present.{recorded, put_in, without, cleared}
 use Rattle.tl_beats.specs.declared.watch.Watch.{Watch}
-use Rattle.tl_boxes.specs.Boxes.{BoxesData, place_at, held_at, attached_watch, attached_at, given_back_at, retuned_at, detached_at, away_at, taken_at, placed_at}
-use Rattle.tl_boxes.proofs.WatchLemmas.{attached_and_back}
-use Rattle.tl_boxes.specs.Places.{Place, Here, Out, held_of, away_of, watch_of_place, watch_unless_closing, place_tuned, leaving}
-use Rattle.tl_boxes.specs.declared.away.Away.{Away}
+use Rattle.tl_monitor.specs.Boxes.{BoxesData, place_at, held_at, attached_watch, attached_at, given_back_at, retuned_at, detached_at, away_at, taken_at, placed_at}
+use Rattle.tl_monitor.proofs.WatchLemmas.{attached_and_back}
+use Rattle.tl_monitor.specs.Places.{Place, Here, Out, held_of, away_of, watch_of_place, watch_unless_closing, place_tuned, leaving}
+use Rattle.tl_monitor.specs.declared.away.Away.{Away}
 use Rattle.tl_definitions.specs.Positions.{Recorded}
 use Rattle.tl_definitions.specs.Watching.{retuned}
-use Rattle.tl_inputs.specs.Edits.{AnEdit, plain_change, add, replace, withdraw, clear_link, set_region, remove_region, attach, retune, detach}
+use Rattle.tl_edits.specs.Edits.{AnEdit, plain_change, add, replace, withdraw, clear_link, set_region, remove_region, attach, retune, detach}
 use Rattle.tl_beats.specs.Watches.{link_of}
-use Rattle.tl_inputs.specs.declared.fault.EditFault.TheVariants as fault
-use Rattle.tl_inputs.specs.Inputs.{InputData, watch_at, was_attached, refusal, most_edits, changed, with_fragments, with_regions, with_monitor, regions_at}
-use Rattle.tl_inputs.specs.declared.edit.Change.{Change}
-use Rattle.tl_inputs.specs.declared.edit.Change.TheVariants as change
+use Rattle.tl_edits.specs.declared.fault.EditFault.TheVariants as fault
+use Rattle.tl_edits.specs.Inputs.{InputData, watch_at, was_attached, refusal, most_edits, changed, with_fragments, with_regions, with_monitor, regions_at}
+use Rattle.tl_edits.specs.declared.edit.Change.{Change}
+use Rattle.tl_edits.specs.declared.edit.Change.TheVariants as change
 use Rattle.tl_monitor.specs.Held.{Held}
-use Rattle.tl_spans.proofs.EntryLemmas.{lookup_put}
-use Rattle.tl_watches.specs.Touch.{edited_monitor}
+use Rattle.tl_board.proofs.EntryLemmas.{lookup_put}
+use Rattle.tl_board.specs.TouchedWatches.{edited_monitor}
 use Rattle.tl_desk.specs.Core.{AreAttached, AreKnown}
 use Rattle.tl_desk.specs.Steps.{boxes_after, without_tally, KeepsBoxes}
 use Rattle.tl_desk.specs.Tickets.{ticket_away}

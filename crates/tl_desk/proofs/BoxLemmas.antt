@@ -11,11 +11,11 @@ use Rattle.std.proofs.lemmas.Bool.Decides.{nat_tests}
 use Rattle.std.proofs.lemmas.Cmp.{nat_cmp_total, eq_by_cmp_equiv}
 use Rattle.std.proofs.lemmas.Map.{lookup-remove_entry, lookup-set_value}
 use Rattle.std.proofs.lemmas.Map.Keys.{IsDistinct-from_sorted}
-use Rattle.tl_boxes.specs.Boxes.{BoxesData, place_at, held_at, away_at, placed_at, attached_at, retuned_at, detached_from, detached_at, taken_at, back_with, brought_back}
-use Rattle.tl_boxes.specs.Places.{Place, Here, Out, held_of, away_of, limit_of, tuned, place_tuned, leaving}
-use Rattle.tl_boxes.specs.declared.away.Away.{Away}
+use Rattle.tl_monitor.specs.Boxes.{BoxesData, place_at, held_at, away_at, placed_at, attached_at, retuned_at, detached_from, detached_at, taken_at, back_with, brought_back}
+use Rattle.tl_monitor.specs.Places.{Place, Here, Out, held_of, away_of, limit_of, tuned, place_tuned, leaving}
+use Rattle.tl_monitor.specs.declared.away.Away.{Away}
 use Rattle.tl_monitor.specs.Held.{Held}
-use Rattle.tl_spans.proofs.EntryLemmas.{lookup_put}
+use Rattle.tl_board.proofs.EntryLemmas.{lookup_put}
 
 -- ---- numbers
 

@@ -8,20 +8,20 @@ use Rattle.std.specs.Map.{keys_of}
 use Rattle.std.proofs.Math.Seq.{take-length}
 use Rattle.std.proofs.lemmas.List.{take-append-le, length-append}
 use Rattle.tl_beats.specs.declared.watch.Watch.{Watch}
-use Rattle.tl_boxes.specs.Boxes.{BoxesData, IsBoxes, place_at, held_at, away_at, placed_at, attached_at, retuned_at, detached_from, detached_at, taken_at, ended_at, back_with, brought_back, told}
-use Rattle.tl_boxes.specs.Places.{Place, Here, Out, away_of, watch_of_place, watch_unless_closing, limit_of, tuned, place_tuned, leaving}
-use Rattle.tl_boxes.specs.declared.away.Away.{Away}
-use Rattle.tl_boxes.proofs.KeptLemmas.{found_kept}
+use Rattle.tl_monitor.specs.Boxes.{BoxesData, IsBoxes, place_at, held_at, away_at, placed_at, attached_at, retuned_at, detached_from, detached_at, taken_at, ended_at, back_with, brought_back, told}
+use Rattle.tl_monitor.specs.Places.{Place, Here, Out, away_of, watch_of_place, watch_unless_closing, limit_of, tuned, place_tuned, leaving}
+use Rattle.tl_monitor.specs.declared.away.Away.{Away}
+use Rattle.tl_monitor.proofs.KeptLemmas.{found_kept}
 use Rattle.tl_definitions.specs.Watching.{retuned}
-use Rattle.tl_inputs.specs.Edits.{AnEdit, plain_change, attach, retune, detach}
-use Rattle.tl_inputs.specs.Inputs.{InputData, watch_at, was_attached, refusal, limit_refusal, most_edits, changed}
-use Rattle.tl_inputs.specs.Log.{LogData, inputs_after}
-use Rattle.tl_inputs.specs.declared.edit.Change.{Change}
-use Rattle.tl_inputs.specs.declared.edit.Change.TheVariants as change
-use Rattle.tl_inputs.specs.declared.fault.EditFault.TheVariants as fault
+use Rattle.tl_edits.specs.Edits.{AnEdit, plain_change, attach, retune, detach}
+use Rattle.tl_edits.specs.Inputs.{InputData, watch_at, was_attached, refusal, limit_refusal, most_edits, changed}
+use Rattle.tl_edits.specs.Log.{LogData, inputs_after}
+use Rattle.tl_edits.specs.declared.edit.Change.{Change}
+use Rattle.tl_edits.specs.declared.edit.Change.TheVariants as change
+use Rattle.tl_edits.specs.declared.fault.EditFault.TheVariants as fault
 use Rattle.tl_monitor.specs.Held.{Held}
 use Rattle.tl_monitor.specs.declared.monitor.Settlement.{Settlement}
-use Rattle.tl_watches.specs.Touch.{edited_monitor}
+use Rattle.tl_board.specs.TouchedWatches.{edited_monitor}
 use Rattle.tl_desk.specs.Core.{AreAttached, log_of}
 use Rattle.tl_desk.specs.Ends.{IsEndOf, HasTold, HaveEnded, IsAccountedFor}
 use Rattle.tl_desk.specs.Laws.{MonitorsAreAccountedFor}

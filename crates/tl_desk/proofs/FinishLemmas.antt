@@ -11,13 +11,13 @@ use Rattle.std.proofs.lemmas.List.Elements.{Contains-append_right}
 use Rattle.std.proofs.lemmas.Map.Keys.{sorted_head, sorted_tail}
 use Rattle.std.proofs.lemmas.Option.{slice_get-map}
 use Rattle.tl_beats.specs.declared.watch.Watch.{Watch}
-use Rattle.tl_boxes.specs.Boxes.{IsBoxes, place_at, here_in, first_out, told}
-use Rattle.tl_boxes.specs.Places.{Place, Here, Out, watch_of_place}
+use Rattle.tl_monitor.specs.Boxes.{IsBoxes, place_at, here_in, first_out, told}
+use Rattle.tl_monitor.specs.Places.{Place, Here, Out, watch_of_place}
 use Rattle.tl_definitions.proofs.Lists.{contains_here, contains_there, contains_mapped}
-use Rattle.tl_inputs.specs.Inputs.{watch_at}
+use Rattle.tl_edits.specs.Inputs.{watch_at}
 use Rattle.tl_monitor.specs.Held.{Held}
 use Rattle.tl_monitor.specs.declared.monitor.Settlement.{Settlement}
-use Rattle.tl_windows.proofs.PresentLemmas.{less_is}
+use Rattle.tl_capture.proofs.PresentLemmas.{less_is}
 use Rattle.tl_desk.specs.Core.{Core, IsSound, log_of, standing}
 use Rattle.tl_desk.specs.Ends.{IsEndOf, IsLastOf, AllHaveEnded}
 use Rattle.tl_desk.proofs.BoxLemmas.{number_exact, number_self, number_apart}

@@ -2,16 +2,16 @@
 use Rattle.std.proofs.Common.{◌≡◌, ℕ, inl, inr, true, false, List, [], ◌∷◌, Option, Some, None, refl, sym, ap, subst, ◌∙◌}
 use Rattle.std.specs.Prelude.{is_some}
 use Rattle.std.specs.Option.{option_map, option_and_then}
-use Rattle.tl_boxes.specs.Boxes.{BoxesData, IsBoxes, place_at, away_at, attached_at, first_out}
-use Rattle.tl_boxes.specs.Places.{Place, Here, Out, away_of, place_tuned}
-use Rattle.tl_boxes.specs.declared.away.Away.{Away}
-use Rattle.tl_boxes.proofs.OutLemmas.{lowest}
-use Rattle.tl_inputs.specs.Edits.{plain_change}
-use Rattle.tl_inputs.specs.declared.edit.Change.{Change}
-use Rattle.tl_inputs.specs.declared.edit.Change.TheVariants as change
+use Rattle.tl_monitor.specs.Boxes.{BoxesData, IsBoxes, place_at, away_at, attached_at, first_out}
+use Rattle.tl_monitor.specs.Places.{Place, Here, Out, away_of, place_tuned}
+use Rattle.tl_monitor.specs.declared.away.Away.{Away}
+use Rattle.tl_monitor.proofs.OutLemmas.{lowest}
+use Rattle.tl_edits.specs.Edits.{plain_change}
+use Rattle.tl_edits.specs.declared.edit.Change.{Change}
+use Rattle.tl_edits.specs.declared.edit.Change.TheVariants as change
 use Rattle.tl_monitor.specs.Held.{Held}
-use Rattle.tl_pieces.specs.declared.key.PieceKey.{PieceKey}
-use Rattle.tl_pieces.specs.Pieces.{Piece, IsFirst, left_by}
+use Rattle.tl_results.specs.declared.key.PieceKey.{PieceKey}
+use Rattle.tl_results.specs.Pieces.{Piece, IsFirst, left_by}
 use Rattle.tl_topology.specs.Topology.{Topology}
 use Rattle.tl_beats.specs.declared.watch.Watch.{Watch}
 use Rattle.tl_desk.specs.declared.call.Call.TheVariants as call

@@ -4,35 +4,35 @@ use Rattle.std.specs.Prelude.{is_some, option_map, true}
 use Rattle.std.specs.List.{AllByRecursion}
 use Rattle.tl_beats.specs.declared.Row.{Row}
 use Rattle.tl_beats.specs.declared.watch.Watch.{Watch}
-use Rattle.tl_boxes.specs.Boxes.{BoxesData, IsBoxes, place_at, held_at, away_at, attached_watch, taken_at, brought_back}
-use Rattle.tl_boxes.specs.Places.{Place, Here, Out, watch_of_place, limit_of, leaving, tuned}
-use Rattle.tl_boxes.specs.declared.away.Away.{Away}
-use Rattle.tl_boxes.proofs.WatchLemmas.{taken_watches, brought_back_watches}
-use Rattle.tl_inputs.specs.Log.{LogData, inputs_after}
+use Rattle.tl_monitor.specs.Boxes.{BoxesData, IsBoxes, place_at, held_at, away_at, attached_watch, taken_at, brought_back}
+use Rattle.tl_monitor.specs.Places.{Place, Here, Out, watch_of_place, limit_of, leaving, tuned}
+use Rattle.tl_monitor.specs.declared.away.Away.{Away}
+use Rattle.tl_monitor.proofs.WatchLemmas.{taken_watches, brought_back_watches}
+use Rattle.tl_edits.specs.Log.{LogData, inputs_after}
 use Rattle.tl_jobs.specs.Jobs.{JobData, piece_of}
 use Rattle.tl_jobs.specs.Monitors.{MonitorJobData}
 use Rattle.tl_monitor.specs.Held.{Held}
-use Rattle.tl_pieces.specs.declared.key.PieceKey.{PieceKey}
-use Rattle.tl_pieces.specs.Keys.{change}
-use Rattle.tl_pieces.specs.Pieces.{Board, Pass, Piece, piece_at, live_of, with_live, with_pieces}
-use Rattle.tl_span.specs.declared.state.SpanState.{SpanState}
-use Rattle.tl_spans.specs.Spans.{SpansData}
-use Rattle.tl_spans.specs.Tickets.{HandsIn}
-use Rattle.tl_spans.specs.Windows.{with_checked}
-use Rattle.tl_tickets.specs.declared.tickets.Taken.{Taken}
-use Rattle.tl_tickets.specs.Tickets as tickets
-use Rattle.tl_tickets.specs.Tickets.{TicketsData, AreTickets, IsOutFor}
-use Rattle.tl_watches.specs.declared.tally.Tally.{Tally}
-use Rattle.tl_watches.specs.Outside.{IsWatchTaskFor, HandsInWatch}
-use Rattle.tl_watches.specs.Tasks.{WatchWindowData, with_monitor, without_monitor}
-use Rattle.tl_watches.specs.Watches.{WatchesData}
+use Rattle.tl_results.specs.declared.key.PieceKey.{PieceKey}
+use Rattle.tl_results.specs.Keys.{change}
+use Rattle.tl_results.specs.Pieces.{Board, Pass, Piece, piece_at, live_of, with_live, with_pieces}
+use Rattle.tl_check.specs.declared.state.SpanState.{SpanState}
+use Rattle.tl_board.specs.Spans.{SpansData}
+use Rattle.tl_board.specs.Tickets.{HandsIn}
+use Rattle.tl_board.specs.Windows.{with_checked}
+use Rattle.tl_jobs.specs.declared.tickets.Taken.{Taken}
+use Rattle.tl_jobs.specs.Tickets as tickets
+use Rattle.tl_jobs.specs.Tickets.{TicketsData, AreTickets, IsOutFor}
+use Rattle.tl_board.specs.declared.tally.Tally.{Tally}
+use Rattle.tl_board.specs.Outside.{IsWatchTaskFor, HandsInWatch}
+use Rattle.tl_board.specs.WatchTasks.{WatchWindowData, with_monitor, without_monitor}
+use Rattle.tl_board.specs.Watches.{WatchesData}
 use Rattle.tl_desk.specs.Core.{Core, IsSound, IsOf, AreAttached, AreKnown, log_of, standing}
 use Rattle.tl_jobs.specs.declared.job.Done.{Done}
 use Rattle.tl_jobs.specs.declared.job.Done.TheVariants as a_done
 use Rattle.tl_jobs.specs.declared.job.HandIn.{HandIn}
 use Rattle.tl_jobs.specs.declared.job.HandIn.TheVariants as answer
 use Rattle.std.specs.Option.{IsSomeAnd, option_and_then}
-use Rattle.tl_inputs.specs.Inputs.{watch_at}
+use Rattle.tl_edits.specs.Inputs.{watch_at}
 use Rattle.tl_desk.specs.Steps.{HandInStep}
 use Rattle.tl_desk.specs.Jobs.{HandsBack, Unmarks, UnmarksWatch, IsLive, IsLiveAt, IsLiveAtWatch, IsOwn, ended, given, marked, marked_watch, with_spans, key_for, watch_key_for}
 use Rattle.tl_desk.specs.Ends.{HaveEnded}

@@ -15,8 +15,8 @@ use Rattle.tl_definitions.specs.Report.{key_order}
 use Rattle.tl_definitions.specs.Rules.{Manager}
 use Rattle.tl_definitions.specs.Tallies.{watching}
 use Rattle.tl_definitions.proofs.ReportLaws.{key_total, strict_one}
-use Rattle.tl_inputs.specs.Inputs.{InputData, regions_at, watch_at}
-use Rattle.tl_inputs.specs.Log.{LogData, inputs_after}
+use Rattle.tl_edits.specs.Inputs.{InputData, regions_at, watch_at}
+use Rattle.tl_edits.specs.Log.{LogData, inputs_after}
 use Rattle.tl_jobs.specs.Jobs.{JobData, DoneData, IsDone}
 use Rattle.tl_jobs.specs.Monitors.{MonitorJobData, MonitorDoneData, SameJob, IsMonitorDone}
 use Rattle.tl_jobs.specs.Works.{ComesBack, IsDoneFrom, IsChecked}
@@ -24,23 +24,23 @@ use Rattle.tl_jobs.specs.declared.job.Job.{Job}
 use Rattle.tl_jobs.specs.declared.job.Job.TheVariants as a_job
 use Rattle.tl_jobs.specs.declared.job.Done.{Done}
 use Rattle.tl_jobs.specs.declared.job.Done.TheVariants as a_done
-use Rattle.tl_pieces.specs.declared.key.PieceKey.{PieceKey}
-use Rattle.tl_pieces.specs.Pieces.{Pass, entry_for}
-use Rattle.tl_plain.specs.Captured.{watched_beats}
-use Rattle.tl_span.specs.Links.{SameLink}
-use Rattle.tl_span.specs.States.{IsOf, SameSpan}
-use Rattle.tl_span.specs.declared.links.LinkState.{LinkState}
-use Rattle.tl_span.specs.declared.state.SpanState.{SpanState}
-use Rattle.tl_span.proofs.StateLaws.{same_shown, shown_same}
-use Rattle.tl_spans.specs.Spans.{SpansData, standing}
-use Rattle.tl_spans.specs.Tickets.{IsTaskFor}
-use Rattle.tl_tasks.specs.Tasks.{TaskData, IsPassOf, manager_of}
-use Rattle.tl_watches.specs.declared.tally.Tally.{Tally}
-use Rattle.tl_watches.specs.Outside.{IsWatchTaskFor}
-use Rattle.tl_watches.specs.Tally.{SameTally}
-use Rattle.tl_watches.specs.Tasks.{WatchTaskData, IsWatchPassOf, without_monitor}
-use Rattle.tl_watches.specs.Watches.{WatchesData}
-use Rattle.tl_windows.specs.Windows.{beats_in}
+use Rattle.tl_results.specs.declared.key.PieceKey.{PieceKey}
+use Rattle.tl_results.specs.Pieces.{Pass, entry_for}
+use Rattle.tl_check.specs.Captured.{watched_beats}
+use Rattle.tl_check.specs.Links.{SameLink}
+use Rattle.tl_check.specs.States.{IsOf, SameSpan}
+use Rattle.tl_check.specs.declared.links.LinkState.{LinkState}
+use Rattle.tl_check.specs.declared.state.SpanState.{SpanState}
+use Rattle.tl_check.proofs.StateLaws.{same_shown, shown_same}
+use Rattle.tl_board.specs.Spans.{SpansData, standing}
+use Rattle.tl_board.specs.Tickets.{IsTaskFor}
+use Rattle.tl_board.specs.Tasks.{TaskData, IsPassOf, manager_of}
+use Rattle.tl_board.specs.declared.tally.Tally.{Tally}
+use Rattle.tl_board.specs.Outside.{IsWatchTaskFor}
+use Rattle.tl_board.specs.Tally.{SameTally}
+use Rattle.tl_board.specs.WatchTasks.{WatchTaskData, IsWatchPassOf, without_monitor}
+use Rattle.tl_board.specs.Watches.{WatchesData}
+use Rattle.tl_capture.specs.Windows.{beats_in}
 use Rattle.tl_desk.specs.Alike.{AreBoth, SamePass}
 use Rattle.tl_desk.proofs.AlikeBoards.{moved}
 use Rattle.tl_desk.proofs.TicketLemmas.{one_value}

@@ -3,15 +3,15 @@ use Rattle.std.proofs.Common.{◌≡◌, ℕ, zero, suc, true, false, List, [], 
 use Rattle.std.specs.Prelude.{slice_get}
 use Rattle.tl_beats.specs.declared.Row.{Row}
 use Rattle.tl_beats.specs.declared.watch.Watch.{Watch}
-use Rattle.tl_boxes.specs.Boxes.{BoxesData}
-use Rattle.tl_inputs.specs.Edits.{plain_change, attach}
-use Rattle.tl_inputs.specs.declared.edit.Change.{Change}
+use Rattle.tl_monitor.specs.Boxes.{BoxesData}
+use Rattle.tl_edits.specs.Edits.{plain_change, attach}
+use Rattle.tl_edits.specs.declared.edit.Change.{Change}
 use Rattle.tl_jobs.specs.Works as works
 use Rattle.tl_jobs.specs.declared.job.Done.{Done}
 use Rattle.tl_jobs.specs.declared.job.Done.TheVariants as a_done
-use Rattle.tl_pieces.specs.Pieces.{Pass, Piece, piece_at}
-use Rattle.tl_span.specs.States.{SameSpan}
-use Rattle.tl_watches.specs.Tally.{SameTally}
+use Rattle.tl_results.specs.Pieces.{Pass, Piece, piece_at}
+use Rattle.tl_check.specs.States.{SameSpan}
+use Rattle.tl_board.specs.Tally.{SameTally}
 use Rattle.tl_desk.specs.Alike.{AreBoth, SamePass, SamePiece, HaveSameMonitors, ShowAlike, PlaysKeepDesksAlike, RepliesFixTheDesk}
 use Rattle.tl_desk.specs.Core.{Core, IsDesk}
 use Rattle.tl_desk.specs.Plays.{with_place, job_of, AnswersEdit, AnswersAttach, AnswersRecall, AnswersPublish, AnswersTake, AnswersWork, AnswersHandIn, AnswersAbandon, Answers, Runs, Leaves, LeavesOne}

@@ -2,13 +2,13 @@
 use Rattle.std.proofs.Common.{◌≡◌, ℕ, ◌⊎◌, inl, inr, true, false, Bool, List, [], ◌∷◌, ◌++◌, Option, Some, None, length, refl, sym, ap, subst, ◌∙◌}
 use Rattle.std.specs.Option.{option_map}
 use Rattle.tl_beats.specs.declared.Row.{Row}
-use Rattle.tl_boxes.specs.Boxes.{BoxesData, away_at, taken_at, brought_back}
-use Rattle.tl_boxes.specs.declared.away.Away.{Away}
+use Rattle.tl_monitor.specs.Boxes.{BoxesData, away_at, taken_at, brought_back}
+use Rattle.tl_monitor.specs.declared.away.Away.{Away}
 use Rattle.tl_definitions.specs.Report.{IsReport}
 use Rattle.tl_definitions.proofs.ReportLaws.{one_report}
-use Rattle.tl_inputs.specs.Edits.{AnEdit}
-use Rattle.tl_inputs.specs.Inputs.{InputData}
-use Rattle.tl_inputs.specs.Log.{LogData, inputs_after}
+use Rattle.tl_edits.specs.Edits.{AnEdit}
+use Rattle.tl_edits.specs.Inputs.{InputData}
+use Rattle.tl_edits.specs.Log.{LogData, inputs_after}
 use Rattle.tl_jobs.specs.Jobs.{JobData, DoneData}
 use Rattle.tl_jobs.specs.Monitors.{MonitorJobData, MonitorDoneData}
 use Rattle.tl_jobs.specs.Works.{ticket_of}
@@ -16,22 +16,22 @@ use Rattle.tl_jobs.specs.declared.job.Job.{Job}
 use Rattle.tl_jobs.specs.declared.job.Job.TheVariants as a_job
 use Rattle.tl_jobs.specs.declared.job.Done.{Done}
 use Rattle.tl_jobs.specs.declared.job.Done.TheVariants as a_done
-use Rattle.tl_pieces.specs.declared.key.PieceKey.{PieceKey}
-use Rattle.tl_pieces.specs.Pieces.{Pass, IsFree, IsFirstFree, piece_at}
-use Rattle.tl_plain.specs.Captured.{captures_after}
-use Rattle.tl_report.specs.Output.{ReportData}
-use Rattle.tl_span.specs.States.{SameSpan}
-use Rattle.tl_span.specs.declared.state.SpanState.{SpanState}
-use Rattle.tl_spans.specs.Spans.{SpansData}
-use Rattle.tl_spans.specs.Tickets.{IsTaskFor, HandsIn}
-use Rattle.tl_spans.specs.Windows.{key_of}
-use Rattle.tl_tickets.specs.declared.piece.Piece.{Piece as APiece}
-use Rattle.tl_tickets.specs.Tickets.{IsOutFor}
-use Rattle.tl_watches.specs.declared.tally.Tally.{Tally}
-use Rattle.tl_watches.specs.Outside.{IsWatchTaskFor, HandsInWatch}
-use Rattle.tl_watches.specs.Tally.{SameTally}
-use Rattle.tl_watches.specs.Tasks.{without_monitor}
-use Rattle.tl_watches.specs.Watches.{WatchesData, AreWatches}
+use Rattle.tl_results.specs.declared.key.PieceKey.{PieceKey}
+use Rattle.tl_results.specs.Pieces.{Pass, IsFree, IsFirstFree, piece_at}
+use Rattle.tl_check.specs.Captured.{captures_after}
+use Rattle.tl_check.specs.Output.{ReportData}
+use Rattle.tl_check.specs.States.{SameSpan}
+use Rattle.tl_check.specs.declared.state.SpanState.{SpanState}
+use Rattle.tl_board.specs.Spans.{SpansData}
+use Rattle.tl_board.specs.Tickets.{IsTaskFor, HandsIn}
+use Rattle.tl_board.specs.Windows.{key_of}
+use Rattle.tl_jobs.specs.declared.piece.Piece.{Piece as APiece}
+use Rattle.tl_jobs.specs.Tickets.{IsOutFor}
+use Rattle.tl_board.specs.declared.tally.Tally.{Tally}
+use Rattle.tl_board.specs.Outside.{IsWatchTaskFor, HandsInWatch}
+use Rattle.tl_board.specs.Tally.{SameTally}
+use Rattle.tl_board.specs.WatchTasks.{without_monitor}
+use Rattle.tl_board.specs.Watches.{WatchesData, AreWatches}
 use Rattle.tl_desk.specs.Alike.{SamePass, SamePiece, HaveSamePieces, HaveSameMonitors, ShowAlike}
 use Rattle.tl_desk.specs.Core.{Core, IsDesk, log_of, standing}
 use Rattle.tl_desk.specs.Jobs.{Gives, HandsBack, TakesBack, IsHere, IsFirstFreeWatch, Takes, TakesWatch, Accepts, AcceptsWatch, Ends, EndsWatch, Recalls, RecallsWatch, Unmarks, UnmarksWatch, IsOwn, with_spans, marked, marked_watch, key_for, watch_key_for, given, ended}

@@ -4,13 +4,13 @@ use Rattle.std.specs.Prelude.{slice_get}
 use Rattle.std.specs.Option.{IfSome, option_and_then, option_map}
 use Rattle.std.specs.Result.{IsOk, OnErr}
 use Rattle.tl_beats.specs.declared.watch.Watch.{Watch}
-use Rattle.tl_boxes.specs.Boxes.{BoxesData, IsBoxes, place_at, away_at, departed, brought_back}
-use Rattle.tl_boxes.specs.Places.{Place as ABox, Here, Out, away_of, departure}
-use Rattle.tl_boxes.specs.declared.away.Away.{Away}
-use Rattle.tl_boxes.proofs.DepartureLemmas.{attached_departures, retuned_departures, detached_departures}
-use Rattle.tl_inputs.specs.Edits.{plain_change}
-use Rattle.tl_inputs.specs.declared.edit.Change.{Change}
-use Rattle.tl_inputs.specs.declared.edit.Change.TheVariants as change
+use Rattle.tl_monitor.specs.Boxes.{BoxesData, IsBoxes, place_at, away_at, departed, brought_back}
+use Rattle.tl_monitor.specs.Places.{Place as ABox, Here, Out, away_of, departure}
+use Rattle.tl_monitor.specs.declared.away.Away.{Away}
+use Rattle.tl_monitor.proofs.DepartureLemmas.{attached_departures, retuned_departures, detached_departures}
+use Rattle.tl_edits.specs.Edits.{plain_change}
+use Rattle.tl_edits.specs.declared.edit.Change.{Change}
+use Rattle.tl_edits.specs.declared.edit.Change.TheVariants as change
 use Rattle.tl_jobs.specs.Jobs.{JobData, piece_of}
 use Rattle.tl_jobs.specs.Monitors.{MonitorJobData, SameJob, monitor_piece}
 use Rattle.tl_jobs.specs.Works as works
@@ -20,11 +20,11 @@ use Rattle.tl_jobs.specs.declared.job.Job.TheVariants as a_job
 use Rattle.tl_jobs.specs.declared.job.Done.{Done}
 use Rattle.tl_jobs.specs.declared.job.Done.TheVariants as a_done
 use Rattle.tl_jobs.specs.declared.job.HandIn.TheVariants as answer
-use Rattle.tl_tickets.specs.declared.piece.Piece.{Piece as APiece}
-use Rattle.tl_tickets.specs.declared.piece.Piece.TheVariants as piece
-use Rattle.tl_tickets.specs.declared.tickets.Taken.{Taken}
-use Rattle.tl_tickets.specs.Tickets.{TicketsData, AreTickets, IsOutFor, taken_at}
-use Rattle.tl_watches.specs.Tasks.{WatchTaskData}
+use Rattle.tl_jobs.specs.declared.piece.Piece.{Piece as APiece}
+use Rattle.tl_jobs.specs.declared.piece.Piece.TheVariants as piece
+use Rattle.tl_jobs.specs.declared.tickets.Taken.{Taken}
+use Rattle.tl_jobs.specs.Tickets.{TicketsData, AreTickets, IsOutFor, taken_at}
+use Rattle.tl_board.specs.WatchTasks.{WatchTaskData}
 use Rattle.tl_desk.specs.Core.{Core, IsSound, IsDesk, log_of, standing}
 use Rattle.tl_desk.specs.Jobs.{IsOwn, IsOutHere, TakesBack, Takes, TakesWatch, Gives, HandsBack, ended, key_for, watch_key_for}
 use Rattle.tl_desk.specs.Plays.{with_place, job_of, job_at, AreOut, Answers, Runs, Leaves, LeavesOne, handed_in}

@@ -3,14 +3,14 @@ use Rattle.std.proofs.Common.{◌≡◌, ℕ, inl, inr, Bool, true, false, cond,
 use Rattle.std.specs.BTreeMap.{is_at}
 use Rattle.std.specs.Option.{option_map}
 use Rattle.tl_beats.specs.declared.Row.{Row}
-use Rattle.tl_pieces.proofs.OrderLemmas.{key_exact}
-use Rattle.tl_pieces.specs.declared.key.PieceKey.{PieceKey}
-use Rattle.tl_pieces.specs.Keys.{key_cmp, change}
-use Rattle.tl_pieces.specs.Pieces.{Board, piece_at, live_of, with_live, with_pieces}
-use Rattle.tl_span.specs.declared.state.SpanState.{SpanState}
-use Rattle.tl_spans.proofs.CheckLemmas.{lookup_change}
-use Rattle.tl_tickets.specs.Tickets.{IsOutFor}
-use Rattle.tl_watches.specs.declared.tally.Tally.{Tally}
+use Rattle.tl_results.proofs.OrderLemmas.{key_exact}
+use Rattle.tl_results.specs.declared.key.PieceKey.{PieceKey}
+use Rattle.tl_results.specs.Keys.{key_cmp, change}
+use Rattle.tl_results.specs.Pieces.{Board, piece_at, live_of, with_live, with_pieces}
+use Rattle.tl_check.specs.declared.state.SpanState.{SpanState}
+use Rattle.tl_board.proofs.CheckLemmas.{lookup_change}
+use Rattle.tl_jobs.specs.Tickets.{IsOutFor}
+use Rattle.tl_board.specs.declared.tally.Tally.{Tally}
 use Rattle.tl_desk.specs.Core.{Core, IsSound, log_of}
 use Rattle.tl_desk.specs.Jobs.{IsLive, Recalls, RecallsWatch}
 use Rattle.tl_desk.specs.Laws.{RecallsEndOne}

@@ -8,25 +8,25 @@ use Rattle.std.specs.List.{AllByRecursion}
 use Rattle.std.proofs.Math.Seq.{take-length}
 use Rattle.std.proofs.lemmas.List.{take-append-le, length-append}
 use Rattle.tl_definitions.specs.Report.{IsReport}
-use Rattle.tl_inputs.specs.Edits.{AnEdit}
-use Rattle.tl_inputs.specs.Inputs.{InputData, changed}
-use Rattle.tl_inputs.specs.Log.{LogData, inputs_after}
-use Rattle.tl_plain.specs.Captured.{captures_after}
-use Rattle.tl_span.specs.States.{SameSpan}
-use Rattle.tl_spans.specs.Recheck.{ChecksSome}
-use Rattle.tl_spans.specs.Spans as spans
-use Rattle.tl_spans.proofs.EditLemmas.{stands}
-use Rattle.tl_watches.specs.Edits.{EditsBoth}
-use Rattle.tl_watches.specs.Tally.{SameTally}
-use Rattle.tl_watches.specs.Watches.{WatchesData}
-use Rattle.tl_windows.specs.Present.{IsPresent}
-use Rattle.tl_boxes.specs.Boxes.{BoxesData}
+use Rattle.tl_edits.specs.Edits.{AnEdit}
+use Rattle.tl_edits.specs.Inputs.{InputData, changed}
+use Rattle.tl_edits.specs.Log.{LogData, inputs_after}
+use Rattle.tl_check.specs.Captured.{captures_after}
+use Rattle.tl_check.specs.States.{SameSpan}
+use Rattle.tl_board.specs.Recheck.{ChecksSome}
+use Rattle.tl_board.specs.Spans as spans
+use Rattle.tl_board.proofs.EditLemmas.{stands}
+use Rattle.tl_board.specs.Accepting.{EditsBoth}
+use Rattle.tl_board.specs.Tally.{SameTally}
+use Rattle.tl_board.specs.Watches.{WatchesData}
+use Rattle.tl_capture.specs.Present.{IsPresent}
+use Rattle.tl_monitor.specs.Boxes.{BoxesData}
 use Rattle.tl_desk.specs.Steps.{KeepsBoxes}
 use Rattle.tl_desk.specs.Ends.{HaveEnded}
 use Rattle.tl_desk.proofs.AttachedLemmas.{Keeps, still_attached}
 use Rattle.tl_desk.proofs.EndLemmas.{ends_still}
 use Rattle.tl_desk.proofs.TicketLemmas.{tickets_checked, tickets_edited}
-use Rattle.tl_report.specs.Output.{ReportData}
+use Rattle.tl_check.specs.Output.{ReportData}
 use Rattle.tl_desk.specs.Core.{Core, AreLinked, IsOf, IsSound, AreAttached, AreKnown, AreVersions, log_of, standing, most_versions}
 
 still_of : (log : LogData) (e : AnEdit) (report : ReportData) → IsOf log report → IsOf (record log { edits = log.edits ++ e ∷ [] }) report

@@ -4,18 +4,18 @@ use Rattle.std.specs.BTreeMap.{is_at}
 use Rattle.tl_beats.specs.declared.Row.{Row}
 use Rattle.tl_jobs.specs.Jobs.{JobData}
 use Rattle.tl_jobs.specs.Monitors.{MonitorJobData}
-use Rattle.tl_pieces.specs.declared.key.PieceKey.{PieceKey}
-use Rattle.tl_pieces.specs.Keys.{key_cmp, change}
-use Rattle.tl_pieces.specs.Pieces.{Board, Piece, Pass, exit_before, left_by, with_live, IsAt, IsFirst, IsGood, Follows, IsWanted, ChainsFrom, IsSettled}
-use Rattle.tl_span.specs.States.{SameSpan}
-use Rattle.tl_span.specs.declared.state.SpanState.{SpanState}
-use Rattle.tl_spans.specs.Spans.{SpansData}
-use Rattle.tl_spans.specs.Tickets.{HandsIn}
-use Rattle.tl_tickets.specs.declared.piece.Piece.TheVariants as piece
-use Rattle.tl_watches.specs.declared.tally.Tally.{Tally}
-use Rattle.tl_watches.specs.Outside.{HandsInWatch}
-use Rattle.tl_watches.specs.Tally.{SameTally}
-use Rattle.tl_watches.specs.Watches.{WatchesData}
+use Rattle.tl_results.specs.declared.key.PieceKey.{PieceKey}
+use Rattle.tl_results.specs.Keys.{key_cmp, change}
+use Rattle.tl_results.specs.Pieces.{Board, Piece, Pass, exit_before, left_by, with_live, IsAt, IsFirst, IsGood, Follows, IsWanted, ChainsFrom, IsSettled}
+use Rattle.tl_check.specs.States.{SameSpan}
+use Rattle.tl_check.specs.declared.state.SpanState.{SpanState}
+use Rattle.tl_board.specs.Spans.{SpansData}
+use Rattle.tl_board.specs.Tickets.{HandsIn}
+use Rattle.tl_jobs.specs.declared.piece.Piece.TheVariants as piece
+use Rattle.tl_board.specs.declared.tally.Tally.{Tally}
+use Rattle.tl_board.specs.Outside.{HandsInWatch}
+use Rattle.tl_board.specs.Tally.{SameTally}
+use Rattle.tl_board.specs.Watches.{WatchesData}
 use Rattle.tl_desk.specs.Core.{Core, AllSettled}
 use Rattle.tl_desk.specs.Jobs.{Unmarks, UnmarksWatch, Ends, EndsWatch}
 use Rattle.tl_desk.specs.Laws.{OnlyEditsUnsettle}

@@ -6,19 +6,19 @@ use Rattle.std.specs.Option.{option_map, option_or, option_and_then}
 use Rattle.std.specs.Ordering.{is_le}
 use Rattle.std.proofs.lemmas.Bool.Decides.{nat_tests}
 use Rattle.tl_beats.specs.declared.watch.Watch.{Watch}
-use Rattle.tl_boxes.specs.Boxes.{BoxesData, place_at, held_at}
-use Rattle.tl_boxes.specs.Places.{Place, Here, Out, held_of}
+use Rattle.tl_monitor.specs.Boxes.{BoxesData, place_at, held_at}
+use Rattle.tl_monitor.specs.Places.{Place, Here, Out, held_of}
 use Rattle.tl_monitor.specs.Held.{Held}
-use Rattle.tl_pieces.proofs.OrderLemmas.{key_exact, key_self}
-use Rattle.tl_pieces.specs.declared.key.PieceKey.{PieceKey}
-use Rattle.tl_pieces.specs.Keys.{key_cmp, change, before}
-use Rattle.tl_pieces.specs.Pieces.{Piece, opening_of, exit_of, last_exit, entry_for}
-use Rattle.tl_spans.proofs.RecheckLemmas.{before_changed}
-use Rattle.tl_spans.specs.Spans.{SpansData, standing}
-use Rattle.tl_spans.specs.Windows.{key_of, with_checked}
-use Rattle.tl_windows.specs.Windows.{beats_in}
-use Rattle.tl_watches.specs.Tasks.{IsAmid}
-use Rattle.tl_watches.specs.Watches.{WatchesData, beats_for, IsAmidWindow, ChecksWatch}
+use Rattle.tl_results.proofs.OrderLemmas.{key_exact, key_self}
+use Rattle.tl_results.specs.declared.key.PieceKey.{PieceKey}
+use Rattle.tl_results.specs.Keys.{key_cmp, change, before}
+use Rattle.tl_results.specs.Pieces.{Piece, opening_of, exit_of, last_exit, entry_for}
+use Rattle.tl_board.proofs.RecheckLemmas.{before_changed}
+use Rattle.tl_board.specs.Spans.{SpansData, standing}
+use Rattle.tl_board.specs.Windows.{key_of, with_checked}
+use Rattle.tl_capture.specs.Windows.{beats_in}
+use Rattle.tl_board.specs.WatchTasks.{IsAmid}
+use Rattle.tl_board.specs.Watches.{WatchesData, beats_for, IsAmidWindow, ChecksWatch}
 use Rattle.tl_desk.specs.Steps.{without_tally, KeepsBoxes, LeavesOne, LeavesTallies}
 use Rattle.tl_desk.proofs.BoxLemmas.{IsPlaced, same_number}
 

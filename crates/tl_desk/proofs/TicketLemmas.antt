@@ -10,38 +10,38 @@ use Rattle.std.proofs.lemmas.List.{take-append-le, length-append}
 use Rattle.std.proofs.lemmas.Map.{lookup-remove_entry}
 use Rattle.std.proofs.lemmas.Map.Keys.{IsDistinct-from_sorted}
 use Rattle.tl_beats.specs.declared.Row.{Row}
-use Rattle.tl_boxes.specs.Boxes.{BoxesData}
+use Rattle.tl_monitor.specs.Boxes.{BoxesData}
 use Rattle.tl_definitions.specs.Captures.{manager_beats}
-use Rattle.tl_inputs.specs.Edits.{AnEdit}
-use Rattle.tl_inputs.specs.Inputs.{InputData, watch_at, changed}
-use Rattle.tl_inputs.specs.Log.{LogData, inputs_after}
-use Rattle.tl_pieces.specs.declared.key.PieceKey.{PieceKey}
-use Rattle.tl_pieces.specs.Keys.{key_cmp, change}
-use Rattle.tl_pieces.specs.Pieces.{Board, Piece, piece_at, live_of, with_live, with_pieces}
-use Rattle.tl_pieces.proofs.OrderLemmas.{key_exact, key_self}
-use Rattle.tl_plain.specs.Captured.{areas_at}
-use Rattle.tl_span.specs.States.{SameSpan}
-use Rattle.tl_span.specs.declared.state.SpanState.{SpanState}
-use Rattle.tl_spans.specs.Edits.{EditsTo}
-use Rattle.tl_spans.specs.Recheck.{ChecksSome}
-use Rattle.tl_spans.specs.Spans.{SpansData, standing}
-use Rattle.tl_spans.specs.Touch.{Touches}
-use Rattle.tl_spans.proofs.CheckLemmas.{lookup_change}
-use Rattle.tl_spans.proofs.EditLemmas.{stands}
-use Rattle.tl_spans.proofs.EntryLemmas.{lookup_put}
-use Rattle.tl_spans.proofs.TouchLemmas.{untouched_beats, untouched_regions, regions_are_touched}
-use Rattle.tl_tickets.specs.declared.piece.Piece.{Piece as APiece}
-use Rattle.tl_tickets.specs.declared.piece.Piece.TheVariants as piece
-use Rattle.tl_tickets.specs.declared.tickets.Taken.{Taken}
-use Rattle.tl_tickets.specs.Tickets.{TicketsData, AreTickets, IsOutFor, taken_at}
-use Rattle.tl_watches.specs.declared.tally.Tally.{Tally}
-use Rattle.tl_watches.specs.Edits.{EditsBoth}
-use Rattle.tl_watches.specs.Tally.{SameTally}
-use Rattle.tl_watches.specs.Touch.{TouchesWatch}
-use Rattle.tl_watches.specs.Watches.{WatchesData, beats_for}
-use Rattle.tl_watches.proofs.AfterLemmas.{same_watch, same_beats}
-use Rattle.tl_windows.specs.Present.{IsPresent}
-use Rattle.tl_windows.specs.Windows.{beats_in}
+use Rattle.tl_edits.specs.Edits.{AnEdit}
+use Rattle.tl_edits.specs.Inputs.{InputData, watch_at, changed}
+use Rattle.tl_edits.specs.Log.{LogData, inputs_after}
+use Rattle.tl_results.specs.declared.key.PieceKey.{PieceKey}
+use Rattle.tl_results.specs.Keys.{key_cmp, change}
+use Rattle.tl_results.specs.Pieces.{Board, Piece, piece_at, live_of, with_live, with_pieces}
+use Rattle.tl_results.proofs.OrderLemmas.{key_exact, key_self}
+use Rattle.tl_check.specs.Captured.{areas_at}
+use Rattle.tl_check.specs.States.{SameSpan}
+use Rattle.tl_check.specs.declared.state.SpanState.{SpanState}
+use Rattle.tl_board.specs.Edits.{EditsTo}
+use Rattle.tl_board.specs.Recheck.{ChecksSome}
+use Rattle.tl_board.specs.Spans.{SpansData, standing}
+use Rattle.tl_board.specs.Touch.{Touches}
+use Rattle.tl_board.proofs.CheckLemmas.{lookup_change}
+use Rattle.tl_board.proofs.EditLemmas.{stands}
+use Rattle.tl_board.proofs.EntryLemmas.{lookup_put}
+use Rattle.tl_board.proofs.TouchLemmas.{untouched_beats, untouched_regions, regions_are_touched}
+use Rattle.tl_jobs.specs.declared.piece.Piece.{Piece as APiece}
+use Rattle.tl_jobs.specs.declared.piece.Piece.TheVariants as piece
+use Rattle.tl_jobs.specs.declared.tickets.Taken.{Taken}
+use Rattle.tl_jobs.specs.Tickets.{TicketsData, AreTickets, IsOutFor, taken_at}
+use Rattle.tl_board.specs.declared.tally.Tally.{Tally}
+use Rattle.tl_board.specs.Accepting.{EditsBoth}
+use Rattle.tl_board.specs.Tally.{SameTally}
+use Rattle.tl_board.specs.TouchedWatches.{TouchesWatch}
+use Rattle.tl_board.specs.Watches.{WatchesData, beats_for}
+use Rattle.tl_board.proofs.AfterLemmas.{same_watch, same_beats}
+use Rattle.tl_capture.specs.Present.{IsPresent}
+use Rattle.tl_capture.specs.Windows.{beats_in}
 use Rattle.tl_desk.proofs.BoxLemmas.{nat_exact, number_self, number_apart, number_apart_back, number_equivalence, same_test, same_number}
 use Rattle.tl_desk.specs.Tickets.{left_by, window_of, watch_window_of, ticket_away, IsSince, IsSinceWatch, IsLiveFor, IsLiveForWatch, HoldsTickets}
 

@@ -2,13 +2,13 @@
 use Rattle.std.proofs.Common.{◌≡◌, ◌++◌, ◌∷◌, [], List, Option, Some, None, refl, sym, ap, subst}
 use Rattle.std.specs.Prelude.{IfSome}
 use Rattle.tl_beats.specs.declared.Row.{Row}
-use Rattle.tl_boxes.specs.Boxes.{BoxesData}
-use Rattle.tl_pieces.specs.declared.key.PieceKey.{PieceKey}
-use Rattle.tl_pieces.specs.Pieces.{Board, IsFirstWanted, HasTrueEntry}
-use Rattle.tl_spans.proofs.RecheckLemmas.{IsUnderWay, one_more}
-use Rattle.tl_watches.specs.declared.tally.Tally.{Tally}
-use Rattle.tl_watches.specs.Tally.{SameTally}
-use Rattle.tl_watches.specs.Watches.{WatchesData, ChecksWatch}
+use Rattle.tl_monitor.specs.Boxes.{BoxesData}
+use Rattle.tl_results.specs.declared.key.PieceKey.{PieceKey}
+use Rattle.tl_results.specs.Pieces.{Board, IsFirstWanted, HasTrueEntry}
+use Rattle.tl_board.proofs.RecheckLemmas.{IsUnderWay, one_more}
+use Rattle.tl_board.specs.declared.tally.Tally.{Tally}
+use Rattle.tl_board.specs.Tally.{SameTally}
+use Rattle.tl_board.specs.Watches.{WatchesData, ChecksWatch}
 use Rattle.tl_desk.specs.Steps.{IsOut, NoneIsOut}
 use Rattle.tl_desk.proofs.FirstLemmas.{none_checked, first_other}
 

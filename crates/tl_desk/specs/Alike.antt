@@ -3,12 +3,12 @@ use Rattle.std.specs.Prelude.{ℕ, ◌≡◌, List, Option, Some, None}
 use Rattle.std.specs.Option.{option_map}
 use Rattle.tl_beats.specs.declared.Row.{Row}
 use Rattle.tl_beats.specs.declared.watch.Watch.{Watch}
-use Rattle.tl_boxes.specs.Boxes.{BoxesData, place_at}
-use Rattle.tl_boxes.specs.Places.{Place, Here, Out}
-use Rattle.tl_pieces.specs.declared.key.PieceKey.{PieceKey}
-use Rattle.tl_pieces.specs.Pieces.{Board, Piece, Pass, piece_at}
-use Rattle.tl_span.specs.States.{SameSpan}
-use Rattle.tl_watches.specs.Tally.{SameTally}
+use Rattle.tl_monitor.specs.Boxes.{BoxesData, place_at}
+use Rattle.tl_monitor.specs.Places.{Place, Here, Out}
+use Rattle.tl_results.specs.declared.key.PieceKey.{PieceKey}
+use Rattle.tl_results.specs.Pieces.{Board, Piece, Pass, piece_at}
+use Rattle.tl_check.specs.States.{SameSpan}
+use Rattle.tl_board.specs.Tally.{SameTally}
 use Rattle.tl_desk.specs.Core.{Core, IsDesk, log_of}
 use Rattle.tl_desk.specs.Plays.{Plays}
 use Rattle.tl_desk.specs.Steps.{Step}

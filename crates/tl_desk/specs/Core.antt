@@ -2,19 +2,19 @@
 use Rattle.std.specs.Prelude.{ℕ, zero, suc, ◌≡◌, ◌<◌, ◌≤◌, ◌-◌, true, List, [], ◌∷◌, length, take, Option, None, slice_get, is_some}
 use Rattle.std.specs.List.{All, AllByRecursion}
 use Rattle.tl_beats.specs.declared.Row.{Row}
-use Rattle.tl_boxes.specs.Boxes.{BoxesData, IsBoxes, place_at, away_at, attached_watch}
+use Rattle.tl_monitor.specs.Boxes.{BoxesData, IsBoxes, place_at, away_at, attached_watch}
 use Rattle.tl_definitions.specs.Report.{IsReport}
 use Rattle.tl_topology.specs.Topology.{Topology}
-use Rattle.tl_inputs.specs.Inputs.{InputData, watch_at, was_attached}
-use Rattle.tl_inputs.specs.Log.{LogData, inputs_after}
-use Rattle.tl_pieces.specs.Pieces.{IsBoard, IsSettled}
-use Rattle.tl_plain.specs.Captured.{captures_after}
-use Rattle.tl_report.specs.Output.{ReportData}
-use Rattle.tl_spans.specs.Spans as spans
-use Rattle.tl_span.specs.States.{SameSpan}
-use Rattle.tl_watches.specs.Tally.{SameTally}
-use Rattle.tl_watches.specs.Watches.{WatchesData, AreWatches}
-use Rattle.tl_tickets.specs.Tickets.{TicketsData}
+use Rattle.tl_edits.specs.Inputs.{InputData, watch_at, was_attached}
+use Rattle.tl_edits.specs.Log.{LogData, inputs_after}
+use Rattle.tl_results.specs.Pieces.{IsBoard, IsSettled}
+use Rattle.tl_check.specs.Captured.{captures_after}
+use Rattle.tl_check.specs.Output.{ReportData}
+use Rattle.tl_board.specs.Spans as spans
+use Rattle.tl_check.specs.States.{SameSpan}
+use Rattle.tl_board.specs.Tally.{SameTally}
+use Rattle.tl_board.specs.Watches.{WatchesData, AreWatches}
+use Rattle.tl_jobs.specs.Tickets.{TicketsData}
 use Rattle.tl_desk.specs.Ends.{HaveEnded}
 use Rattle.tl_desk.specs.Tickets.{HoldsTickets}
 

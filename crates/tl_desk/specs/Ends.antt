@@ -3,10 +3,10 @@ use Rattle.std.specs.Prelude.{ℕ, ◌≡◌, ◌≤◌, ◌+◌, ◌⊎◌, tru
 use Rattle.std.specs.List.{Contains}
 use Rattle.std.specs.Map.{keys_of}
 use Rattle.tl_beats.specs.declared.watch.Watch.{Watch}
-use Rattle.tl_boxes.specs.Boxes.{BoxesData, place_at, away_at}
-use Rattle.tl_boxes.specs.declared.away.Away.{Away}
-use Rattle.tl_inputs.specs.Inputs.{watch_at, was_attached}
-use Rattle.tl_inputs.specs.Log.{LogData, inputs_after}
+use Rattle.tl_monitor.specs.Boxes.{BoxesData, place_at, away_at}
+use Rattle.tl_monitor.specs.declared.away.Away.{Away}
+use Rattle.tl_edits.specs.Inputs.{watch_at, was_attached}
+use Rattle.tl_edits.specs.Log.{LogData, inputs_after}
 use Rattle.tl_monitor.specs.declared.monitor.Settlement.{Settlement}
 use Rattle.tl_desk.specs.Tickets.{left_by}
 

@@ -5,8 +5,8 @@ use Rattle.std.specs.Ordering.{nat_cmp}
 use Rattle.std.specs.BTreeMap.{insert_entry, is_at}
 use Rattle.std.specs.Map.{remove_entry}
 use Rattle.tl_beats.specs.declared.Row.{Row}
-use Rattle.tl_boxes.specs.Boxes.{BoxesData, held_at, away_at, taken_at, brought_back}
-use Rattle.tl_boxes.specs.declared.away.Away.{Away}
+use Rattle.tl_monitor.specs.Boxes.{BoxesData, held_at, away_at, taken_at, brought_back}
+use Rattle.tl_monitor.specs.declared.away.Away.{Away}
 use Rattle.tl_jobs.specs.Jobs.{JobData, DoneData, IsDone, piece_of}
 use Rattle.tl_jobs.specs.Monitors.{MonitorJobData, MonitorDoneData, IsMonitorDone, monitor_piece}
 use Rattle.tl_jobs.specs.declared.job.Job.{Job}
@@ -15,20 +15,20 @@ use Rattle.tl_jobs.specs.declared.job.Done.{Done}
 use Rattle.tl_jobs.specs.declared.job.Done.TheVariants as a_done
 use Rattle.tl_jobs.specs.declared.job.HandIn.{HandIn}
 use Rattle.tl_jobs.specs.declared.job.HandIn.TheVariants as answer
-use Rattle.tl_pieces.specs.declared.key.PieceKey.{PieceKey}
-use Rattle.tl_pieces.specs.Keys.{change}
-use Rattle.tl_pieces.specs.Pieces.{Board, piece_at, live_of, with_live, with_pieces, IsFirst, IsFree, IsFirstFree}
-use Rattle.tl_span.specs.States.{SameSpan}
-use Rattle.tl_spans.specs.Spans.{SpansData}
-use Rattle.tl_spans.specs.Tickets.{IsTaskFor, StandsIn, HandsIn}
-use Rattle.tl_spans.specs.Windows.{key_of}
-use Rattle.tl_tickets.specs.declared.piece.Piece.{Piece}
-use Rattle.tl_tickets.specs.Tickets.{TicketsData, IsOutFor, most_tickets}
-use Rattle.tl_watches.specs.declared.tally.Tally.{Tally}
-use Rattle.tl_watches.specs.Outside.{IsWatchTaskFor, StandsInWatch, HandsInWatch}
-use Rattle.tl_watches.specs.Tally.{SameTally}
-use Rattle.tl_watches.specs.Tasks.{without_monitor}
-use Rattle.tl_watches.specs.Watches.{WatchesData}
+use Rattle.tl_results.specs.declared.key.PieceKey.{PieceKey}
+use Rattle.tl_results.specs.Keys.{change}
+use Rattle.tl_results.specs.Pieces.{Board, piece_at, live_of, with_live, with_pieces, IsFirst, IsFree, IsFirstFree}
+use Rattle.tl_check.specs.States.{SameSpan}
+use Rattle.tl_board.specs.Spans.{SpansData}
+use Rattle.tl_board.specs.Tickets.{IsTaskFor, StandsIn, HandsIn}
+use Rattle.tl_board.specs.Windows.{key_of}
+use Rattle.tl_jobs.specs.declared.piece.Piece.{Piece}
+use Rattle.tl_jobs.specs.Tickets.{TicketsData, IsOutFor, most_tickets}
+use Rattle.tl_board.specs.declared.tally.Tally.{Tally}
+use Rattle.tl_board.specs.Outside.{IsWatchTaskFor, StandsInWatch, HandsInWatch}
+use Rattle.tl_board.specs.Tally.{SameTally}
+use Rattle.tl_board.specs.WatchTasks.{without_monitor}
+use Rattle.tl_board.specs.Watches.{WatchesData}
 use Rattle.tl_desk.specs.Core.{Core, log_of, standing}
 use Rattle.tl_desk.specs.Tickets.{window_of, watch_window_of}
 

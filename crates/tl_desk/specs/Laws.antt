@@ -1,10 +1,10 @@
 -- What follows for desks.
 use Rattle.std.specs.Prelude.{ℕ, ◌≡◌, ◌<◌, ◌↔◌, true, length, None}
 use Rattle.tl_definitions.specs.Captures.{manager_beats}
-use Rattle.tl_inputs.specs.Inputs.{was_attached}
-use Rattle.tl_pieces.specs.Pieces.{piece_at, result_of, live_of}
-use Rattle.tl_spans.specs.Windows.{key_of}
-use Rattle.tl_windows.specs.Windows.{HasBeat}
+use Rattle.tl_edits.specs.Inputs.{was_attached}
+use Rattle.tl_results.specs.Pieces.{piece_at, result_of, live_of}
+use Rattle.tl_board.specs.Windows.{key_of}
+use Rattle.tl_capture.specs.Windows.{HasBeat}
 use Rattle.tl_desk.specs.Core.{Core, AllSettled, IsSound, IsDesk, log_of, standing}
 use Rattle.tl_desk.specs.Ends.{IsAccountedFor}
 use Rattle.tl_desk.specs.Jobs.{IsLive}

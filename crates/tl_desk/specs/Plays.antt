@@ -2,11 +2,11 @@
 use Rattle.std.specs.Prelude.{ℕ, ◌≡◌, ◌<◌, Bool, true, false, List, [], ◌∷◌, ◌++◌, Option, None, Some, length, slice_get, slice_set}
 use Rattle.std.specs.Option.{option_and_then}
 use Rattle.tl_beats.specs.declared.watch.Watch.{Watch}
-use Rattle.tl_inputs.specs.Edits.{AnEdit, plain_change, attach}
-use Rattle.tl_inputs.specs.Inputs.{refusal}
-use Rattle.tl_inputs.specs.declared.edit.Change.{Change}
-use Rattle.tl_inputs.specs.declared.fault.EditFault.{EditFault}
-use Rattle.tl_inputs.specs.declared.fault.EditFault.TheVariants as edit_fault
+use Rattle.tl_edits.specs.Edits.{AnEdit, plain_change, attach}
+use Rattle.tl_edits.specs.Inputs.{refusal}
+use Rattle.tl_edits.specs.declared.edit.Change.{Change}
+use Rattle.tl_edits.specs.declared.fault.EditFault.{EditFault}
+use Rattle.tl_edits.specs.declared.fault.EditFault.TheVariants as edit_fault
 use Rattle.tl_jobs.specs.Works as works
 use Rattle.tl_jobs.specs.Works.{ticket_of, window_of, IsChecked, IsDoneFrom, ComesBack}
 use Rattle.tl_jobs.specs.declared.fault.TakeFault.{TakeFault}
@@ -15,9 +15,9 @@ use Rattle.tl_jobs.specs.declared.job.Job.{Job}
 use Rattle.tl_jobs.specs.declared.job.Done.{Done}
 use Rattle.tl_jobs.specs.declared.job.HandIn.{HandIn}
 use Rattle.tl_jobs.specs.declared.job.HandIn.TheVariants as answer
-use Rattle.tl_pieces.specs.Pieces.{IsFirstFree}
-use Rattle.tl_span.specs.States.{SameSpan}
-use Rattle.tl_tickets.specs.Tickets.{most_tickets}
+use Rattle.tl_results.specs.Pieces.{IsFirstFree}
+use Rattle.tl_check.specs.States.{SameSpan}
+use Rattle.tl_jobs.specs.Tickets.{most_tickets}
 use Rattle.tl_desk.specs.Core.{Core, IsDesk, AllSettled, most_versions, log_of, standing}
 use Rattle.tl_desk.specs.Jobs.{Gives, HasFree, HandsBack, TakesBack, IsFirstFreeWatch, IsOutHere, IsLive}
 use Rattle.tl_desk.specs.Steps.{Step, HandInStep}

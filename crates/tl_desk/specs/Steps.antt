@@ -2,11 +2,11 @@
 use Rattle.std.specs.Prelude.{ℕ, ◌≡◌, ◌<◌, ◌+◌, ◌⊎◌, Bool, [], ◌∷◌, ◌++◌, Option, length, min, List, None, Some, true, false, is_some}
 use Rattle.tl_beats.specs.declared.Row.{Row}
 use Rattle.tl_beats.specs.declared.watch.Watch.{Watch}
-use Rattle.tl_boxes.specs.Boxes.{BoxesData, place_at, held_at, away_at, attached_at, retuned_at, detached_at}
-use Rattle.tl_boxes.specs.Places.{Place, Here, Out}
+use Rattle.tl_monitor.specs.Boxes.{BoxesData, place_at, held_at, away_at, attached_at, retuned_at, detached_at}
+use Rattle.tl_monitor.specs.Places.{Place, Here, Out}
 use Rattle.tl_definitions.specs.Report.{IsReport}
-use Rattle.tl_inputs.specs.Edits.{AnEdit, plain_change, add, replace, withdraw, clear_link, set_region, remove_region, attach, retune, detach}
-use Rattle.tl_inputs.specs.Inputs.{refusal}
+use Rattle.tl_edits.specs.Edits.{AnEdit, plain_change, add, replace, withdraw, clear_link, set_region, remove_region, attach, retune, detach}
+use Rattle.tl_edits.specs.Inputs.{refusal}
 use Rattle.tl_jobs.specs.Jobs.{JobData, DoneData, piece_of}
 use Rattle.tl_jobs.specs.Monitors.{MonitorJobData, MonitorDoneData, monitor_piece}
 use Rattle.tl_jobs.specs.Works.{ticket_of, window_of, done_ticket, done_window}
@@ -18,20 +18,20 @@ use Rattle.tl_jobs.specs.declared.job.HandIn.{HandIn}
 use Rattle.tl_jobs.specs.declared.job.HandIn.TheVariants as answer
 use Rattle.tl_monitor.specs.Held.{Held}
 use Rattle.std.specs.Option.{option_map}
-use Rattle.tl_pieces.specs.declared.key.PieceKey.{PieceKey}
-use Rattle.tl_pieces.specs.Pieces.{Board, Pass, IsFirst, IsWanted, entry_for}
-use Rattle.tl_plain.specs.Captured.{captures_after}
-use Rattle.tl_report.specs.Output.{ReportData}
-use Rattle.tl_span.specs.States.{SameSpan}
-use Rattle.tl_span.specs.declared.state.SpanState.{SpanState}
-use Rattle.tl_spans.specs.Recheck.{Rechecks, ChecksSome}
-use Rattle.tl_spans.specs.Windows.{key_of}
-use Rattle.tl_tickets.specs.declared.piece.Piece.{Piece}
-use Rattle.tl_tickets.specs.declared.piece.Piece.TheVariants as piece
-use Rattle.tl_watches.specs.Edits.{EditsBoth}
-use Rattle.tl_watches.specs.declared.tally.Tally.{Tally}
-use Rattle.tl_watches.specs.Tally.{SameTally}
-use Rattle.tl_watches.specs.Watches.{WatchesData, IsAmidWindow}
+use Rattle.tl_results.specs.declared.key.PieceKey.{PieceKey}
+use Rattle.tl_results.specs.Pieces.{Board, Pass, IsFirst, IsWanted, entry_for}
+use Rattle.tl_check.specs.Captured.{captures_after}
+use Rattle.tl_check.specs.Output.{ReportData}
+use Rattle.tl_check.specs.States.{SameSpan}
+use Rattle.tl_check.specs.declared.state.SpanState.{SpanState}
+use Rattle.tl_board.specs.Recheck.{Rechecks, ChecksSome}
+use Rattle.tl_board.specs.Windows.{key_of}
+use Rattle.tl_jobs.specs.declared.piece.Piece.{Piece}
+use Rattle.tl_jobs.specs.declared.piece.Piece.TheVariants as piece
+use Rattle.tl_board.specs.Accepting.{EditsBoth}
+use Rattle.tl_board.specs.declared.tally.Tally.{Tally}
+use Rattle.tl_board.specs.Tally.{SameTally}
+use Rattle.tl_board.specs.Watches.{WatchesData, IsAmidWindow}
 use Rattle.tl_desk.specs.Core.{Core, AllSettled, most_versions, log_of, standing}
 use Rattle.tl_desk.specs.Jobs.{IsFresh, IsFreshWatch, Takes, TakesWatch, Accepts, AcceptsWatch, Ends, EndsWatch, Recalls, RecallsWatch}
 use Rattle.tl_desk.specs.declared.edits.BoxChange.{BoxChange}

@@ -2,22 +2,22 @@
 use Rattle.std.specs.Prelude.{ℕ, ◌≡◌, ◌≤◌, List, Option, Some, length, take}
 use Rattle.std.specs.Option.{option_map}
 use Rattle.tl_beats.specs.declared.Row.{Row}
-use Rattle.tl_boxes.specs.Boxes.{BoxesData, away_at}
-use Rattle.tl_boxes.specs.declared.away.Away.{Away}
+use Rattle.tl_monitor.specs.Boxes.{BoxesData, away_at}
+use Rattle.tl_monitor.specs.declared.away.Away.{Away}
 use Rattle.tl_definitions.specs.Captures.{manager_beats}
-use Rattle.tl_inputs.specs.Inputs.{InputData, watch_at}
-use Rattle.tl_inputs.specs.Log.{LogData, inputs_after}
-use Rattle.tl_pieces.specs.declared.key.PieceKey.{PieceKey}
-use Rattle.tl_pieces.specs.Pieces.{Board, piece_at, live_of}
-use Rattle.tl_plain.specs.Captured.{areas_at}
-use Rattle.tl_span.specs.declared.state.SpanState.{SpanState}
-use Rattle.tl_tickets.specs.declared.piece.Piece.{Piece}
-use Rattle.tl_tickets.specs.declared.piece.Piece.TheVariants as piece
-use Rattle.tl_tickets.specs.declared.tickets.Taken.{Taken}
-use Rattle.tl_tickets.specs.Tickets.{TicketsData, AreTickets, IsOutFor, taken_at}
-use Rattle.tl_watches.specs.declared.tally.Tally.{Tally}
-use Rattle.tl_watches.specs.Watches.{beats_for}
-use Rattle.tl_windows.specs.Windows.{beats_in}
+use Rattle.tl_edits.specs.Inputs.{InputData, watch_at}
+use Rattle.tl_edits.specs.Log.{LogData, inputs_after}
+use Rattle.tl_results.specs.declared.key.PieceKey.{PieceKey}
+use Rattle.tl_results.specs.Pieces.{Board, piece_at, live_of}
+use Rattle.tl_check.specs.Captured.{areas_at}
+use Rattle.tl_check.specs.declared.state.SpanState.{SpanState}
+use Rattle.tl_jobs.specs.declared.piece.Piece.{Piece}
+use Rattle.tl_jobs.specs.declared.piece.Piece.TheVariants as piece
+use Rattle.tl_jobs.specs.declared.tickets.Taken.{Taken}
+use Rattle.tl_jobs.specs.Tickets.{TicketsData, AreTickets, IsOutFor, taken_at}
+use Rattle.tl_board.specs.declared.tally.Tally.{Tally}
+use Rattle.tl_board.specs.Watches.{beats_for}
+use Rattle.tl_capture.specs.Windows.{beats_in}
 
 -- what the first so many edits leave
 abbrev pub left_by : LogData → ℕ → InputData

@@ -4,23 +4,22 @@ ghost use Rattle.std.specs.Prelude.{◌≡◌, ◌≤◌, ◌++◌, map, length,
 ghost use Rattle.std.specs.Bool.{Decides};
 ghost use Rattle.std.specs.Option.{option_map};
 ghost use Rattle.tl_definitions.specs.Report.{IsReport};
-ghost use Rattle.tl_inputs.specs.Log.{inputs_after};
-ghost use Rattle.tl_plain.specs.Captured.{captures_after};
-ghost use Rattle.tl_spans.specs.Spans as spans;
-ghost use Rattle.tl_watches.specs.Watches.{AreWatches};
-ghost use Rattle.tl_boxes.specs.Boxes.{IsBoxes, told, here_in, first_out};
+ghost use Rattle.tl_edits.specs.Log.{inputs_after};
+ghost use Rattle.tl_check.specs.Captured.{captures_after};
+ghost use Rattle.tl_board.specs.Spans as spans;
+ghost use Rattle.tl_board.specs.Watches.{AreWatches};
+ghost use Rattle.tl_monitor.specs.Boxes.{IsBoxes, told, here_in, first_out};
 ghost use Rattle.tl_desk.specs.Core.{log_of, standing, latest_of, report_of, AllSettled, AreLinked, IsNew, IsSound, IsDesk};
 ghost use Rattle.tl_desk.specs.Ends.{HaveEnded, AllHaveEnded};
 
 use std::alloc::{AllocError, Global};
 use std::marker::Model;
-use tl_boxes::Boxes;
-use tl_inputs::Log;
-use tl_monitor::{Monitor, Settlement};
-use tl_report::Report;
-use tl_tickets::Tickets;
+use tl_monitor::{Boxes, Monitor, Settlement};
+use tl_edits::Log;
+use tl_check::Report;
+use tl_jobs::Tickets;
 use tl_topology::Topo;
-use tl_watches::Watches;
+use tl_board::Watches;
 
 /// A log of edits, with the windows of all managers and of all monitors that are attached, these monitors, and all reports that
 /// were published; and the tickets that are out. Each of its reports is that of the edits that it names.
@@ -34,7 +33,7 @@ pub struct Desk<M: Monitor> {
 
 impl<M: Monitor> Model for Desk<M> {
     ghost use Rattle.std.specs.Coded.{codes};
-    ghost use Rattle.tl_span.specs.contracts.state.SpanState as state;
+    ghost use Rattle.tl_check.specs.contracts.state.SpanState as state;
     ghost use Rattle.tl_desk.specs.Core.{Core, IsSound};
 
     ghost Value = { Core };

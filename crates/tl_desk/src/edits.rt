@@ -5,18 +5,17 @@ ghost use Rattle.std.specs.Result.{IsErrOf};
 ghost use Rattle.std.specs.Ordering.{nat_cmp};
 ghost use Rattle.std.specs.List.Sorted.{IsStrictlySortedBy};
 ghost use Rattle.std.specs.Map.{keys_of};
-ghost use Rattle.tl_inputs.specs.Edits.{plain_change, attach};
-ghost use Rattle.tl_inputs.specs.Inputs.{refusal};
-ghost use Rattle.tl_boxes.specs.Boxes.{BoxesData};
+ghost use Rattle.tl_edits.specs.Edits.{plain_change, attach};
+ghost use Rattle.tl_edits.specs.Inputs.{refusal};
+ghost use Rattle.tl_monitor.specs.Boxes.{BoxesData};
 ghost use Rattle.tl_desk.specs.Core.{log_of, standing};
 ghost use Rattle.tl_desk.specs.Steps.{boxes_after, boxes_changed, Step};
 ghost use Rattle.tl_desk.specs.declared.call.Call.TheVariants as call;
 
 use crate::desk::Desk;
 use std::alloc::Global;
-use tl_boxes::Boxes;
-use tl_inputs::{Change, Edit, EditFault};
-use tl_monitor::{Monitor, Watched};
+use tl_monitor::{Boxes, Monitor, Watched};
+use tl_edits::{Change, Edit, EditFault};
 
 /// What a change does to monitors.
 #[derive(Clone, Copy, Drop)]

@@ -4,7 +4,7 @@ ghost use Rattle.std.specs.Prelude.{◌≡◌, ◌<◌, IfOk, IfErr, OnOk, OnErr
 ghost use Rattle.std.specs.Bool.{Decides};
 ghost use Rattle.std.specs.Result.{IsErrOf};
 ghost use Rattle.tl_jobs.specs.Works.{ticket_of, window_of};
-ghost use Rattle.tl_tickets.specs.Tickets.{most_tickets};
+ghost use Rattle.tl_jobs.specs.Tickets.{most_tickets};
 ghost use Rattle.tl_desk.specs.Jobs.{IsLive, Gives, HasFree, HandsBack, TakesBack, IsOutHere};
 ghost use Rattle.tl_desk.specs.Steps.{Step, HandInStep};
 ghost use Rattle.tl_desk.specs.declared.call.Call.TheVariants as call;

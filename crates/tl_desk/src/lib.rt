@@ -23,5 +23,5 @@ pub use play::{Reply, Step};
 pub use tl_jobs::{
     Done, HandIn, Job, ManagerDone, ManagerJob, MonitorDone, MonitorJob, Piece, TakeFault, work,
 };
-pub use tl_report::Report;
-pub use tl_watches::is_watch;
+pub use tl_check::Report;
+pub use tl_board::is_watch;

@@ -5,22 +5,20 @@ ghost use Rattle.std.specs.Bool.{Decides};
 ghost use Rattle.std.specs.Result.{IsErrOf};
 ghost use Rattle.tl_jobs.specs.Jobs.{piece_of};
 ghost use Rattle.tl_jobs.specs.declared.job.Done.TheVariants as a_done;
-ghost use Rattle.tl_pieces.specs.Pieces.{piece_at, IsFirstFree};
-ghost use Rattle.tl_span.specs.States.{SameSpan};
-ghost use Rattle.tl_spans.specs.Tickets.{IsTaskFor};
-ghost use Rattle.tl_spans.specs.Windows.{key_of};
-ghost use Rattle.tl_tickets.specs.declared.piece.Piece.TheVariants as piece;
-ghost use Rattle.tl_tickets.specs.Tickets.{IsOutFor, most_tickets};
+ghost use Rattle.tl_results.specs.Pieces.{piece_at, IsFirstFree};
+ghost use Rattle.tl_check.specs.States.{SameSpan};
+ghost use Rattle.tl_board.specs.Tickets.{IsTaskFor};
+ghost use Rattle.tl_board.specs.Windows.{key_of};
+ghost use Rattle.tl_jobs.specs.declared.piece.Piece.TheVariants as piece;
+ghost use Rattle.tl_jobs.specs.Tickets.{IsOutFor, most_tickets};
 ghost use Rattle.tl_desk.specs.Jobs.{IsLiveAt, IsFresh, Unmarks, Takes, Accepts, Ends, Recalls, HandsBack, key_for};
 
 use crate::desk::Desk;
 use std::alloc::Global;
-use tl_jobs::{Done, HandIn, ManagerDone, ManagerJob, Piece, TakeFault};
+use tl_jobs::{Done, HandIn, ManagerDone, ManagerJob, Piece, TakeFault, Taken};
 use tl_monitor::Monitor;
-use tl_pieces::PieceKey;
-use tl_spans::window_key;
-use tl_tickets::Taken;
-use tl_watches::Watches;
+use tl_results::PieceKey;
+use tl_board::{Watches, window_key};
 
 /// If a ticket is a window's live one, the window has none any more. Answers whether it was.
 fn unmark(windows: &mut Watches, key: PieceKey, ticket: u64) -> bool

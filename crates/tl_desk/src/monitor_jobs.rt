@@ -4,27 +4,25 @@ ghost use Rattle.std.specs.Prelude.{◌≡◌, ◌<◌, IfOk, IfErr, IfSome, OnO
 ghost use Rattle.std.specs.Bool.{Decides};
 ghost use Rattle.std.specs.Option.{option_map};
 ghost use Rattle.std.specs.Result.{IsErrOf};
-ghost use Rattle.tl_boxes.specs.Boxes.{held_at, away_at};
+ghost use Rattle.tl_monitor.specs.Boxes.{held_at, away_at};
 ghost use Rattle.tl_jobs.specs.declared.job.Done.TheVariants as a_done;
-ghost use Rattle.tl_pieces.specs.Pieces.{piece_at, IsFirstFree};
-ghost use Rattle.tl_span.specs.States.{SameSpan};
-ghost use Rattle.tl_spans.specs.Windows.{key_of};
-ghost use Rattle.tl_tickets.specs.declared.piece.Piece.TheVariants as piece;
-ghost use Rattle.tl_tickets.specs.Tickets.{IsOutFor, most_tickets};
-ghost use Rattle.tl_watches.specs.Outside.{IsWatchTaskFor};
-ghost use Rattle.tl_watches.specs.Tasks.{without_monitor};
-ghost use Rattle.tl_watches.specs.Tally.{SameTally};
+ghost use Rattle.tl_results.specs.Pieces.{piece_at, IsFirstFree};
+ghost use Rattle.tl_check.specs.States.{SameSpan};
+ghost use Rattle.tl_board.specs.Windows.{key_of};
+ghost use Rattle.tl_jobs.specs.declared.piece.Piece.TheVariants as piece;
+ghost use Rattle.tl_jobs.specs.Tickets.{IsOutFor, most_tickets};
+ghost use Rattle.tl_board.specs.Outside.{IsWatchTaskFor};
+ghost use Rattle.tl_board.specs.WatchTasks.{without_monitor};
+ghost use Rattle.tl_board.specs.Tally.{SameTally};
 ghost use Rattle.tl_desk.specs.Core.{HaveNumbers};
 ghost use Rattle.tl_desk.specs.Jobs.{IsLiveAtWatch, IsFreshWatch, IsHere, IsFirstFreeHere, IsFirstFreeWatch, IsOwn, UnmarksWatch, TakesWatch, AcceptsWatch, EndsWatch, RecallsWatch, HandsBack, watch_key_for};
 
 use crate::desk::Desk;
 use std::alloc::Global;
-use tl_boxes::Boxes;
-use tl_jobs::{Done, HandIn, MonitorDone, MonitorJob, Piece, TakeFault};
-use tl_monitor::Monitor;
-use tl_pieces::PieceKey;
-use tl_tickets::Taken;
-use tl_watches::{Watches, is_watch, watch_key};
+use tl_monitor::{Boxes, Monitor};
+use tl_jobs::{Done, HandIn, MonitorDone, MonitorJob, Piece, TakeFault, Taken};
+use tl_results::PieceKey;
+use tl_board::{Watches, is_watch, watch_key};
 
 /// If a ticket is a window's live one, the window has none any more. Answers whether it was.
 fn unmark(windows: &mut Watches, key: PieceKey, ticket: u64) -> bool

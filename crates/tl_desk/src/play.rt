@@ -9,7 +9,7 @@ use crate::desk::Desk;
 use crate::fault::PublishFault;
 use crate::places::{Place, done_out, job_out, work_at};
 use std::alloc::Global;
-use tl_inputs::{Change, EditFault};
+use tl_edits::{Change, EditFault};
 use tl_jobs::{HandIn, TakeFault};
 use tl_monitor::Monitor;
 

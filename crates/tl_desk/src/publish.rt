@@ -3,7 +3,7 @@
 ghost use Rattle.std.specs.Prelude.{◌≡◌, ◌≤◌, ◌<◌, IfOk, OnErr, length};
 ghost use Rattle.std.specs.Result.{IsErrOf};
 ghost use Rattle.tl_definitions.specs.Report.{IsReport};
-ghost use Rattle.tl_plain.specs.Captured.{captures_after};
+ghost use Rattle.tl_check.specs.Captured.{captures_after};
 ghost use Rattle.tl_desk.specs.Core.{log_of, standing, most_versions, AllSettled, AreLinked};
 ghost use Rattle.tl_desk.specs.Steps.{Step};
 ghost use Rattle.tl_desk.specs.declared.call.Call.TheVariants as call;
@@ -13,7 +13,7 @@ use crate::fault::PublishFault;
 use std::alloc::{AllocError, Global};
 use tl_beats::Row;
 use tl_monitor::Monitor;
-use tl_report::Report;
+use tl_check::Report;
 
 /// As many reports as are published in all.
 const MOST_VERSIONS: usize = 65_536;

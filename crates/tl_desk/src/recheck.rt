@@ -2,14 +2,14 @@
 
 ghost use Rattle.std.specs.Prelude.{◌≡◌, ◌⊎◌, IfOk, IfErr, IfSome, OnOk, OnErr, None, Some, is_some, true};
 ghost use Rattle.std.specs.Result.{IsErrOf};
-ghost use Rattle.tl_boxes.specs.Boxes.{away_at};
-ghost use Rattle.tl_inputs.specs.Inputs.{watch_at};
-ghost use Rattle.tl_pieces.specs.Pieces.{piece_at, IsSettled, IsFirstWanted};
-ghost use Rattle.tl_span.specs.States.{SameSpan};
-ghost use Rattle.tl_spans.specs.Recheck.{Rechecks, ChecksSome};
-ghost use Rattle.tl_spans.specs.Spans.{standing};
-ghost use Rattle.tl_watches.specs.Tally.{SameTally};
-ghost use Rattle.tl_watches.specs.Watches.{ChecksWatch, IsAmidWindow};
+ghost use Rattle.tl_monitor.specs.Boxes.{away_at};
+ghost use Rattle.tl_edits.specs.Inputs.{watch_at};
+ghost use Rattle.tl_results.specs.Pieces.{piece_at, IsSettled, IsFirstWanted};
+ghost use Rattle.tl_check.specs.States.{SameSpan};
+ghost use Rattle.tl_board.specs.Recheck.{Rechecks, ChecksSome};
+ghost use Rattle.tl_board.specs.Spans.{standing};
+ghost use Rattle.tl_board.specs.Tally.{SameTally};
+ghost use Rattle.tl_board.specs.Watches.{ChecksWatch, IsAmidWindow};
 ghost use Rattle.tl_desk.specs.Core.{AreAttached, HaveNumbers};
 ghost use Rattle.tl_desk.specs.Steps.{KeepsBoxes, LeavesOne, LeavesTallies, RechecksSome, NoneIsOut, IsFirstOut, IsFirstOutOf, RefusesRecheck, Step};
 ghost use Rattle.tl_desk.specs.declared.call.Call.TheVariants as call;
@@ -17,10 +17,9 @@ ghost use Rattle.tl_desk.specs.declared.call.Call.TheVariants as call;
 use crate::desk::Desk;
 use crate::fault::RecheckFault;
 use std::alloc::{AllocError, Global};
-use tl_boxes::Boxes;
-use tl_monitor::Monitor;
-use tl_pieces::PieceKey;
-use tl_watches::Watches;
+use tl_monitor::{Boxes, Monitor};
+use tl_results::PieceKey;
+use tl_board::Watches;
 
 /// Checks a window of a monitor that is here. AllocError where memory is refused: then no window has changed.
 fn check_here<M: Monitor>(

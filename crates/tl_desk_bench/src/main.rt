@@ -11,7 +11,7 @@ use std::sync::Arc;
 use std::time::Instant;
 use tl_beats::{Beat, Fragment};
 use tl_desk::{Desk, HandIn, Job, work};
-use tl_inputs::Change;
+use tl_edits::Change;
 use tl_monitor::Budget;
 use tl_tables::Chan;
 use tl_topology::{Name, read_topo};

@@ -7,9 +7,9 @@ use Rattle.tl_desk.specs.declared.call.Call.{Call}
 use Rattle.tl_desk.specs.declared.call.Call.TheVariants as call
 use Rattle.tl_desk.proofs.AlikeBoards.{one_first}
 use Rattle.tl_desk.proofs.AlikeSteps.{calls_keep_desks_alike, new_alike, first_free_alike, first_watch_alike, settled_alike}
-use Rattle.tl_pieces.specs.Pieces.{IsFree}
-use Rattle.tl_span.specs.States.{SameSpan}
-use Rattle.tl_watches.specs.Tally.{SameTally}
+use Rattle.tl_results.specs.Pieces.{IsFree}
+use Rattle.tl_check.specs.States.{SameSpan}
+use Rattle.tl_board.specs.Tally.{SameTally}
 use Rattle.tl_hall.specs.History.{call_of, IsOfHall, Runs}
 use Rattle.tl_hall.specs.Desks.{OneHistoryLeadsToOneDesk, FreeWindowsAreGiven, CheckedDesksAreReady}
 use Rattle.tl_hall.proofs.Running.{leads_desk}

@@ -2,9 +2,9 @@
 use Rattle.std.proofs.Common.{◌≡◌, ℕ, ◌+◌, ◌≤◌, true, false, List, [], ◌∷◌, ◌++◌, map, Option, Some, sym, refl, ap, ◌∙◌, subst, arith, append_assoc, append-nil}
 use Rattle.std.specs.Option.{option_map_or}
 use mathlib.Core.List.{IsPrefix}
-use Rattle.tl_tickets.specs.declared.piece.Piece.{Piece}
-use Rattle.tl_tickets.specs.declared.piece.Piece.TheVariants as piece
-use Rattle.tl_watches.specs.Tasks.{WatchTaskData}
+use Rattle.tl_jobs.specs.declared.piece.Piece.{Piece}
+use Rattle.tl_jobs.specs.declared.piece.Piece.TheVariants as piece
+use Rattle.tl_board.specs.WatchTasks.{WatchTaskData}
 use Rattle.tl_jobs.specs.Jobs.{JobData, piece_of}
 use Rattle.tl_jobs.specs.Works.{ticket_of, window_of, ComesBack}
 use Rattle.tl_jobs.specs.declared.fault.TakeFault.{TakeFault}

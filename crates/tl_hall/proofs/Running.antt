@@ -11,12 +11,12 @@ use Rattle.std.specs.Ordering.{nat_cmp}
 use Rattle.std.specs.BTreeMap.{insert_entry, is_at}
 use Rattle.std.specs.Map.{remove_entry}
 use Rattle.tl_topology.specs.Topology.{Topology}
-use Rattle.tl_inputs.specs.Edits.{AnEdit, plain_change, attach}
-use Rattle.tl_inputs.specs.Inputs.{most_edits}
-use Rattle.tl_inputs.proofs.LogLaws.{few_more}
-use Rattle.tl_inputs.specs.Log.{LogData}
-use Rattle.tl_tickets.specs.declared.tickets.Taken.{Taken}
-use Rattle.tl_tickets.specs.Tickets.{TicketsData, most_tickets}
+use Rattle.tl_edits.specs.Edits.{AnEdit, plain_change, attach}
+use Rattle.tl_edits.specs.Inputs.{most_edits}
+use Rattle.tl_edits.proofs.LogLaws.{few_more}
+use Rattle.tl_edits.specs.Log.{LogData}
+use Rattle.tl_jobs.specs.declared.tickets.Taken.{Taken}
+use Rattle.tl_jobs.specs.Tickets.{TicketsData, most_tickets}
 use Rattle.tl_desk.specs.Core.{Core, IsNew, IsDesk, log_of, standing, most_versions}
 use Rattle.tl_desk.specs.Steps.{Step, Edits, Publishes}
 use Rattle.tl_desk.specs.declared.call.Call.{Call}

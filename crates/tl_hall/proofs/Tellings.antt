@@ -3,9 +3,9 @@ use Rattle.std.proofs.Common.{◌≡◌, ℕ, ◌+◌, ◌-◌, List, [], ◌∷
 use Rattle.std.specs.Prelude.{slice_get}
 use Rattle.std.specs.Option.{option_map}
 use Rattle.tl_topology.specs.Topology.{Topology}
-use Rattle.tl_inputs.specs.Edits.{AnEdit, plain_change, attach}
-use Rattle.tl_inputs.specs.Log.{LogData}
-use Rattle.tl_report.specs.Output.{ReportData}
+use Rattle.tl_edits.specs.Edits.{AnEdit, plain_change, attach}
+use Rattle.tl_edits.specs.Log.{LogData}
+use Rattle.tl_check.specs.Output.{ReportData}
 use Rattle.tl_desk.specs.Core.{Core, IsNew, log_of, latest_of}
 use Rattle.tl_desk.specs.Steps.{Step, Edits, Publishes}
 use Rattle.tl_desk.specs.declared.call.Call.{Call}

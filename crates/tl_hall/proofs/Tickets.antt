@@ -5,28 +5,28 @@ use Rattle.std.specs.Ordering.{is_eq, match_ordering}
 use Rattle.std.specs.BTreeMap.{insert_entry, is_at}
 use Rattle.std.specs.Map.{lookup, remove_entry}
 use Rattle.tl_beats.specs.declared.Row.{Row}
-use Rattle.tl_inputs.specs.Edits.{AnEdit}
+use Rattle.tl_edits.specs.Edits.{AnEdit}
 use Rattle.tl_jobs.specs.Jobs.{JobData, DoneData}
 use Rattle.tl_jobs.specs.Monitors.{MonitorJobData, MonitorDoneData}
-use Rattle.tl_pieces.specs.declared.key.PieceKey.{PieceKey}
-use Rattle.tl_pieces.specs.Keys.{key_cmp, change}
-use Rattle.tl_pieces.specs.Pieces.{Board, Pass, Piece, piece_at, live_of, with_live, with_pieces}
-use Rattle.tl_pieces.proofs.OrderLemmas.{key_exact, key_self}
+use Rattle.tl_results.specs.declared.key.PieceKey.{PieceKey}
+use Rattle.tl_results.specs.Keys.{key_cmp, change}
+use Rattle.tl_results.specs.Pieces.{Board, Pass, Piece, piece_at, live_of, with_live, with_pieces}
+use Rattle.tl_results.proofs.OrderLemmas.{key_exact, key_self}
 use Rattle.tl_topology.specs.Topology.{Topology}
-use Rattle.tl_span.specs.declared.state.SpanState.{SpanState}
-use Rattle.tl_spans.specs.Spans.{SpansData, standing}
-use Rattle.tl_spans.specs.Tickets.{HandsIn}
-use Rattle.tl_spans.specs.Touch.{Touches}
-use Rattle.tl_spans.specs.Windows.{with_checked, key_of}
-use Rattle.tl_spans.proofs.CheckLemmas.{lookup_change}
-use Rattle.tl_tickets.specs.declared.piece.Piece.{Piece as APiece}
-use Rattle.tl_tickets.specs.declared.piece.Piece.TheVariants as piece
-use Rattle.tl_tickets.specs.declared.tickets.Taken.{Taken}
-use Rattle.tl_tickets.specs.Tickets.{taken_at, most_tickets}
-use Rattle.tl_watches.specs.declared.tally.Tally.{Tally}
-use Rattle.tl_watches.specs.Outside.{HandsInWatch}
-use Rattle.tl_watches.specs.Touch.{TouchesWatch}
-use Rattle.tl_watches.specs.Watches.{WatchesData}
+use Rattle.tl_check.specs.declared.state.SpanState.{SpanState}
+use Rattle.tl_board.specs.Spans.{SpansData, standing}
+use Rattle.tl_board.specs.Tickets.{HandsIn}
+use Rattle.tl_board.specs.Touch.{Touches}
+use Rattle.tl_board.specs.Windows.{with_checked, key_of}
+use Rattle.tl_board.proofs.CheckLemmas.{lookup_change}
+use Rattle.tl_jobs.specs.declared.piece.Piece.{Piece as APiece}
+use Rattle.tl_jobs.specs.declared.piece.Piece.TheVariants as piece
+use Rattle.tl_jobs.specs.declared.tickets.Taken.{Taken}
+use Rattle.tl_jobs.specs.Tickets.{taken_at, most_tickets}
+use Rattle.tl_board.specs.declared.tally.Tally.{Tally}
+use Rattle.tl_board.specs.Outside.{HandsInWatch}
+use Rattle.tl_board.specs.TouchedWatches.{TouchesWatch}
+use Rattle.tl_board.specs.Watches.{WatchesData}
 use Rattle.tl_desk.specs.Core.{Core, IsNew, log_of}
 use Rattle.tl_desk.specs.Tickets.{window_of, watch_window_of}
 use Rattle.tl_desk.specs.Jobs.{Takes, TakesWatch, Accepts, AcceptsWatch, Ends, EndsWatch, Recalls, RecallsWatch, Unmarks, UnmarksWatch, key_for, watch_key_for, ended, given}

@@ -2,17 +2,17 @@
 use Rattle.std.proofs.Common.{◌≡◌, ◌<◌, List, [], ◌∷◌, ◌++◌, Option, Some, None, length, map, refl, sym, ap, subst, ◌∙◌}
 use mathlib.Core.List.{map-append}
 use Rattle.tl_definitions.specs.Captures.{manager_beats}
-use Rattle.tl_inputs.specs.Edits.{AnEdit, plain_change, attach}
-use Rattle.tl_inputs.specs.Inputs.{InputData}
-use Rattle.tl_inputs.specs.Log.{inputs_after}
-use Rattle.tl_pieces.specs.declared.key.PieceKey.{PieceKey}
-use Rattle.tl_pieces.specs.Pieces.{piece_at, result_of, live_of}
-use Rattle.tl_spans.specs.Edits.{EditsTo}
-use Rattle.tl_spans.specs.Spans.{SpansData, standing}
-use Rattle.tl_spans.specs.Touch.{Touches}
-use Rattle.tl_spans.specs.Windows.{key_of}
+use Rattle.tl_edits.specs.Edits.{AnEdit, plain_change, attach}
+use Rattle.tl_edits.specs.Inputs.{InputData}
+use Rattle.tl_edits.specs.Log.{inputs_after}
+use Rattle.tl_results.specs.declared.key.PieceKey.{PieceKey}
+use Rattle.tl_results.specs.Pieces.{piece_at, result_of, live_of}
+use Rattle.tl_board.specs.Edits.{EditsTo}
+use Rattle.tl_board.specs.Spans.{SpansData, standing}
+use Rattle.tl_board.specs.Touch.{Touches}
+use Rattle.tl_board.specs.Windows.{key_of}
 use Rattle.tl_topology.specs.Topology.{Topology}
-use Rattle.tl_windows.specs.Windows.{HasBeat}
+use Rattle.tl_capture.specs.Windows.{HasBeat}
 use Rattle.tl_desk.specs.Core.{Core, AllSettled, IsDesk, log_of}
 use Rattle.tl_desk.specs.Laws.{IsBlank}
 use Rattle.tl_desk.specs.Steps.{Step}

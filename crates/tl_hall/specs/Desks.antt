@@ -3,12 +3,12 @@ use Rattle.std.specs.Prelude.{ℕ, ◌<◌, List, [], ◌∷◌, ◌++◌, lengt
 use Rattle.tl_topology.specs.Topology.{Topology}
 use Rattle.tl_beats.specs.declared.Placed.{Placed}
 use Rattle.tl_definitions.specs.Captures.{manager_beats}
-use Rattle.tl_inputs.specs.Edits.{plain_change}
-use Rattle.tl_inputs.specs.Inputs.{InputData}
-use Rattle.tl_inputs.specs.Log.{inputs_after}
-use Rattle.tl_inputs.specs.declared.edit.Change.{Change}
-use Rattle.tl_spans.specs.Touch.{Touches}
-use Rattle.tl_windows.specs.Windows.{HasBeat}
+use Rattle.tl_edits.specs.Edits.{plain_change}
+use Rattle.tl_edits.specs.Inputs.{InputData}
+use Rattle.tl_edits.specs.Log.{inputs_after}
+use Rattle.tl_edits.specs.declared.edit.Change.{Change}
+use Rattle.tl_board.specs.Touch.{Touches}
+use Rattle.tl_capture.specs.Windows.{HasBeat}
 use Rattle.tl_desk.specs.Alike.{AreAlike}
 use Rattle.tl_desk.specs.Core.{Core, AllSettled}
 use Rattle.tl_desk.specs.Jobs.{HasFree}

@@ -3,9 +3,9 @@ use Rattle.std.specs.Prelude.{◌≡◌, ◌+◌, ℕ, List, [], ◌∷◌, ◌+
 use Rattle.std.specs.Option.{option_map}
 use Rattle.tl_topology.specs.Topology.{Topology}
 use Rattle.tl_beats.specs.declared.watch.Watch.{Watch}
-use Rattle.tl_inputs.specs.declared.edit.Change.{Change}
-use Rattle.tl_inputs.specs.Edits.{AnEdit, plain_change, attach}
-use Rattle.tl_report.specs.Output.{ReportData}
+use Rattle.tl_edits.specs.declared.edit.Change.{Change}
+use Rattle.tl_edits.specs.Edits.{AnEdit, plain_change, attach}
+use Rattle.tl_check.specs.Output.{ReportData}
 use Rattle.tl_desk.specs.Core.{Core, log_of, latest_of}
 use Rattle.tl_desk.specs.declared.call.Call.{Call}
 use Rattle.tl_desk.specs.declared.call.Call.TheVariants as call

@@ -1,7 +1,7 @@
 //! Edits, reports, and what is read.
 
 ghost use Rattle.std.specs.Prelude.{◌≡◌, IfOk, IfErr, OnErr};
-ghost use Rattle.tl_inputs.specs.Edits.{plain_change, attach};
+ghost use Rattle.tl_edits.specs.Edits.{plain_change, attach};
 ghost use Rattle.tl_desk.specs.declared.call.Call.TheVariants as call;
 ghost use Rattle.tl_hall.specs.Passes.{Made, NoMore, Looked, NoWord, IsRefused, IsUnready, IsLatest, HasEdits};
 
@@ -12,7 +12,7 @@ use std::marker::Brand;
 use std::sync::Wait;
 use tl_beats::Watch;
 use tl_desk::{Desk, PublishFault, Report};
-use tl_inputs::{Change, EditFault};
+use tl_edits::{Change, EditFault};
 use tl_monitor::Monitor;
 
 /// A copy of the latest report.

@@ -47,13 +47,13 @@ impl Said for Brand {
 
 /// Which change is submitted. The caller picks it.
 pub trait Asked {
-    ghost use Rattle.tl_inputs.specs.declared.edit.Change.{Change};
+    ghost use Rattle.tl_edits.specs.declared.edit.Change.{Change};
 
     ghost change: { Change };
 }
 
 impl Asked for Brand {
-    ghost use Rattle.tl_inputs.specs.declared.edit.Change.TheVariants as change_kind;
+    ghost use Rattle.tl_edits.specs.declared.edit.Change.TheVariants as change_kind;
 
     ghost change = { change_kind.Detach 0 };
 }

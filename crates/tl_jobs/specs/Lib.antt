@@ -1,3 +1,4 @@
+pub mod Tickets
 pub mod Faults
 pub mod Jobs
 pub mod Monitors

@@ -1,11 +1,11 @@
 -- Windows of monitors that are out to be checked, and what comes back, as plain data.
 use Rattle.std.specs.Prelude.{ℕ, ◌≡◌, List}
 use Rattle.tl_beats.specs.declared.Row.{Row}
-use Rattle.tl_pieces.specs.Pieces.{Pass}
-use Rattle.tl_tickets.specs.declared.piece.Piece.{Piece}
-use Rattle.tl_tickets.specs.declared.piece.Piece.TheVariants as piece
-use Rattle.tl_watches.specs.declared.tally.Tally.{Tally}
-use Rattle.tl_watches.specs.Tasks.{WatchTaskData, IsWatchPassOf, SameButTally, LeavesTally}
+use Rattle.tl_results.specs.Pieces.{Pass}
+use Rattle.tl_jobs.specs.declared.piece.Piece.{Piece}
+use Rattle.tl_jobs.specs.declared.piece.Piece.TheVariants as piece
+use Rattle.tl_board.specs.declared.tally.Tally.{Tally}
+use Rattle.tl_board.specs.WatchTasks.{WatchTaskData, IsWatchPassOf, SameButTally, LeavesTally}
 
 -- A window that is out with its monitor, with the number of its ticket.
 pub record MonitorJobData : Type 0 where

@@ -6,7 +6,7 @@ use Rattle.tl_jobs.specs.declared.job.Job.{Job}
 use Rattle.tl_jobs.specs.declared.job.Job.TheVariants as job
 use Rattle.tl_jobs.specs.declared.job.Done.{Done}
 use Rattle.tl_jobs.specs.declared.job.Done.TheVariants as done
-use Rattle.tl_tickets.specs.declared.piece.Piece.{Piece}
+use Rattle.tl_jobs.specs.declared.piece.Piece.{Piece}
 
 module _ {M : Type 0} where
   -- The number of its ticket, and whose window it is.

@@ -7,7 +7,7 @@ use crate::manager::{ManagerDone, ManagerJob, work_manager};
 use crate::monitor::{MonitorDone, MonitorJob, work_monitor};
 use std::alloc::Global;
 use tl_monitor::Monitor;
-use tl_tickets::Piece;
+use crate::Piece;
 
 /// A window that went out to be checked, with its ticket. It must be spent: by `work`, by its desk, which takes it back, or by
 /// `forfeit`. It can't be let go.

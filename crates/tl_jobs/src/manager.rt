@@ -2,14 +2,14 @@
 
 ghost use Rattle.std.specs.Prelude.{◌≡◌, IfOk, IfErr};
 ghost use Rattle.tl_jobs.specs.Jobs.{piece_of, IsDone};
-ghost use Rattle.tl_pieces.specs.Marks.{pass_of};
+ghost use Rattle.tl_results.specs.Marks.{pass_of};
 
 use std::alloc::Global;
 use std::marker::Model;
-use tl_pieces::Stored;
-use tl_span::SpanState;
-use tl_tasks::{Rows, SpanTask};
-use tl_tickets::Piece;
+use tl_results::Stored;
+use tl_check::SpanState;
+use tl_board::{Rows, SpanTask};
+use crate::Piece;
 
 /// A window of a manager that went out to be checked, with its ticket. It must be spent, as a `Job`.
 pub struct ManagerJob {
@@ -20,7 +20,7 @@ pub struct ManagerJob {
 impl Model for ManagerJob {
     ghost use Rattle.std.specs.Coded.{codes};
     ghost use Rattle.tl_jobs.specs.Jobs.{JobData};
-    ghost use Rattle.tl_span.specs.contracts.state.SpanState as state;
+    ghost use Rattle.tl_check.specs.contracts.state.SpanState as state;
 
     ghost Value = { JobData };
 
@@ -74,8 +74,8 @@ pub struct ManagerDone {
 impl Model for ManagerDone {
     ghost use Rattle.std.specs.Coded.{codes};
     ghost use Rattle.tl_jobs.specs.Jobs.{DoneData, IsDone};
-    ghost use Rattle.tl_pieces.specs.Marks.{pass_of};
-    ghost use Rattle.tl_span.specs.contracts.state.SpanState as state;
+    ghost use Rattle.tl_results.specs.Marks.{pass_of};
+    ghost use Rattle.tl_check.specs.contracts.state.SpanState as state;
 
     ghost Value = { DoneData };
 

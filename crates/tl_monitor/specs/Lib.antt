@@ -1,1 +1,4 @@
 pub mod Held
+pub mod Places
+pub mod Shown
+pub mod Boxes

@@ -8,8 +8,8 @@ use Rattle.std.specs.List.{AllByRecursion}
 use Rattle.std.specs.Io.KnownBytes.{Keeps, Appends}
 use Rattle.tl_topology.specs.Topology.{Topology}
 use Rattle.tl_beats.specs.declared.watch.Watch.{Watch}
-use Rattle.tl_report.specs.Notes.{Tells}
-use Rattle.tl_report.proofs.NoteLaws.{tells_nil}
+use Rattle.tl_check.specs.Notes.{Tells}
+use Rattle.tl_check.proofs.NoteLaws.{tells_nil}
 use Rattle.tl_script.specs.declared.command.Command.{Command}
 use Rattle.tl_script.specs.declared.fault.ScriptFault.{ScriptFault}
 use Rattle.tl_script.specs.declared.fault.ScriptFault.TheVariants as fault

@@ -6,12 +6,12 @@ use Rattle.std.proofs.lemmas.List.{take-append-le}
 use Rattle.std.proofs.Math.Seq.{take-append-add}
 use Rattle.tl_text.specs.Written.{Writes}
 use Rattle.tl_text.specs.Numbers.{numeral}
-use Rattle.tl_report.specs.Notes.{Tells, IsNoted, is_note, is_unbroken}
+use Rattle.tl_check.specs.Notes.{Tells, IsNoted, is_note, is_unbroken}
 use Rattle.std.specs.Prelude.{codes}
 use Rattle.std.specs.Fmt.{decimal}
-use Rattle.tl_report.specs.Output.{joined}
+use Rattle.tl_check.specs.Output.{joined}
 use Rattle.tl_run.specs.Output.{edit_text, refused_text, and_number}
-use Rattle.tl_report.proofs.NoteLaws.{ends_here, ends_more, joined_ends, digits_unbroken, decimal_unbroken, unbroken_more, plain_line, noted_nil, tells_more, tells_plain}
+use Rattle.tl_check.proofs.NoteLaws.{ends_here, ends_more, joined_ends, digits_unbroken, decimal_unbroken, unbroken_more, plain_line, noted_nil, tells_more, tells_plain}
 use Rattle.tl_run.specs.Stops.{IsSaid, IsFront, AreSaid, IsFrontOf, stop_front, stop_text, last_text}
 use Rattle.tl_run.specs.declared.stop.Stop.{Stop}
 use Rattle.tl_run.specs.declared.stop.StopCause.{StopCause}

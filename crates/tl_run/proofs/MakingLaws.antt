@@ -7,7 +7,7 @@ use Rattle.tl_beats.specs.Fragments.{Frag}
 use Rattle.tl_beats.specs.Reading.{whole_fragment_in}
 use Rattle.tl_beats.specs.declared.fault.FragmentFault.{FragmentFault}
 use Rattle.tl_beats.specs.declared.watch.Watch.{Watch}
-use Rattle.tl_inputs.specs.Edits.{add, replace}
+use Rattle.tl_edits.specs.Edits.{add, replace}
 use Rattle.tl_script.specs.Commands.{monitor_of}
 use Rattle.tl_script.specs.declared.command.Command.{Command}
 use Rattle.tl_script.specs.declared.command.Command.TheVariants as command

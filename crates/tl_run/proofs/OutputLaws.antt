@@ -3,12 +3,12 @@ use Rattle.std.proofs.Common.{◌≡◌, ℕ, ◌+◌, Bool, true, false, List, 
 use Rattle.std.specs.Option.{option_map_or}
 use Rattle.tl_topology.specs.Topology.{Topology}
 use Rattle.tl_definitions.proofs.ReportLaws.{one_report}
-use Rattle.tl_inputs.specs.Edits.{AnEdit}
-use Rattle.tl_inputs.specs.Inputs.{refusal}
-use Rattle.tl_inputs.specs.Log.{inputs_after}
-use Rattle.tl_inputs.specs.declared.fault.EditFault.{EditFault}
-use Rattle.tl_plain.specs.Captured.{captures_after}
-use Rattle.tl_report.specs.Output.{report_bytes}
+use Rattle.tl_edits.specs.Edits.{AnEdit}
+use Rattle.tl_edits.specs.Inputs.{refusal}
+use Rattle.tl_edits.specs.Log.{inputs_after}
+use Rattle.tl_edits.specs.declared.fault.EditFault.{EditFault}
+use Rattle.tl_check.specs.Captured.{captures_after}
+use Rattle.tl_check.specs.Output.{report_bytes}
 use Rattle.tl_script.specs.declared.command.Command.{Command}
 use Rattle.tl_run.specs.Commands.{Asking, an_edit, no_fragment, a_report, asked}
 use Rattle.tl_desk.specs.Core.{most_versions}

@@ -14,7 +14,7 @@ use Rattle.tl_script.specs.Scripts.{Script, commands_of, fault_of}
 use Rattle.tl_script.proofs.ReadCommands.{IsRead, none_read, one_read, all_read, fault_read, first_are, few_are}
 use Rattle.tl_beats.specs.declared.watch.Watch.{Watch}
 use Rattle.tl_run.specs.Commands.{asked, attached_by, watches_of}
-use Rattle.tl_inputs.specs.Edits.{AnEdit}
+use Rattle.tl_edits.specs.Edits.{AnEdit}
 use Rattle.tl_run.specs.Audits.{IsStopAt}
 use Rattle.tl_run.specs.Output.{Progress, start, IsStep, IsOutput, TakesBox, LacksBox, accepted, edits_with}
 use Rattle.tl_script.specs.Text.{IsCommand}
@@ -25,8 +25,8 @@ use Rattle.tl_run.specs.declared.stop.Stop.{Stop}
 use Rattle.tl_run.specs.declared.stop.StopCause.{StopCause}
 use Rattle.tl_run.specs.declared.stop.StopCause.TheVariants as cause
 use Rattle.tl_run.specs.Stops.{HaveBoxes, IsUnboxed, IsSaid, IsFront, AreSaid, IsFrontOf, IsCut, IsCutAs, IsCutBy, IsWritten, IsWrittenAs, HasCome, Stops, StopsFor, commands_before, of_script, last_text}
-use Rattle.tl_report.specs.Notes.{Tells}
-use Rattle.tl_report.proofs.NoteLaws.{tells_nil, tells_more, put_plain}
+use Rattle.tl_check.specs.Notes.{Tells}
+use Rattle.tl_check.proofs.NoteLaws.{tells_nil, tells_more, put_plain}
 use Rattle.tl_run.proofs.LineLaws.{nothing_said, last_tells}
 use Rattle.tl_run.proofs.OutputLaws.{output_more}
 

@@ -3,11 +3,11 @@ use Rattle.std.specs.Prelude.{ℕ, ◌≡◌, ◌<◌, ◌≤◌, List, [], leng
 use Rattle.tl_topology.specs.Topology.{Topology}
 use Rattle.tl_beats.specs.declared.Row.{Row}
 use Rattle.tl_definitions.specs.Report.{IsReport}
-use Rattle.tl_inputs.specs.Edits.{AnEdit}
-use Rattle.tl_inputs.specs.Log.{inputs_after}
-use Rattle.tl_inputs.specs.declared.fault.PastFault.{PastFault}
-use Rattle.tl_inputs.specs.declared.fault.PastFault.TheVariants as past
-use Rattle.tl_plain.specs.Captured.{captures_after}
+use Rattle.tl_edits.specs.Edits.{AnEdit}
+use Rattle.tl_edits.specs.Log.{inputs_after}
+use Rattle.tl_edits.specs.declared.fault.PastFault.{PastFault}
+use Rattle.tl_edits.specs.declared.fault.PastFault.TheVariants as past
+use Rattle.tl_check.specs.Captured.{captures_after}
 use Rattle.tl_script.specs.Scripts.{commands_of, fault_of}
 use Rattle.tl_script.specs.declared.fault.ScriptFault.{ScriptFault}
 use Rattle.tl_run.specs.declared.audit.AuditFault.{AuditFault}

@@ -3,7 +3,7 @@ use Rattle.std.specs.Prelude.{ℕ, Bool, true, false, ◌≡◌, List, Option, S
 use Rattle.std.specs.Io.KnownBytes.{Consumes}
 use Rattle.tl_topology.specs.Topology.{Topology}
 use Rattle.tl_beats.specs.declared.watch.Watch.{Watch}
-use Rattle.tl_report.specs.Notes.{IsPut}
+use Rattle.tl_check.specs.Notes.{IsPut}
 use Rattle.tl_script.specs.Reading.{command_in}
 use Rattle.tl_script.specs.Scripts.{commands_of}
 use Rattle.tl_script.specs.declared.command.Command.{Command}

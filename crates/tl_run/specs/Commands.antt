@@ -6,7 +6,7 @@ use Rattle.tl_beats.specs.Fragments.{Frag}
 use Rattle.tl_beats.specs.Reading.{whole_fragment_in}
 use Rattle.tl_beats.specs.declared.fault.FragmentFault.{FragmentFault}
 use Rattle.tl_beats.specs.declared.watch.Watch.{Watch}
-use Rattle.tl_inputs.specs.Edits.{AnEdit, plain_change, add, replace, withdraw, clear_link, set_region, remove_region, attach, retune, detach}
+use Rattle.tl_edits.specs.Edits.{AnEdit, plain_change, add, replace, withdraw, clear_link, set_region, remove_region, attach, retune, detach}
 use Rattle.tl_script.specs.declared.command.Command.{Command}
 use Rattle.tl_script.specs.declared.command.Command.TheVariants as command
 use Rattle.tl_run.specs.declared.asked.Asked.{Asked}

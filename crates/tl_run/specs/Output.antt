@@ -7,15 +7,15 @@ use Rattle.tl_beats.specs.Faults as fragment
 use Rattle.tl_beats.specs.declared.Row.{Row}
 use Rattle.tl_beats.specs.declared.watch.Watch.{Watch}
 use Rattle.tl_definitions.specs.Report.{IsReport}
-use Rattle.tl_inputs.specs.Edits.{AnEdit, code_of, number_of}
-use Rattle.tl_inputs.specs.Inputs.{refusal}
-use Rattle.tl_inputs.specs.Log.{inputs_after}
-use Rattle.tl_inputs.specs.declared.fault.EditFault.{EditFault}
-use Rattle.tl_plain.specs.Captured.{captures_after}
-use Rattle.tl_report.specs.Output.{ReportData, joined, newline, report_bytes}
+use Rattle.tl_edits.specs.Edits.{AnEdit, code_of, number_of}
+use Rattle.tl_edits.specs.Inputs.{refusal}
+use Rattle.tl_edits.specs.Log.{inputs_after}
+use Rattle.tl_edits.specs.declared.fault.EditFault.{EditFault}
+use Rattle.tl_check.specs.Captured.{captures_after}
+use Rattle.tl_check.specs.Output.{ReportData, joined, newline, report_bytes}
 use Rattle.tl_script.specs.declared.command.Command.{Command}
 use Rattle.tl_desk.specs.Core.{Core, AreLinked, log_of, latest_of, most_versions}
-use Rattle.tl_inputs.specs.declared.fault.EditFault.TheVariants as edit_fault
+use Rattle.tl_edits.specs.declared.fault.EditFault.TheVariants as edit_fault
 use Rattle.tl_run.specs.declared.answer.Answer.{Answer}
 use Rattle.tl_run.specs.declared.answer.Answer.TheVariants as answer
 use Rattle.tl_run.specs.Commands.{Asking, an_edit, no_fragment, a_report, asked, attached_by}

@@ -6,7 +6,7 @@ use Rattle.tl_text.specs.Numbers.{numeral}
 use Rattle.tl_text.specs.Words.{ended}
 use Rattle.tl_topology.specs.Topology.{Topology}
 use Rattle.tl_beats.specs.declared.watch.Watch.{Watch}
-use Rattle.tl_report.specs.Notes.{Tells, IsPut}
+use Rattle.tl_check.specs.Notes.{Tells, IsPut}
 use Rattle.tl_script.specs.Scripts.{Script, commands_of, fault_of}
 use Rattle.tl_script.specs.declared.command.Command.{Command}
 use Rattle.tl_script.specs.declared.fault.ScriptFault.{ScriptFault}

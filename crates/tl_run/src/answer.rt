@@ -4,8 +4,8 @@ ghost use Rattle.std.specs.Prelude.{◌≡◌, IfOk, string_bytes};
 ghost use Rattle.tl_run.specs.Output.{edit_text, refused_text, text_of, IsLinked, IsAnswerTo};
 
 use std::alloc::{AllocError, Global};
-use tl_inputs::EditFault;
-use tl_report::{Report, report_text};
+use tl_edits::EditFault;
+use tl_check::{Report, report_text};
 use tl_topology::Topo;
 
 /// What comes of a command.

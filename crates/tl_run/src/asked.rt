@@ -10,7 +10,7 @@ ghost use Rattle.tl_run.specs.Commands.{asked, asking, read_as};
 use std::alloc::{AllocError, Global};
 use std::sync::Arc;
 use tl_beats::{Fragment, FragmentFault, Watch, parse_whole_fragment};
-use tl_inputs::Change;
+use tl_edits::Change;
 use tl_script::{Command, Text};
 
 /// What a command asks for.

@@ -17,7 +17,7 @@ use std::alloc::{AllocError, Global};
 use std::marker::Model;
 use tl_beats::Watch;
 use tl_monitor::{Monitor, Settlement};
-use tl_report::Report;
+use tl_check::Report;
 use tl_script::Command;
 use tl_topology::Topo;
 

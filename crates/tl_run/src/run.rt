@@ -4,7 +4,7 @@ ghost use Rattle.std.specs.Prelude.{Bool, ◌≡◌, ◌↔◌, ◌+◌, ◌<◌
 ghost use Rattle.std.specs.Result.{IsErrOf};
 ghost use Rattle.tl_topology.specs.Topology.{Topology};
 ghost use Rattle.tl_beats.specs.declared.watch.Watch.{Watch as AnyWatch};
-ghost use Rattle.tl_report.specs.Notes.{Tells};
+ghost use Rattle.tl_check.specs.Notes.{Tells};
 ghost use Rattle.tl_script.specs.Scripts.{commands_of};
 ghost use Rattle.tl_script.specs.Text.{IsCommand};
 ghost use Rattle.tl_run.specs.Boxes.{watches_in};

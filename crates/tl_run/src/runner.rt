@@ -2,7 +2,7 @@
 
 ghost use Rattle.std.specs.Prelude.{◌≡◌, [], Bool, false, IfOk, OnOk, OnErr, length, string_bytes};
 ghost use Rattle.std.specs.Result.{IsErrOf};
-ghost use Rattle.tl_report.specs.Notes.{Tells};
+ghost use Rattle.tl_check.specs.Notes.{Tells};
 ghost use Rattle.tl_script.specs.Text.{IsCommand};
 ghost use Rattle.tl_run.specs.Commands.{asked, asking};
 ghost use Rattle.tl_run.specs.Output.{RunData, supplied, text_of, IsLinked, IsStep, TakesBox, LacksBox};

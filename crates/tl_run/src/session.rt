@@ -3,7 +3,7 @@
 ghost use Rattle.std.specs.Prelude.{◌≡◌, ◌∷◌, ◌++◌, [], IfOk, IfSome, OnOk, OnErr, length};
 ghost use Rattle.std.specs.Result.{IsErrOf};
 ghost use Rattle.std.specs.Option.{option_map_or};
-ghost use Rattle.tl_inputs.specs.Edits.{plain_change, attach};
+ghost use Rattle.tl_edits.specs.Edits.{plain_change, attach};
 ghost use Rattle.tl_desk.specs.Core.{AreLinked};
 ghost use Rattle.tl_desk.specs.Ends.{AllHaveEnded};
 ghost use Rattle.tl_run.specs.Boxes.{watches_in};
@@ -19,9 +19,9 @@ use std::marker::Model;
 use thiserror::Error;
 use tl_beats::Watch;
 use tl_desk::{Desk, PublishFault, RecheckFault};
-use tl_inputs::{Change, EditFault};
+use tl_edits::{Change, EditFault};
 use tl_monitor::{Monitor, Settlement};
-use tl_report::Report;
+use tl_check::Report;
 use tl_topology::Topo;
 
 /// Why a command has no lines.

@@ -17,13 +17,13 @@ use Rattle.tl_definitions.specs.Heads.{message_of}
 use Rattle.tl_definitions.specs.Messages.{Message, Links, sources, releases, sinks, probes, round_down, granted_block, claim, at_head}
 use Rattle.tl_definitions.specs.OpenTables.{Table, touches, if_opens, open_at, open_keys}
 use Rattle.tl_definitions.specs.Rules.{Manager}
-use Rattle.tl_reasons.specs.declared.origin.Origin.{Origin}
-use Rattle.tl_reasons.specs.declared.reason.Reason.{Reason}
-use Rattle.tl_reasons.specs.declared.reason.Reason.TheVariants as why
-use Rattle.tl_reasons.specs.declared.telling.Told.{Told}
-use Rattle.tl_reasons.specs.Origins.{message, origin_at, with_origin, origins_on, head_before, placed, least, first_open, last_setter}
-use Rattle.tl_reasons.specs.Reasons.{Trail, trail_of, trails_of, head_message, named, first_some, rival_at, rival, link_reason, head_reason, later_reason, reason_at, acquires, gives_back, grants, bound_by}
-use Rattle.tl_reasons.specs.Telling.{is_of, told_of, told_after}
+use Rattle.tl_rows.specs.declared.origin.Origin.{Origin}
+use Rattle.tl_rows.specs.declared.reason.Reason.{Reason}
+use Rattle.tl_rows.specs.declared.reason.Reason.TheVariants as why
+use Rattle.tl_rows.specs.declared.telling.Told.{Told}
+use Rattle.tl_rows.specs.Origins.{message, origin_at, with_origin, origins_on, head_before, placed, least, first_open, last_setter}
+use Rattle.tl_rows.specs.Reasons.{Trail, trail_of, trails_of, head_message, named, first_some, rival_at, rival, link_reason, head_reason, later_reason, reason_at, acquires, gives_back, grants, bound_by}
+use Rattle.tl_rows.specs.Telling.{is_of, told_of, told_after}
 use Rattle.tl_show.specs.Lines.{IsKept}
 
 pub all_rec : {X : Type 0} (P : X → Type 0) (xs : List X) → All P xs → AllByRecursion P xs

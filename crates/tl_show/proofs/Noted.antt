@@ -23,15 +23,15 @@ use Rattle.tl_beats.specs.declared.Placed.{Placed}
 use Rattle.tl_beats.specs.declared.Row.{Row}
 use Rattle.tl_definitions.specs.Heads.{message_of}
 use Rattle.tl_definitions.specs.Rules.{active_lanes}
-use Rattle.tl_reasons.specs.declared.reason.Reason.{Reason}
-use Rattle.tl_reasons.specs.declared.reason.Reason.TheVariants as why
-use Rattle.tl_reasons.specs.declared.telling.Told.{Told}
+use Rattle.tl_rows.specs.declared.reason.Reason.{Reason}
+use Rattle.tl_rows.specs.declared.reason.Reason.TheVariants as why
+use Rattle.tl_rows.specs.declared.telling.Told.{Told}
 use Rattle.tl_tables.specs.Messages.{same_chan}
 use Rattle.tl_tables.specs.Rules.{rule_text_of}
-use Rattle.tl_report.specs.Output.{row_text}
-use Rattle.tl_report.specs.Notes.{is_unbroken, IsNoted}
-use Rattle.tl_report.proofs.NoteLaws.{unbroken_more, digits_unbroken, decimal_unbroken, name_unbroken, rule_unbroken, row_is_plain, Ends, ends_here, ends_more, noted_nil, noted_more, note_line}
-use Rattle.tl_words.specs.Words.{joined, chan_text_of, op_text_of, param_texts, param_text_of, op_text_with, named_text_of, plain_text_of, numbered_text_of, coded_text_of, message_text_of, bytes_text_of, access_text_of, release_text_of, reply_text_of, ack_text_of, fields_text_of, bits_text_of, beat_text_of, rule_line_of}
+use Rattle.tl_check.specs.Output.{row_text}
+use Rattle.tl_check.specs.Notes.{is_unbroken, IsNoted}
+use Rattle.tl_check.proofs.NoteLaws.{unbroken_more, digits_unbroken, decimal_unbroken, name_unbroken, rule_unbroken, row_is_plain, Ends, ends_here, ends_more, noted_nil, noted_more, note_line}
+use Rattle.tl_rows.specs.Words.{joined, chan_text_of, op_text_of, param_texts, param_text_of, op_text_with, named_text_of, plain_text_of, numbered_text_of, coded_text_of, message_text_of, bytes_text_of, access_text_of, release_text_of, reply_text_of, ack_text_of, fields_text_of, bits_text_of, beat_text_of, rule_line_of}
 use Rattle.tl_show.specs.Lines.{link_at, words_of, beat_line_of, rule_row_of, place_text_of, named_line_of, missing_of, missing_line_of, reason_line_of, most_line_of, block_line_of, within_line_of, mask_line_of, source_line_of, head_of, is_partial, lanes_line_of, own_field_of, field_of, differs_line_of, block_at, expected_line_of, told_lines_of, bare_lines_of, IsStanding, IsNaming, IsSoundTold}
 use Rattle.tl_show.specs.Shown.{is_row, lines_for, shown_row, rest_line_of, checked_text_of, asked_text_of, given_text_of, counts_line_of, shown_count, shown_rows, shown_bytes}
 use Rattle.tl_show.specs.declared.survey.Counts.{Counts}

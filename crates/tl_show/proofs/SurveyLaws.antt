@@ -7,9 +7,9 @@ use Rattle.tl_beats.specs.declared.Placed.{Placed}
 use Rattle.tl_beats.specs.declared.Row.{Row}
 use Rattle.tl_definitions.specs.Managers.{declared_links}
 use Rattle.tl_definitions.specs.Positions.{Recorded, clients_of}
-use Rattle.tl_manager_rules.proofs.ClientLaws.{clients_below}
-use Rattle.tl_reasons.specs.declared.telling.Told.{Told}
-use Rattle.tl_reasons.proofs.PassedLaws.{next_left}
+use Rattle.tl_client_rules.proofs.ClientsLaws.{clients_below}
+use Rattle.tl_rows.specs.declared.telling.Told.{Told}
+use Rattle.tl_rows.proofs.PassedLaws.{next_left}
 use Rattle.std.specs.Prelude.{IfOk, String, string_bytes}
 use Rattle.tl_show.specs.declared.survey.Counts.{Counts}
 use Rattle.tl_show.specs.Shown.{told_in, told_from, told_of_all, shown_count, shown_bytes, IsShown}

@@ -19,10 +19,10 @@ use Rattle.tl_definitions.specs.Heads.{message_of}
 use Rattle.tl_definitions.specs.Positions.{links_of}
 use Rattle.tl_definitions.specs.Managers.{declared_links}
 use Rattle.tl_definitions.specs.Rules.{active_lanes}
-use Rattle.tl_reasons.specs.declared.reason.Reason.{Reason}
-use Rattle.tl_reasons.specs.declared.reason.Reason.TheVariants as why
-use Rattle.tl_reasons.specs.declared.telling.Told.{Told}
-use Rattle.tl_words.specs.Words.{joined, beat_text_of, bytes_text_of, rule_line_of}
+use Rattle.tl_rows.specs.declared.reason.Reason.{Reason}
+use Rattle.tl_rows.specs.declared.reason.Reason.TheVariants as why
+use Rattle.tl_rows.specs.declared.telling.Told.{Told}
+use Rattle.tl_rows.specs.Words.{joined, beat_text_of, bytes_text_of, rule_line_of}
 
 abbrev pub newline : List ℕ
 newline = 10 ∷ []

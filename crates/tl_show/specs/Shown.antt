@@ -12,13 +12,13 @@ use Rattle.tl_definitions.specs.Captures.{manager_beats}
 use Rattle.tl_definitions.specs.Managers.{declared_links}
 use Rattle.tl_definitions.specs.Positions.{Recorded, clients_of}
 use Rattle.tl_definitions.specs.Rules.{Manager}
-use Rattle.tl_reasons.specs.Counts.{heads_after, AreOpen}
-use Rattle.tl_reasons.specs.States.{manager_with}
-use Rattle.tl_reasons.specs.Telling.{told_after}
-use Rattle.tl_reasons.specs.declared.telling.Told.{Told}
-use Rattle.tl_report.specs.Output.{row_text}
-use Rattle.tl_windows.specs.Windows.{AreWindows}
-use Rattle.tl_words.specs.Words.{joined}
+use Rattle.tl_rows.specs.Counts.{heads_after, AreOpen}
+use Rattle.tl_rows.specs.States.{manager_with}
+use Rattle.tl_rows.specs.Telling.{told_after}
+use Rattle.tl_rows.specs.declared.telling.Told.{Told}
+use Rattle.tl_check.specs.Output.{row_text}
+use Rattle.tl_capture.specs.Windows.{AreWindows}
+use Rattle.tl_rows.specs.Words.{joined}
 use Rattle.tl_show.specs.Lines.{newline, told_lines_of}
 use Rattle.tl_show.specs.declared.survey.Counts.{Counts}
 use Rattle.tl_show.specs.declared.survey.Survey.{Survey}

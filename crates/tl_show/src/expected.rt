@@ -7,11 +7,10 @@ ghost use Rattle.tl_show.specs.Lines.{most_line_of, block_line_of, within_line_o
 
 use std::alloc::{AllocError, Global};
 use tl_beats::Beat;
-use tl_format_rules::active_lanes;
-use tl_reasons::{Reason, Told};
+use tl_link_rules::active_lanes;
+use tl_rows::{Reason, Told, bytes_text};
 use tl_tables::{Chan, Op, Rule, op_of};
 use tl_topology::{LinkDecl, Topo};
-use tl_words::bytes_text;
 
 /// The greatest exponent of a size.
 const MOST_SIZE: u8 = 15;

@@ -1,15 +1,21 @@
-//! Rows shown: each beside its beat in words, the earlier beat that makes it so, and what was expected; and runs whose reports are
-//! shown.
+//! Rows as they are written: with notes, as JSON, as JUnit.
 #![tactic(auto)]
 
+mod beat;
 mod expected;
+mod json;
+mod junit;
 mod lines;
+mod output;
 mod quote;
 mod showing;
 mod shown;
 mod streaming;
 mod survey;
 
+pub use json::json_text;
+pub use junit::junit_text;
+pub use output::{Printed, Title, print_rows};
 pub use quote::{first_line, line_at, lines_from};
 pub use showing::{Showing, Shown};
 pub use shown::{shown_audit, shown_report, shown_row};

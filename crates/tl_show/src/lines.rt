@@ -7,10 +7,9 @@ ghost use Rattle.tl_show.specs.Lines.{words_of, beat_line_of, rule_row_of, place
 use crate::expected::expected_line;
 use std::alloc::{AllocError, Global};
 use tl_beats::Placed;
-use tl_reasons::{Reason, Told};
+use tl_rows::{Reason, Told, beat_text, rule_line};
 use tl_tables::{Rule, op_of, rule_text};
 use tl_topology::Topo;
-use tl_words::{beat_text, rule_line};
 
 /// A beat in words.
 fn words(alloc: Global, topo: &Topo, place: &Placed) -> Result<String, AllocError>

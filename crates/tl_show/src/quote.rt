@@ -1,7 +1,7 @@
 //! Lines of a text, as they can be shown.
 
 ghost use Rattle.std.specs.Prelude.{◌≡◌, true};
-ghost use Rattle.tl_report.specs.Notes.{is_unbroken};
+ghost use Rattle.tl_check.specs.Notes.{is_unbroken};
 
 use std::str;
 use tl_text::line;

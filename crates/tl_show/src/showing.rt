@@ -1,7 +1,7 @@
 //! Runs and reports that are shown.
 
 ghost use Rattle.std.specs.Prelude.{◌≡◌, [], true, IfOk, IfSome, length, string_bytes};
-ghost use Rattle.tl_report.specs.Notes.{is_unbroken, IsNoted};
+ghost use Rattle.tl_check.specs.Notes.{is_unbroken, IsNoted};
 ghost use Rattle.tl_script.specs.Text.{IsCommand};
 ghost use Rattle.tl_run.specs.Commands.{asked, asking};
 ghost use Rattle.tl_run.specs.Output.{RunData};
@@ -11,8 +11,8 @@ use crate::shown::{shown_audit, shown_report};
 use std::alloc::{AllocError, Global};
 use std::marker::Model;
 use tl_beats::Row;
-use tl_inputs::{Edit, EditFault, Inputs, Log};
-use tl_report::{Form, Report};
+use tl_edits::{Edit, EditFault, Inputs, Log};
+use tl_check::{Form, Report};
 use tl_run::{Answer, Asked, CommandFault, Runner, StopCause, edit_line, refusal_line};
 use tl_script::Command;
 use tl_topology::Topo;

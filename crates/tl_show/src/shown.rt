@@ -3,8 +3,8 @@
 ghost use Rattle.std.specs.Prelude.{◌≡◌, ◌<◌, ◌≤◌, ◌++◌, find, IfOk, OnOk, length, string_bytes};
 ghost use Rattle.std.specs.List.{All, flat_map};
 ghost use Rattle.std.specs.Option.{option_copied};
-ghost use Rattle.tl_report.specs.Notes.{IsNoted};
-ghost use Rattle.tl_report.specs.Output.{row_text, head_text, report_bytes, audit_head, audit_bytes};
+ghost use Rattle.tl_check.specs.Notes.{IsNoted};
+ghost use Rattle.tl_check.specs.Output.{row_text, head_text, report_bytes, audit_head, audit_bytes};
 ghost use Rattle.tl_show.specs.Lines.{IsSoundTold};
 ghost use Rattle.tl_show.specs.Shown.{same_monitor, is_of_beat, is_of_rule, is_row, lines_for, shown_row, rest_line_of, checked_text_of, asked_text_of, given_text_of, counts_line_of, shown_count, shown_rows, shown_bytes, IsShown};
 
@@ -12,11 +12,11 @@ use crate::lines::told_lines;
 use crate::survey::{Counts, Survey, survey_beats};
 use std::alloc::{AllocError, Global};
 use tl_beats::Row;
-use tl_reasons::Told;
-use tl_report::{Report, audit_head, head_text, row_text};
+use tl_rows::Told;
+use tl_check::{Report, audit_head, head_text, row_text};
 use tl_tables::rule_number;
 use tl_topology::Topo;
-use tl_windows::Present;
+use tl_capture::Present;
 
 /// How many rows are shown at most.
 const MOST_SHOWN: usize = 1_000;
@@ -239,7 +239,7 @@ fn with_lines(
 /// rule, the earlier beat that makes it so, and what was expected; then the others without, how many these are, and how much was
 /// checked. The fragments that are present are those that the report is of, and the topology has the links of its rows.
 /// AllocError where memory is refused.
-#[tactic(auto, unfolding(tl_report::specs::Output::report_bytes))]
+#[tactic(auto, unfolding(tl_check::specs::Output::report_bytes))]
 pub fn shown_report(
     alloc: Global,
     topo: &Topo,
@@ -255,7 +255,7 @@ pub fn shown_report(
 }
 
 /// The same of what an audit after so many edits finds.
-#[tactic(auto, unfolding(tl_report::specs::Output::audit_bytes))]
+#[tactic(auto, unfolding(tl_check::specs::Output::audit_bytes))]
 pub fn shown_audit(
     alloc: Global,
     topo: &Topo,

@@ -5,7 +5,7 @@ use crate::course::Course;
 use crate::seat::Seat;
 use std::alloc::Global;
 use std::sync::Wait;
-use tl_inputs::Change;
+use tl_edits::Change;
 
 /// How many edits a round has.
 pub(crate) const EDITS: u64 = 3;

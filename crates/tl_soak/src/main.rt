@@ -27,9 +27,9 @@ use std::sync::Wait;
 use std::thread::{Threads, join};
 use tl_desk::{Desk, Report};
 use tl_hall::Hall;
-use tl_inputs::Log;
+use tl_edits::Log;
 use tl_monitor::Budget;
-use tl_plain::audit;
+use tl_check::audit;
 use tl_text::decimal;
 use tl_topology::Topo;
 

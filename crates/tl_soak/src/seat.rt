@@ -6,7 +6,7 @@ use std::alloc::Global;
 use std::sync::Wait;
 use tl_desk::Report;
 use tl_hall::{Gate, Hall, Pass, WorkCount, worker};
-use tl_inputs::Change;
+use tl_edits::Change;
 use tl_monitor::Budget;
 
 /// A hall with the right to call it, which each call takes and gives back.

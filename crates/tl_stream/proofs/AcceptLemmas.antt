@@ -15,10 +15,10 @@ use Rattle.tl_beats.specs.Fragments.{Frag, AreBeats}
 use Rattle.tl_beats.specs.declared.Row.{Row}
 use Rattle.tl_definitions.specs.Managers.{declared_links}
 use Rattle.tl_definitions.specs.Positions.{Recorded, clients_of}
-use Rattle.tl_manager_rules.proofs.DeclaredLaws.{declared_is_client}
-use Rattle.tl_windows.specs.Present.{recorded, numbered, overlapped, put_in, IsCapture, IsPresent}
-use Rattle.tl_windows.proofs.TouchLemmas.{put_here}
-use Rattle.tl_span.specs.declared.state.SpanState.{SpanState}
+use Rattle.tl_client_rules.proofs.DeclaredLaws.{declared_is_client}
+use Rattle.tl_capture.specs.Present.{recorded, numbered, overlapped, put_in, IsCapture, IsPresent}
+use Rattle.tl_capture.proofs.TouchLemmas.{put_here}
+use Rattle.tl_check.specs.declared.state.SpanState.{SpanState}
 use Rattle.tl_stream.specs.Courses.{HasCome, Advances, AreNewRows}
 use Rattle.tl_stream.specs.Fronts.{front_at, refusal_of, has_reached, past, is_complete, IsFrontOf}
 use Rattle.tl_stream.specs.Streams.{StreamData, HasAccepted, Accepts, Refuses, IsCause, IsOn, areas_in, course_at, told_by}

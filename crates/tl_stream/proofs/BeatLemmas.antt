@@ -19,14 +19,14 @@ use Rattle.tl_definitions.proofs.Lists.{contains_kept, kept_from, onto, onto_rev
 use Rattle.tl_definitions.proofs.PositionLaws.{beats_are_in_order, position_total, positions_are_ordered}
 use Rattle.tl_definitions.proofs.ReportLaws.{strict_one}
 use Rattle.tl_definitions.proofs.RisingLaws.{strict_both}
-use Rattle.tl_windows.specs.Present.{IsCapture, IsPresent}
-use Rattle.tl_windows.specs.Windows.{is_within, beats_within}
-use Rattle.tl_windows.proofs.GatherLemmas.{link_of_any}
-use Rattle.tl_windows.proofs.LawLemmas.{formed_of_all}
-use Rattle.tl_windows.proofs.PresentLemmas.{ranges_of, beats_rise, placed_is_of}
-use Rattle.tl_span.specs.Jobs.{GoesOn}
-use Rattle.tl_span.specs.States.{StandsFor}
-use Rattle.tl_span.specs.declared.state.SpanState.{SpanState}
+use Rattle.tl_capture.specs.Present.{IsCapture, IsPresent}
+use Rattle.tl_capture.specs.Windows.{is_within, beats_within}
+use Rattle.tl_capture.proofs.GatherLemmas.{link_of_any}
+use Rattle.tl_capture.proofs.LawLemmas.{formed_of_all}
+use Rattle.tl_capture.proofs.PresentLemmas.{ranges_of, beats_rise, placed_is_of}
+use Rattle.tl_check.specs.Jobs.{GoesOn}
+use Rattle.tl_check.specs.States.{StandsFor}
+use Rattle.tl_check.specs.declared.state.SpanState.{SpanState}
 use Rattle.tl_stream.specs.Courses.{beats_before}
 
 -- ---- beats in order

@@ -16,11 +16,11 @@ use Rattle.tl_definitions.specs.Judging.{judging}
 use Rattle.tl_definitions.specs.Passes.{rows_judged}
 use Rattle.tl_definitions.proofs.JudgingLaws.{all_exact}
 use Rattle.tl_definitions.proofs.Lists.{contains_none, contains_kept, kept_from, none_kept}
-use Rattle.tl_windows.specs.Present.{ends_by, without_ended, IsPresent}
-use Rattle.tl_windows.specs.Windows.{is_within, beats_within}
-use Rattle.tl_windows.proofs.NumberLemmas.{same_kept}
-use Rattle.tl_span.specs.States.{IsOf, StandsFor}
-use Rattle.tl_span.specs.declared.state.SpanState.{SpanState}
+use Rattle.tl_capture.specs.Present.{ends_by, without_ended, IsPresent}
+use Rattle.tl_capture.specs.Windows.{is_within, beats_within}
+use Rattle.tl_capture.proofs.NumberLemmas.{same_kept}
+use Rattle.tl_check.specs.States.{IsOf, StandsFor}
+use Rattle.tl_check.specs.declared.state.SpanState.{SpanState}
 use Rattle.tl_stream.specs.Courses.{next_from, next_of, beats_before, IsNewCourse, GoesTo, Waits, IsRunning, IsComplete, IsCourse, HasCome, Judged, Loses, IsLost, Advances, AreNewRows}
 use Rattle.tl_stream.specs.Fronts.{has_reached, past, is_complete}
 use Rattle.tl_stream.specs.Told.{complete_beats, open_beats, untold}

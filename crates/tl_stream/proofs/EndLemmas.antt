@@ -10,10 +10,10 @@ use Rattle.tl_topology.specs.Topology.{Topology}
 use Rattle.tl_beats.specs.declared.Row.{Row}
 use Rattle.tl_definitions.specs.Positions.{Recorded}
 use Rattle.tl_definitions.proofs.Lists.{contains_none}
-use Rattle.tl_windows.specs.Present.{IsPresent}
-use Rattle.tl_windows.proofs.PresentLemmas.{no_ranges}
-use Rattle.tl_plain.specs.Captured.{areas_at}
-use Rattle.tl_span.specs.declared.state.SpanState.{SpanState}
+use Rattle.tl_capture.specs.Present.{IsPresent}
+use Rattle.tl_capture.proofs.PresentLemmas.{no_ranges}
+use Rattle.tl_check.specs.Captured.{areas_at}
+use Rattle.tl_check.specs.declared.state.SpanState.{SpanState}
 use Rattle.tl_stream.specs.Courses.{IsCourse, AreNewCourses, HasEnded, Judged}
 use Rattle.tl_stream.specs.Fronts.{IsFrontOf}
 use Rattle.tl_stream.specs.Streams.{StreamData, HasAccepted, areas_in}

@@ -6,11 +6,11 @@ use Rattle.std.specs.List.{Contains, list_any, list_all}
 use Rattle.std.proofs.lemmas.Bool.Decides.{nat_tests}
 use Rattle.tl_definitions.specs.Positions.{Recorded}
 use Rattle.tl_definitions.proofs.Lists.{contains_none, contains_here, contains_there, contains_cases}
-use Rattle.tl_windows.specs.Present.{put_in}
-use Rattle.tl_windows.proofs.GatherLemmas.{or_left, or_right}
-use Rattle.tl_windows.proofs.PutLemmas.{put_from}
-use Rattle.tl_windows.proofs.TouchLemmas.{put_has, put_here}
-use Rattle.tl_windows.proofs.WalkLemmas.{both}
+use Rattle.tl_capture.specs.Present.{put_in}
+use Rattle.tl_capture.proofs.GatherLemmas.{or_left, or_right}
+use Rattle.tl_capture.proofs.PutLemmas.{put_from}
+use Rattle.tl_capture.proofs.TouchLemmas.{put_has, put_here}
+use Rattle.tl_capture.proofs.WalkLemmas.{both}
 use Rattle.tl_stream.specs.Fronts.{front_at, has_reached, is_covered, is_complete, IsNewest, IsFrontOf}
 use Rattle.tl_stream.specs.declared.front.Front.{Front}
 

@@ -17,11 +17,11 @@ use Rattle.tl_definitions.specs.Positions.{Recorded, clients_of}
 use Rattle.tl_definitions.specs.Report.{all_rows}
 use Rattle.tl_definitions.proofs.Lists.{contains_none, contains_here}
 use Rattle.tl_definitions.proofs.ReportLaws.{rows_are_breaks, sorted_rows_are_the_report}
-use Rattle.tl_manager_rules.proofs.ClientLaws.{clients_below}
-use Rattle.tl_windows.specs.Present.{IsPresent}
-use Rattle.tl_windows.proofs.EntryLemmas.{all_kept}
-use Rattle.tl_plain.specs.Captured.{areas_at, captures_with}
-use Rattle.tl_plain.proofs.CaptureLaws.{one_place, linked_in}
+use Rattle.tl_client_rules.proofs.ClientsLaws.{clients_below}
+use Rattle.tl_capture.specs.Present.{IsPresent}
+use Rattle.tl_capture.proofs.EntryLemmas.{all_kept}
+use Rattle.tl_check.specs.Captured.{areas_at, captures_with}
+use Rattle.tl_check.proofs.CaptureLaws.{one_place, linked_in}
 use Rattle.tl_stream.specs.Fronts.{is_covered, is_complete}
 use Rattle.tl_stream.specs.Laws.{TellingIsWhole, StreamsTellTheReport}
 use Rattle.tl_stream.specs.Told.{complete_beats, open_beats, whole}

@@ -14,14 +14,14 @@ use Rattle.tl_definitions.specs.Captures.{manager_beats}
 use Rattle.tl_definitions.specs.Managers.{declared_links, manager_at}
 use Rattle.tl_definitions.specs.Positions.{Recorded, clients_of}
 use Rattle.tl_definitions.proofs.Lists.{contains_here, contains_there, none_kept, all_by}
-use Rattle.tl_plain.specs.Captured.{areas_at}
-use Rattle.tl_manager_rules.proofs.DeclaredLaws.{client_is_declared}
-use Rattle.tl_windows.specs.Present.{recorded, is_of, shares, numbered, overlapped, least, put_in, IsCapture, IsPresent}
-use Rattle.tl_windows.proofs.NumberLemmas.{present_put, same_kept}
-use Rattle.tl_windows.proofs.PutLemmas.{put_from}
-use Rattle.tl_windows.proofs.TouchLemmas.{put_has, put_here}
-use Rattle.tl_span.specs.States.{StandsFor}
-use Rattle.tl_span.specs.declared.state.SpanState.{SpanState}
+use Rattle.tl_check.specs.Captured.{areas_at}
+use Rattle.tl_client_rules.proofs.DeclaredLaws.{client_is_declared}
+use Rattle.tl_capture.specs.Present.{recorded, is_of, shares, numbered, overlapped, least, put_in, IsCapture, IsPresent}
+use Rattle.tl_capture.proofs.NumberLemmas.{present_put, same_kept}
+use Rattle.tl_capture.proofs.PutLemmas.{put_from}
+use Rattle.tl_capture.proofs.TouchLemmas.{put_has, put_here}
+use Rattle.tl_check.specs.States.{StandsFor}
+use Rattle.tl_check.specs.declared.state.SpanState.{SpanState}
 use Rattle.tl_stream.specs.Courses.{next_of, beats_before, AreCourses, IsCourse, WasCourse, HasCome, Advances, AreNewRows}
 use Rattle.tl_stream.specs.Fronts.{front_at, is_covered, is_complete, refusal_of, IsFrontOf}
 use Rattle.tl_stream.specs.Streams.{StreamData, HasAccepted, Accepts, IsCause, IsNumberOld, IsOn, areas_in, course_at, told_by}

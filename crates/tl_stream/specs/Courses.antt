@@ -9,11 +9,11 @@ use Rattle.tl_definitions.specs.Breaks.{rows_in}
 use Rattle.tl_definitions.specs.Captures.{manager_beats}
 use Rattle.tl_definitions.specs.Managers.{declared_links, manager_at}
 use Rattle.tl_definitions.specs.Positions.{Recorded, beats_of_all, clients_of}
-use Rattle.tl_span.specs.Jobs.{GoesOn}
-use Rattle.tl_span.specs.States.{IsOf, StandsFor}
-use Rattle.tl_span.specs.declared.state.SpanState.{SpanState}
-use Rattle.tl_windows.specs.Windows.{beats_within}
-use Rattle.tl_windows.specs.Present.{IsPresent}
+use Rattle.tl_check.specs.Jobs.{GoesOn}
+use Rattle.tl_check.specs.States.{IsOf, StandsFor}
+use Rattle.tl_check.specs.declared.state.SpanState.{SpanState}
+use Rattle.tl_capture.specs.Windows.{beats_within}
+use Rattle.tl_capture.specs.Present.{IsPresent}
 use Rattle.tl_stream.specs.Fronts.{front_at, is_complete, IsFrontOf}
 use Rattle.tl_stream.specs.declared.course.Course.{Course}
 use Rattle.tl_stream.specs.declared.front.Front.{Front}

@@ -7,8 +7,8 @@ use Rattle.tl_topology.specs.Topology.{Topology}
 use Rattle.tl_beats.specs.declared.Row.{Row}
 use Rattle.tl_definitions.specs.Positions.{Recorded}
 use Rattle.tl_definitions.specs.Report.{row_order, IsReport}
-use Rattle.tl_plain.specs.Captured.{areas_at, captures_with}
-use Rattle.tl_windows.specs.Present.{IsPresent}
+use Rattle.tl_check.specs.Captured.{areas_at, captures_with}
+use Rattle.tl_capture.specs.Present.{IsPresent}
 use Rattle.tl_stream.specs.Told.{told, untold, whole}
 
 -- What a stream told of a manager, and after it what it tells at its end, are all rows of the manager.

@@ -8,8 +8,8 @@ use Rattle.tl_beats.specs.Fragments.{Frag}
 use Rattle.tl_beats.specs.declared.Row.{Row}
 use Rattle.tl_definitions.specs.Managers.{declared_links}
 use Rattle.tl_definitions.specs.Positions.{Recorded, clients_of}
-use Rattle.tl_plain.specs.Captured.{areas_at}
-use Rattle.tl_windows.specs.Present.{recorded, put_in, IsPresent}
+use Rattle.tl_check.specs.Captured.{areas_at}
+use Rattle.tl_capture.specs.Present.{recorded, put_in, IsPresent}
 use Rattle.tl_stream.specs.Courses.{AreCourses}
 use Rattle.tl_stream.specs.Fronts.{front_at, past, is_complete, IsFrontOf}
 use Rattle.tl_stream.specs.Told.{told}

@@ -2,14 +2,14 @@
 
 ghost use Rattle.std.specs.Prelude.{◌<◌, Bool, [], false, IfOk, length, string_bytes};
 ghost use Rattle.std.specs.List.{All, flat_map};
-ghost use Rattle.tl_report.specs.Notes.{Tells};
-ghost use Rattle.tl_report.specs.Output.{row_text};
+ghost use Rattle.tl_check.specs.Notes.{Tells};
+ghost use Rattle.tl_check.specs.Output.{row_text};
 
 use std::alloc::{AllocError, Global};
 use tl_beats::{FragmentFault, Row};
-use tl_report::{Plain, listed};
+use tl_check::{Plain, listed};
 use tl_topology::Topo;
-use tl_windows::Present;
+use tl_capture::Present;
 
 /// How the rows of a stream are written: their lines alone, or with notes.
 pub trait RowForm {

@@ -6,14 +6,14 @@ ghost use Rattle.std.specs.List.Sorted.{IsStrictlySortedBy};
 ghost use Rattle.tl_definitions.specs.Passes.{IsPass};
 ghost use Rattle.tl_definitions.specs.Positions.{beats_of, position_order};
 ghost use Rattle.tl_definitions.specs.Tallies.{watching, kept_tally, AreOfOneLink};
-ghost use Rattle.tl_windows.specs.Present.{recorded};
+ghost use Rattle.tl_capture.specs.Present.{recorded};
 ghost use Rattle.tl_stream.specs.Lookouts.{IsLookedOut};
 
 use std::alloc::{AllocError, Global};
 use std::sync::{Arc, OnceLock};
 use tl_beats::{Fragment, Placed, Row, Watch};
 use tl_monitor::{After, Budget, Checked, Monitor, Watched, monitor_check};
-use tl_windows::Present;
+use tl_capture::Present;
 
 /// A watch with the number of its monitor, and the tally of the beats that came.
 #[derive(Clone, Copy, Debug, PartialEq, Eq)]

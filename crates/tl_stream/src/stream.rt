@@ -6,8 +6,8 @@ ghost use Rattle.std.specs.Arc.{arc_value};
 ghost use Rattle.std.specs.List.{All, Contains};
 ghost use Rattle.std.specs.Result.{IsErrOf};
 ghost use Rattle.tl_definitions.specs.Positions.{Recorded};
-ghost use Rattle.tl_plain.specs.Captured.{areas_at};
-ghost use Rattle.tl_windows.specs.Present.{IsPresent};
+ghost use Rattle.tl_check.specs.Captured.{areas_at};
+ghost use Rattle.tl_capture.specs.Present.{IsPresent};
 ghost use Rattle.tl_stream.specs.declared.fault.StreamFault.{StreamFault};
 ghost use Rattle.tl_stream.specs.Courses.{IsRunning, HasCome, HasEnded, Advances, AreNewRows, AreNewCourses, Loses};
 ghost use Rattle.tl_stream.specs.Fronts.{refusal_of, IsFrontOf};
@@ -22,7 +22,7 @@ use std::marker::Model;
 use std::sync::Arc;
 use tl_beats::{Fragment, Row};
 use tl_topology::{RegionMap, Topo};
-use tl_windows::Present;
+use tl_capture::Present;
 
 /// The fragments of a capture as they come, those of each link with rising numbers and ranges. It holds those of which a cycle is not
 /// complete on all links of their manager, and of all others what they leave.
@@ -39,7 +39,7 @@ pub struct Stream {
 
 impl Model for Stream {
     ghost use Rattle.std.specs.Coded.{codes};
-    ghost use Rattle.tl_span.specs.contracts.state.SpanState as state;
+    ghost use Rattle.tl_check.specs.contracts.state.SpanState as state;
     ghost use Rattle.std.specs.Arc.{arc_value};
     ghost use Rattle.std.specs.Prelude.{List};
     ghost use Rattle.tl_definitions.specs.Positions.{Recorded};

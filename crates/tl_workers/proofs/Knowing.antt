@@ -5,15 +5,15 @@ use Rattle.std.proofs.lemmas.Bool.Decides.{nat_tests}
 use Rattle.tl_topology.specs.Topology.{Topology}
 use Rattle.tl_beats.specs.declared.Row.{Row}
 use Rattle.tl_beats.specs.declared.watch.Watch.{Watch}
-use Rattle.tl_inputs.specs.declared.edit.Change.{Change}
-use Rattle.tl_inputs.specs.Edits.{AnEdit, plain_change, attach, code_of, number_of}
-use Rattle.tl_inputs.specs.Inputs.{refusal}
-use Rattle.tl_inputs.specs.Log.{LogData, inputs_after}
-use Rattle.tl_inputs.specs.declared.fault.EditFault.{EditFault}
-use Rattle.tl_inputs.specs.declared.fault.EditFault.TheVariants as edit_fault
+use Rattle.tl_edits.specs.declared.edit.Change.{Change}
+use Rattle.tl_edits.specs.Edits.{AnEdit, plain_change, attach, code_of, number_of}
+use Rattle.tl_edits.specs.Inputs.{refusal}
+use Rattle.tl_edits.specs.Log.{LogData, inputs_after}
+use Rattle.tl_edits.specs.declared.fault.EditFault.{EditFault}
+use Rattle.tl_edits.specs.declared.fault.EditFault.TheVariants as edit_fault
 use Rattle.tl_definitions.specs.Report.{IsReport}
-use Rattle.tl_plain.specs.Captured.{captures_after}
-use Rattle.tl_report.specs.Output.{ReportData, report_bytes}
+use Rattle.tl_check.specs.Captured.{captures_after}
+use Rattle.tl_check.specs.Output.{ReportData, report_bytes}
 use Rattle.tl_desk.specs.Core.{Core, AreLinked, log_of, most_versions}
 use Rattle.tl_desk.specs.Steps.{Edits}
 use Rattle.tl_desk.specs.declared.fault.PublishFault.{PublishFault}

@@ -7,7 +7,7 @@ use Rattle.tl_beats.specs.declared.watch.Watch.{Watch}
 use Rattle.tl_desk.specs.declared.call.Call.TheVariants as call
 use Rattle.tl_desk.specs.declared.fault.PublishFault.{PublishFault}
 use Rattle.tl_desk.specs.declared.fault.PublishFault.TheVariants as fault
-use Rattle.tl_report.specs.Output.{ReportData}
+use Rattle.tl_check.specs.Output.{ReportData}
 use Rattle.tl_hall.specs.declared.entry.Entry.{Entry}
 use Rattle.tl_hall.specs.History.{OnlyWork}
 use Rattle.tl_hall.specs.Passes.{HallData, PassData, IsSame, Made, NoMore, Looked, IsUnready}

@@ -2,7 +2,7 @@
 
 ghost use Rattle.std.specs.Prelude.{◌≡◌, false, IfOk, IfErr, OnOk, length};
 ghost use Rattle.std.specs.Result.{IsErrOf};
-ghost use Rattle.tl_inputs.specs.Edits.{plain_change, attach};
+ghost use Rattle.tl_edits.specs.Edits.{plain_change, attach};
 ghost use Rattle.tl_desk.specs.declared.call.Call.TheVariants as call;
 ghost use Rattle.tl_hall.specs.Passes.{Made, NoMore, Looked, IsRefused};
 ghost use Rattle.tl_script.specs.Text.{IsCommand};
@@ -19,9 +19,9 @@ use std::thread::yield_now;
 use tl_beats::Watch;
 use tl_desk::PublishFault;
 use tl_hall::{Gate, Hall, Pass};
-use tl_inputs::{Change, EditFault};
+use tl_edits::{Change, EditFault};
 use tl_monitor::Monitor;
-use tl_report::Report;
+use tl_check::Report;
 use tl_run::{Answer, Asked, Boxes, CommandFault, Runner, StopCause, answer_text, asked_by};
 use tl_script::Command;
 use tl_topology::Topo;

@@ -11,7 +11,7 @@ use std::sync::atomic::{AtomicBool, AtomicU64, Ordering};
 use std::sync::{Arc, OnceLock, Wait};
 use std::thread::yield_now;
 use tl_beats::{Fragment, FragmentFault};
-use tl_inputs::Change;
+use tl_edits::Change;
 use tl_run::{Asked, fragment_of};
 use tl_script::{Command, Spot, Text, Visitor, visit_all};
 

@@ -5,9 +5,9 @@ use Rattle.std.specs.List.Sorted.{IsStrictlySortedBy}
 use Rattle.tl_topology.specs.declared.LinkDecl.{LinkDecl}
 use Rattle.tl_beats.specs.declared.Placed.{Placed}
 use Rattle.tl_definitions.specs.Positions.{beats_of_all}
-use Rattle.tl_reasons.specs.Counts.{AreOpen}
-use Rattle.tl_reasons.specs.States.{manager_with}
-use Rattle.tl_reasons.proofs.ManagerLaws.{declared}
+use Rattle.tl_rows.specs.Counts.{AreOpen}
+use Rattle.tl_rows.specs.States.{manager_with}
+use Rattle.tl_rows.proofs.ManagerLaws.{declared}
 use Rattle.tl_show.specs.Lines.{link_at, block_at}
 use Rattle.tl_show.proofs.Texts.{block_some}
 use Rattle.tl_advice.proofs.CountLaws.{only_one}

@@ -1,6 +1,6 @@
 use Rattle.std.proofs.Common.{◌∷◌, [], refl, sym, subst}
 use Rattle.std.specs.Prelude.{string_bytes}
-use Rattle.tl_words.specs.Words.{joined}
+use Rattle.tl_rows.specs.Words.{joined}
 use Rattle.tl_show.proofs.Texts.{in_words}
 use Rattle.tl_advice.specs.Summaries.{heading, report_line_of, IsBody}
 use Rattle.tl_advice.specs.Tallies.{AreLinked}

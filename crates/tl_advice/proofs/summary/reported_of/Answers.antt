@@ -1,7 +1,7 @@
 use Rattle.std.proofs.Common.{◌≡◌, take, sym, ap, subst, ◌∙◌}
 use Rattle.std.specs.Prelude.{string_bytes}
-use Rattle.tl_inputs.specs.Inputs.{InputData}
-use Rattle.tl_inputs.specs.Log.{inputs_after}
+use Rattle.tl_edits.specs.Inputs.{InputData}
+use Rattle.tl_edits.specs.Log.{inputs_after}
 use Rattle.tl_advice.specs.Tallies.{AreLinked}
 use Rattle.tl_advice.specs.Summaries.{IsReported}
 use Rattle.tl_advice.proofs.summary.reported_of.Goals as goal

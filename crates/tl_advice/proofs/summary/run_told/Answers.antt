@@ -1,6 +1,6 @@
 use Rattle.std.proofs.Common.{◌≡◌, ◌∷◌, [], length, ap, ◌∙◌}
 use Rattle.std.specs.Prelude.{string_bytes}
-use Rattle.tl_words.specs.Words.{joined}
+use Rattle.tl_rows.specs.Words.{joined}
 use Rattle.tl_advice.specs.Summaries.{heading, unreported_line, edits_line_of}
 use Rattle.tl_advice.proofs.summary.run_told.Goals as goal
 

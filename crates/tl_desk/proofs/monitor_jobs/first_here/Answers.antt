@@ -1,7 +1,7 @@
 use Rattle.std.proofs.Common.{◌≡◌, ◌<◌, ◌≤◌, ◌+◌, Some, None, true, false, sym, subst, ◌∙◌, arith, rules}
-use Rattle.tl_pieces.specs.declared.key.PieceKey.{PieceKey}
-use Rattle.tl_pieces.specs.Pieces.{IsFree}
-use Rattle.tl_watches.specs.Tally.{SameTally}
+use Rattle.tl_results.specs.declared.key.PieceKey.{PieceKey}
+use Rattle.tl_results.specs.Pieces.{IsFree}
+use Rattle.tl_board.specs.Tally.{SameTally}
 use Rattle.tl_desk.specs.Jobs.{IsHere, IsFirstFreeHere}
 use Rattle.tl_desk.proofs.BoxLemmas.{held_there}
 use Rattle.tl_desk.proofs.FirstLemmas.{AreFrom, IsFrom, begin_from, begin_first, pass_over, first_such, none_such, fewer_left}

@@ -1,9 +1,9 @@
 use Rattle.std.proofs.Common.{◌≡◌, ◌<◌, ◌-◌, ℕ, true, None}
 use Rattle.std.specs.Prelude.{is_some}
 use Rattle.std.specs.Option.{IfSome, option_map_or}
-use Rattle.tl_pieces.specs.declared.key.PieceKey.{PieceKey}
-use Rattle.tl_pieces.specs.Pieces.{piece_at, IsFree}
-use Rattle.tl_watches.specs.Tally.{SameTally}
+use Rattle.tl_results.specs.declared.key.PieceKey.{PieceKey}
+use Rattle.tl_results.specs.Pieces.{piece_at, IsFree}
+use Rattle.tl_board.specs.Tally.{SameTally}
 use Rattle.tl_desk.specs.Jobs.{IsHere}
 use Rattle.tl_desk.proofs.FirstLemmas.{AreFrom, IsFrom}
 use Rattle.tl_desk.proofs.monitor_jobs.first_here.Given as goal

@@ -1,10 +1,10 @@
 use Rattle.std.proofs.Common.{◌≡◌, ◌⊎◌, Some, refl, sym, ap, subst, ◌∙◌}
 use Rattle.std.specs.Option.{IsSome, option_and_then}
-use Rattle.tl_boxes.specs.Places.{held_of}
-use Rattle.tl_spans.specs.Spans.{standing}
+use Rattle.tl_monitor.specs.Places.{held_of}
+use Rattle.tl_board.specs.Spans.{standing}
 use Rattle.tl_desk.proofs.AttachedLemmas.{here_or_out, lent_place, lent_kept, lent_back}
 use Rattle.tl_desk.proofs.TallyLemmas.{on_ok, on_err, one_left}
-use Rattle.tl_watches.specs.Watches.{IsAmidWindow}
+use Rattle.tl_board.specs.Watches.{IsAmidWindow}
 use Rattle.tl_desk.proofs.recheck.check_here.Goals as goal
 
 pub unwrap-monitor-requires : goal.unwrap-monitor-requires

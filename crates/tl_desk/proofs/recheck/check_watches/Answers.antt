@@ -1,12 +1,12 @@
 use Rattle.std.proofs.Common.{◌≡◌, ◌+◌, ◌≤◌, [], ◌++◌, ◌∷◌, List, true, false, arith, length, refl, subst, ◌∙◌, sym, ap}
 use Rattle.std.specs.Option.{IsSome}
-use Rattle.tl_pieces.specs.declared.key.PieceKey.{PieceKey}
-use Rattle.tl_pieces.specs.Pieces.{IsSettled}
-use Rattle.tl_span.specs.States.{SameSpan}
-use Rattle.tl_spans.specs.Spans.{SpansData}
-use Rattle.tl_spans.proofs.RecheckLemmas.{IsUnderWay, begun, few, in_error, one_longer, ended, some_wanted}
-use Rattle.tl_watches.specs.Tally.{SameTally}
-use Rattle.tl_watches.specs.Watches.{WatchesData}
+use Rattle.tl_results.specs.declared.key.PieceKey.{PieceKey}
+use Rattle.tl_results.specs.Pieces.{IsSettled}
+use Rattle.tl_check.specs.States.{SameSpan}
+use Rattle.tl_board.specs.Spans.{SpansData}
+use Rattle.tl_board.proofs.RecheckLemmas.{IsUnderWay, begun, few, in_error, one_longer, ended, some_wanted}
+use Rattle.tl_board.specs.Tally.{SameTally}
+use Rattle.tl_board.specs.Watches.{WatchesData}
 use Rattle.tl_desk.proofs.AttachedLemmas.{kept_none, kept_both, still_out}
 use Rattle.tl_desk.proofs.TallyLemmas.{none_left, left_more, left_last}
 use Rattle.tl_desk.proofs.WatchLemmas.{checked_one, first_is_here, none_is_out}

@@ -1,7 +1,7 @@
 use Rattle.std.proofs.Common.{◌≡◌, ◌-◌, List, length}
-use Rattle.tl_pieces.specs.declared.key.PieceKey.{PieceKey}
-use Rattle.tl_spans.proofs.RecheckLemmas.{IsUnderWay}
-use Rattle.tl_watches.specs.Tally.{SameTally}
+use Rattle.tl_results.specs.declared.key.PieceKey.{PieceKey}
+use Rattle.tl_board.proofs.RecheckLemmas.{IsUnderWay}
+use Rattle.tl_board.specs.Tally.{SameTally}
 use Rattle.tl_desk.specs.Steps.{KeepsBoxes, LeavesTallies, NoneIsOut}
 use Rattle.tl_desk.proofs.recheck.check_watches.Given as goal
 

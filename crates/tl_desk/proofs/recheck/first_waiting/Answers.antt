@@ -1,8 +1,8 @@
 use Rattle.std.proofs.Common.{◌≡◌, ◌<◌, ◌≤◌, ◌+◌, Some, None, true, false, sym, ap, subst, ◌∙◌, arith, rules}
 use Rattle.std.specs.Prelude.{is_some}
-use Rattle.tl_pieces.specs.declared.key.PieceKey.{PieceKey}
-use Rattle.tl_pieces.specs.Pieces.{IsWanted}
-use Rattle.tl_watches.specs.Tally.{SameTally}
+use Rattle.tl_results.specs.declared.key.PieceKey.{PieceKey}
+use Rattle.tl_results.specs.Pieces.{IsWanted}
+use Rattle.tl_board.specs.Tally.{SameTally}
 use Rattle.tl_desk.specs.Steps.{IsOut, IsFirstOutOf}
 use Rattle.tl_desk.proofs.BoxLemmas.{away_there}
 use Rattle.tl_desk.proofs.FirstLemmas.{AreFrom, IsFrom, begin_from, begin_first, pass_over, first_such, none_such, fewer_left}

@@ -1,5 +1,5 @@
 use Rattle.std.proofs.Common.{◌≡◌, None, refl, rules}
-use Rattle.tl_report.proofs.Texts.{in_words}
+use Rattle.tl_check.proofs.Texts.{in_words}
 use Rattle.tl_run.specs.Output.{refused_text}
 use Rattle.tl_run.proofs.answer.refusal_line.Goals as goal
 

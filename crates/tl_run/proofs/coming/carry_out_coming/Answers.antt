@@ -1,5 +1,5 @@
 use Rattle.std.proofs.Common.{◌+◌, [], ap, sym, subst, ◌∙◌}
-use Rattle.tl_report.specs.Notes.{Tells}
+use Rattle.tl_check.specs.Notes.{Tells}
 use Rattle.tl_run.proofs.ComingLaws.{coming_cut, coming_written}
 use Rattle.tl_run.proofs.coming.carry_out_coming.Goals as goal
 

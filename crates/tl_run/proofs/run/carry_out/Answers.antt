@@ -1,5 +1,5 @@
 use Rattle.std.proofs.Common.{◌+◌, ap, sym, subst, [], ◌∙◌}
-use Rattle.tl_report.specs.Notes.{Tells}
+use Rattle.tl_check.specs.Notes.{Tells}
 use Rattle.tl_run.proofs.LineLaws.{at_error}
 use Rattle.tl_run.proofs.RunLaws.{end_cut, end_written}
 use Rattle.tl_run.proofs.run.carry_out.Goals as goal

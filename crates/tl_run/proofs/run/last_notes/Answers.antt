@@ -1,6 +1,6 @@
 use Rattle.std.proofs.Common.{[], sym, subst}
-use Rattle.tl_report.specs.Notes.{Tells}
-use Rattle.tl_report.proofs.NoteLaws.{tells_nil}
+use Rattle.tl_check.specs.Notes.{Tells}
+use Rattle.tl_check.proofs.NoteLaws.{tells_nil}
 use Rattle.tl_run.proofs.run.last_notes.Goals as goal
 
 pub returns-in-None : goal.returns-in-None

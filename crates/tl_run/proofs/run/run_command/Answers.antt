@@ -1,6 +1,6 @@
 use Rattle.std.proofs.Common.{◌++◌, subst}
 use Rattle.std.specs.Prelude.{string_bytes}
-use Rattle.tl_report.specs.Notes.{Tells}
+use Rattle.tl_check.specs.Notes.{Tells}
 use Rattle.tl_run.specs.Output.{IsStep, TakesBox, text_of}
 use Rattle.tl_run.specs.Stops.{IsSaid, IsFront}
 use Rattle.tl_run.proofs.LineLaws.{said_more, said_front, when_done}

@@ -1,5 +1,5 @@
 use Rattle.std.proofs.Common.{rules}
-use Rattle.tl_report.proofs.NoteLaws.{tells_nil}
+use Rattle.tl_check.proofs.NoteLaws.{tells_nil}
 use Rattle.tl_run.proofs.LineLaws.{at_error}
 use Rattle.tl_run.proofs.RunLaws.{came_to_nothing, end_cut, end_written}
 use Rattle.tl_run.proofs.run.run_nothing.Goals as goal

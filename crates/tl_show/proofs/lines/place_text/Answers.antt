@@ -1,7 +1,7 @@
 use Rattle.std.proofs.Common.{◌≡◌, refl, sym, ap, ◌∙◌}
 use Rattle.std.specs.Option.{option_copied}
 use Rattle.tl_topology.specs.declared.LinkDecl.{LinkDecl}
-use Rattle.tl_reasons.proofs.ManagerLaws.{declared}
+use Rattle.tl_rows.proofs.ManagerLaws.{declared}
 use Rattle.tl_show.specs.Lines.{link_at, place_text_of}
 use Rattle.tl_show.proofs.Texts.{in_words}
 use Rattle.tl_show.proofs.lines.place_text.Goals as goal

@@ -1,8 +1,8 @@
 use Rattle.std.proofs.Common.{sym, ap, ◌∙◌}
 use Rattle.std.specs.Option.{option_copied}
 use Rattle.tl_definitions.specs.Heads.{message_of}
-use Rattle.tl_reasons.proofs.ManagerLaws.{declared}
-use Rattle.tl_words.specs.Words.{beat_text_of}
+use Rattle.tl_rows.proofs.ManagerLaws.{declared}
+use Rattle.tl_rows.specs.Words.{beat_text_of}
 use Rattle.tl_show.specs.Lines.{words_of}
 use Rattle.tl_show.proofs.Texts.{in_words}
 use Rattle.tl_show.proofs.lines.words.Goals as goal

@@ -1,5 +1,5 @@
 use Rattle.std.proofs.Common.{[], ◌∷◌, ◌++◌}
-use Rattle.tl_report.proofs.NoteLaws.{ends_here, ends_more, note_line}
+use Rattle.tl_check.proofs.NoteLaws.{ends_here, ends_more, note_line}
 use Rattle.tl_show.proofs.Noted.{note_made}
 use Rattle.tl_show.proofs.showing.note.Goals as goal
 

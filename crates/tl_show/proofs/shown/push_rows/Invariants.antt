@@ -1,7 +1,7 @@
 use Rattle.std.proofs.Common.{◌≡◌, ◌++◌, take}
 use Rattle.std.specs.Prelude.{string_bytes}
 use Rattle.std.specs.List.{flat_map}
-use Rattle.tl_report.specs.Output.{row_text}
+use Rattle.tl_check.specs.Output.{row_text}
 use Rattle.tl_show.proofs.shown.push_rows.Given as goal
 
 abbrev pub invariant-loop-row : goal.invariant-loop-row

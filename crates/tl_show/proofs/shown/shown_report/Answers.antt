@@ -1,6 +1,6 @@
 use Rattle.std.proofs.Common.{sym, subst, ◌∙◌}
-use Rattle.tl_report.specs.Notes.{IsNoted}
-use Rattle.tl_report.proofs.NoteLaws.{head_is_plain}
+use Rattle.tl_check.specs.Notes.{IsNoted}
+use Rattle.tl_check.proofs.NoteLaws.{head_is_plain}
 use Rattle.tl_show.proofs.shown.shown_report.Goals as goal
 
 pub with_lines-requires-clause-head : goal.with_lines-requires-clause-head

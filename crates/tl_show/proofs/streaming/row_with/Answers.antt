@@ -1,8 +1,8 @@
 use Rattle.std.proofs.Common.{◌≡◌, ◌++◌, [], sym, subst, append-nil}
 use Rattle.std.specs.Prelude.{string_bytes}
-use Rattle.tl_report.specs.Notes.{IsNoted}
-use Rattle.tl_report.specs.Output.{row_text}
-use Rattle.tl_report.proofs.NoteLaws.{noted_more, row_is_plain}
+use Rattle.tl_check.specs.Notes.{IsNoted}
+use Rattle.tl_check.specs.Output.{row_text}
+use Rattle.tl_check.proofs.NoteLaws.{noted_more, row_is_plain}
 use Rattle.tl_show.proofs.Noted.{row_made}
 use Rattle.tl_show.proofs.streaming.row_with.Goals as goal
 

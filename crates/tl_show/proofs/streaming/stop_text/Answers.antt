@@ -1,6 +1,6 @@
 use Rattle.std.proofs.Common.{[]}
 use Rattle.std.specs.Prelude.{string_bytes}
-use Rattle.tl_report.proofs.NoteLaws.{noted_more}
+use Rattle.tl_check.proofs.NoteLaws.{noted_more}
 use Rattle.tl_show.proofs.Noted.{note_made}
 use Rattle.tl_show.proofs.streaming.stop_text.Goals as goal
 

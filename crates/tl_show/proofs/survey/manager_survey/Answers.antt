@@ -8,11 +8,11 @@ use Rattle.tl_beats.specs.declared.Placed.{Placed}
 use Rattle.tl_definitions.specs.Captures.{manager_beats}
 use Rattle.tl_definitions.specs.Managers.{declared_links}
 use Rattle.tl_definitions.specs.Positions.{beats_of_all, clients_of}
-use Rattle.tl_manager_rules.proofs.ClientLaws.{clients_rise}
-use Rattle.tl_reasons.specs.Counts.{heads_after, AreOpen}
-use Rattle.tl_reasons.specs.States.{manager_with}
-use Rattle.tl_reasons.specs.Telling.{told_after}
-use Rattle.tl_windows.specs.Windows.{AreWindows}
+use Rattle.tl_client_rules.proofs.ClientsLaws.{clients_rise}
+use Rattle.tl_rows.specs.Counts.{heads_after, AreOpen}
+use Rattle.tl_rows.specs.States.{manager_with}
+use Rattle.tl_rows.specs.Telling.{told_after}
+use Rattle.tl_capture.specs.Windows.{AreWindows}
 use Rattle.tl_show.specs.Lines.{IsStanding, IsSoundTold}
 use Rattle.tl_show.specs.Shown.{manager_of}
 use Rattle.tl_show.proofs.KeptLaws.{all_rec, told_kept}

@@ -4,7 +4,7 @@ use Rattle.std.specs.List.Sorted.{IsStrictlySortedBy}
 use Rattle.tl_beats.specs.declared.Placed.{Placed}
 use Rattle.tl_definitions.specs.Positions.{beats_of, position_order}
 use Rattle.tl_definitions.specs.Tallies.{AreOfOneLink}
-use Rattle.tl_plain.proofs.CaptureLaws.{link_beats_rise, of_one_link}
+use Rattle.tl_check.proofs.CaptureLaws.{link_beats_rise, of_one_link}
 use Rattle.tl_stream.proofs.lookout.placed.Goals as goal
 
 made : {E : Type 0} (P : List Placed → Type 0) (beats : List Placed) (found : Result (Vec Placed Global) E) → P beats → IfOk found (λ own. own.items ≡ beats) → IfOk found (λ own. P own.items)

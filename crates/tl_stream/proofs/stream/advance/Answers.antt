@@ -2,8 +2,8 @@ use Rattle.std.proofs.Common.{◌≡◌, sym, ap, subst, ◌∙◌}
 use Rattle.std.specs.Prelude.{nat_lt}
 use Rattle.std.specs.List.{list_all}
 use Rattle.tl_topology.specs.Regions.{areas_of}
-use Rattle.tl_plain.specs.Captured.{areas_at}
-use Rattle.tl_plain.proofs.ScratchLaws.{own_areas}
+use Rattle.tl_check.specs.Captured.{areas_at}
+use Rattle.tl_check.proofs.ScratchLaws.{own_areas}
 use Rattle.tl_stream.specs.Courses.{IsRunning, Judged, Loses, AreNewRows}
 use Rattle.tl_stream.specs.Fronts.{has_reached, past}
 use Rattle.tl_stream.proofs.AcceptLemmas.{has_state}

@@ -1,8 +1,8 @@
 use Rattle.std.specs.Prelude.{get_or, not}
 use Rattle.std.proofs.Common.{sym, subst}
 use Rattle.std.proofs.lemmas.List.Elements.{Contains-get_or}
-use Rattle.tl_windows.specs.Present.{ends_by, IsPresent}
-use Rattle.tl_windows.proofs.NumberLemmas.{present_kept}
+use Rattle.tl_capture.specs.Present.{ends_by, IsPresent}
+use Rattle.tl_capture.proofs.NumberLemmas.{present_kept}
 use Rattle.tl_stream.proofs.CourseLemmas.{drop_more}
 use Rattle.tl_stream.proofs.stream.drop_ended.Goals as goal
 

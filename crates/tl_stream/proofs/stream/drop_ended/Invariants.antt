@@ -1,7 +1,7 @@
 use Rattle.std.proofs.Common.{◌≤◌, ◌⊎◌}
 use Rattle.std.specs.List.{Contains}
 use Rattle.tl_definitions.specs.Positions.{Recorded}
-use Rattle.tl_windows.specs.Present.{IsPresent}
+use Rattle.tl_capture.specs.Present.{IsPresent}
 use Rattle.tl_stream.specs.Courses.{Loses}
 use Rattle.tl_stream.proofs.stream.drop_ended.Given as goal
 

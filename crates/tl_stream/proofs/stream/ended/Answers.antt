@@ -2,8 +2,8 @@ use Rattle.std.proofs.Common.{◌≡◌, ◌≢◌, ℕ, ◌+◌, ◌<◌, ◌�
 use Rattle.std.specs.Prelude.{slice_get}
 use Rattle.std.proofs.lemmas.Option.{slice_get-get_or}
 use Rattle.tl_topology.specs.Regions.{areas_of}
-use Rattle.tl_plain.specs.Captured.{areas_at}
-use Rattle.tl_plain.proofs.ScratchLaws.{own_areas}
+use Rattle.tl_check.specs.Captured.{areas_at}
+use Rattle.tl_check.proofs.ScratchLaws.{own_areas}
 use Rattle.tl_stream.specs.Courses.{IsRunning, Judged}
 use Rattle.tl_stream.specs.Told.{untold_of}
 use Rattle.tl_stream.specs.declared.course.Course.{Course}

@@ -1,7 +1,7 @@
 use Rattle.std.proofs.Common.{◌≡◌, ◌≤◌, length}
 use Rattle.std.specs.Prelude.{ℕ, List, slice_get}
 use Rattle.tl_definitions.specs.Positions.{Recorded}
-use Rattle.tl_plain.specs.Captured.{areas_at}
+use Rattle.tl_check.specs.Captured.{areas_at}
 use Rattle.tl_stream.specs.Courses.{HasEnded}
 use Rattle.tl_stream.specs.Told.{untold_of}
 use Rattle.tl_stream.proofs.stream.ended.Given as goal

@@ -1,10 +1,10 @@
 use Rattle.std.proofs.Common.{◌≡◌, ◌<◌, ◌++◌, ◌∷◌, [], Some, None, length, refl, sym, ap, subst, ◌∙◌, rules}
 use Rattle.std.specs.Option.{IsSome}
-use Rattle.tl_boxes.specs.Boxes.{BoxesData, place_at}
-use Rattle.tl_inputs.specs.Edits.{AnEdit, attach}
-use Rattle.tl_inputs.specs.Inputs.{changed, refusal}
-use Rattle.tl_watches.specs.Watches.{WatchesData}
-use Rattle.tl_spans.proofs.EditLemmas.{stands}
+use Rattle.tl_monitor.specs.Boxes.{BoxesData, place_at}
+use Rattle.tl_edits.specs.Edits.{AnEdit, attach}
+use Rattle.tl_edits.specs.Inputs.{changed, refusal}
+use Rattle.tl_board.specs.Watches.{WatchesData}
+use Rattle.tl_board.proofs.EditLemmas.{stands}
 use Rattle.tl_desk.specs.Core.{Core, IsSound, log_of, standing}
 use Rattle.tl_desk.specs.Ends.{HaveEnded}
 use Rattle.tl_desk.proofs.AttachedLemmas.{Keeps, attached_more, not_held, given_back, put_found, was_attached_more}

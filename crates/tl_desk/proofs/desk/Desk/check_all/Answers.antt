@@ -1,17 +1,17 @@
 use Rattle.std.proofs.Common.{[], List, refl, sym, ap, subst, ◌∙◌}
 use Rattle.tl_beats.specs.declared.Row.{Row}
-use Rattle.tl_pieces.specs.Pieces.{Board}
-use Rattle.tl_spans.specs.Recheck.{ChecksSome}
-use Rattle.tl_spans.proofs.RecheckLemmas.{begun, in_error}
-use Rattle.tl_watches.specs.declared.tally.Tally.{Tally}
-use Rattle.tl_watches.specs.Tally.{SameTally}
+use Rattle.tl_results.specs.Pieces.{Board}
+use Rattle.tl_board.specs.Recheck.{ChecksSome}
+use Rattle.tl_board.proofs.RecheckLemmas.{begun, in_error}
+use Rattle.tl_board.specs.declared.tally.Tally.{Tally}
+use Rattle.tl_board.specs.Tally.{SameTally}
 use Rattle.tl_desk.specs.Core.{Core}
 use Rattle.tl_desk.specs.Steps.{RechecksSome}
 use Rattle.tl_desk.proofs.AttachedLemmas.{kept_none}
 use Rattle.tl_desk.proofs.TallyLemmas.{none_left}
 use Rattle.tl_desk.proofs.ReportLemmas.{sound_still}
-use Rattle.tl_span.specs.States.{SameSpan}
-use Rattle.tl_spans.specs.Spans.{SpansData}
+use Rattle.tl_check.specs.States.{SameSpan}
+use Rattle.tl_board.specs.Spans.{SpansData}
 use Rattle.tl_desk.proofs.desk.Desk.check_all.Goals as goal
 
 pub returns-in_err-of_managers-clause-err : goal.returns-in_err-of_managers-clause-err

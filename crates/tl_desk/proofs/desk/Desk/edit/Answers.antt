@@ -1,8 +1,8 @@
 use Rattle.std.proofs.Common.{◌≡◌, sym, subst, ◌∙◌}
-use Rattle.tl_boxes.specs.Boxes.{BoxesData}
-use Rattle.tl_inputs.specs.Edits.{AnEdit, plain_change}
-use Rattle.tl_inputs.specs.Inputs.{changed}
-use Rattle.tl_spans.proofs.EditLemmas.{stands}
+use Rattle.tl_monitor.specs.Boxes.{BoxesData}
+use Rattle.tl_edits.specs.Edits.{AnEdit, plain_change}
+use Rattle.tl_edits.specs.Inputs.{changed}
+use Rattle.tl_board.proofs.EditLemmas.{stands}
 use Rattle.tl_desk.specs.Core.{Core, log_of, standing}
 use Rattle.tl_desk.specs.Ends.{HaveEnded}
 use Rattle.tl_desk.specs.Steps.{boxes_after}

@@ -1,8 +1,8 @@
 use Rattle.std.proofs.Common.{◌≡◌, sym, ap, subst, ◌∙◌}
-use Rattle.tl_boxes.specs.Boxes.{brought_back}
+use Rattle.tl_monitor.specs.Boxes.{brought_back}
 use Rattle.tl_jobs.specs.Monitors.{MonitorJobData}
-use Rattle.tl_spans.specs.Windows.{key_of}
-use Rattle.tl_watches.specs.Tasks.{WatchTaskData}
+use Rattle.tl_board.specs.Windows.{key_of}
+use Rattle.tl_board.specs.WatchTasks.{WatchTaskData}
 use Rattle.tl_desk.specs.Core.{Core}
 use Rattle.tl_desk.specs.Jobs.{IsOwn, UnmarksWatch, ended, watch_key_for}
 use Rattle.tl_desk.proofs.JobLemmas.{own_back, watch_unmarked, watch_unmarked_spans, sound_back}

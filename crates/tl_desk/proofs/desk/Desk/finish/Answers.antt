@@ -1,6 +1,6 @@
 use Rattle.std.proofs.Common.{◌≡◌, ◌++◌, ℕ, None, rules, map, length, sym, ap, subst, ◌∙◌}
-use Rattle.tl_boxes.specs.Boxes.{told, here_in, first_out}
-use Rattle.tl_inputs.specs.Log.{LogData}
+use Rattle.tl_monitor.specs.Boxes.{told, here_in, first_out}
+use Rattle.tl_edits.specs.Log.{LogData}
 use Rattle.tl_desk.specs.Core.{Core, log_of}
 use Rattle.tl_desk.specs.Ends.{AllHaveEnded}
 use Rattle.tl_desk.proofs.FinishLemmas.{all_have_ended}

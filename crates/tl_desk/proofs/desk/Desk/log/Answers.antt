@@ -1,6 +1,6 @@
 use Rattle.std.proofs.Common.{subst}
-use Rattle.tl_pieces.specs.Pieces.{IsBoard}
-use Rattle.tl_spans.specs.Spans.{SpansData, IsSound}
+use Rattle.tl_results.specs.Pieces.{IsBoard}
+use Rattle.tl_board.specs.Spans.{SpansData, IsSound}
 use Rattle.tl_desk.specs.Core.{Core, IsDesk}
 use Rattle.tl_desk.proofs.desk.Desk.log.Goals as goal
 

@@ -1,8 +1,8 @@
 use Rattle.std.proofs.Common.{◌≡◌, ◌+◌, ◌<◌, length, sym, ap, subst, ◌∙◌, rules}
-use Rattle.tl_inputs.specs.Log.{LogData}
+use Rattle.tl_edits.specs.Log.{LogData}
 use Rattle.tl_definitions.specs.Report.{IsReport}
-use Rattle.tl_plain.specs.Captured.{captures_after}
-use Rattle.tl_report.specs.Output.{ReportData}
+use Rattle.tl_check.specs.Captured.{captures_after}
+use Rattle.tl_check.specs.Output.{ReportData}
 use Rattle.tl_desk.specs.Core.{Core, AreLinked, IsSound, standing, log_of, most_versions}
 use Rattle.tl_desk.proofs.ReportLemmas.{published}
 use Rattle.tl_desk.proofs.desk.Desk.publish.Goals as goal

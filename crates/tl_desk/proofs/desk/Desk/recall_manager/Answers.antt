@@ -1,7 +1,7 @@
 use Rattle.std.proofs.Common.{◌≡◌, inl, inr, None, refl, sym, ap, subst, ◌∙◌}
-use Rattle.tl_pieces.specs.declared.key.PieceKey.{PieceKey}
-use Rattle.tl_spans.specs.Spans.{SpansData}
-use Rattle.tl_spans.specs.Windows.{key_of}
+use Rattle.tl_results.specs.declared.key.PieceKey.{PieceKey}
+use Rattle.tl_board.specs.Spans.{SpansData}
+use Rattle.tl_board.specs.Windows.{key_of}
 use Rattle.tl_desk.specs.Core.{Core}
 use Rattle.tl_desk.specs.Jobs.{IsLiveAt, Unmarks, Recalls, marked, with_spans}
 use Rattle.tl_desk.proofs.JobLemmas.{unmarked, unmarked_log, sound_recalled, rest_is}

@@ -1,7 +1,7 @@
 use Rattle.std.proofs.Common.{◌≡◌, inl, inr, None, ap, subst}
-use Rattle.tl_pieces.specs.declared.key.PieceKey.{PieceKey}
-use Rattle.tl_spans.specs.Windows.{key_of}
-use Rattle.tl_watches.specs.Watches.{WatchesData}
+use Rattle.tl_results.specs.declared.key.PieceKey.{PieceKey}
+use Rattle.tl_board.specs.Windows.{key_of}
+use Rattle.tl_board.specs.Watches.{WatchesData}
 use Rattle.tl_desk.specs.Core.{Core}
 use Rattle.tl_desk.specs.Jobs.{IsLiveAtWatch, UnmarksWatch, RecallsWatch, marked_watch}
 use Rattle.tl_desk.proofs.JobLemmas.{watch_unmarked, watch_unmarked_spans, sound_watch_recalled}

@@ -1,19 +1,19 @@
 use Rattle.std.proofs.Common.{◌≡◌, ◌+◌, ◌<◌, false, Some, None, length, nat_le, refl, sym, ap, subst, ◌∙◌, arith}
 use Rattle.std.proofs.lemmas.Bool.Decides.{nat_tests}
-use Rattle.tl_boxes.specs.Boxes.{BoxesData, held_at, taken_at}
-use Rattle.tl_inputs.specs.Log.{LogData}
+use Rattle.tl_monitor.specs.Boxes.{BoxesData, held_at, taken_at}
+use Rattle.tl_edits.specs.Log.{LogData}
 use Rattle.tl_jobs.specs.Monitors.{MonitorJobData}
 use Rattle.tl_monitor.specs.Held.{Held}
-use Rattle.tl_pieces.specs.declared.key.PieceKey.{PieceKey}
-use Rattle.tl_pieces.specs.Pieces.{IsFirstFree}
-use Rattle.tl_span.specs.States.{SameSpan}
-use Rattle.tl_spans.specs.Spans.{SpansData}
-use Rattle.tl_spans.specs.Windows.{key_of}
-use Rattle.tl_tickets.specs.declared.tickets.Taken.{Taken}
-use Rattle.tl_tickets.specs.Tickets.{TicketsData, most_tickets}
-use Rattle.tl_watches.specs.Outside.{IsWatchTaskFor}
-use Rattle.tl_watches.specs.Tasks.{WatchWindowData, with_monitor, without_monitor}
-use Rattle.tl_watches.specs.Watches.{WatchesData}
+use Rattle.tl_results.specs.declared.key.PieceKey.{PieceKey}
+use Rattle.tl_results.specs.Pieces.{IsFirstFree}
+use Rattle.tl_check.specs.States.{SameSpan}
+use Rattle.tl_board.specs.Spans.{SpansData}
+use Rattle.tl_board.specs.Windows.{key_of}
+use Rattle.tl_jobs.specs.declared.tickets.Taken.{Taken}
+use Rattle.tl_jobs.specs.Tickets.{TicketsData, most_tickets}
+use Rattle.tl_board.specs.Outside.{IsWatchTaskFor}
+use Rattle.tl_board.specs.WatchTasks.{WatchWindowData, with_monitor, without_monitor}
+use Rattle.tl_board.specs.Watches.{WatchesData}
 use Rattle.tl_desk.specs.Core.{Core, log_of}
 use Rattle.tl_desk.specs.Jobs.{IsFirstFreeWatch, TakesWatch, given, marked_watch, watch_key_for}
 use Rattle.tl_desk.specs.Tickets.{watch_window_of}

@@ -1,5 +1,5 @@
 use Rattle.std.proofs.Common.{sym, ◌∙◌, subst, false, true≢false}
-use Rattle.tl_inputs.specs.declared.edit.Change.{Change}
+use Rattle.tl_edits.specs.declared.edit.Change.{Change}
 use Rattle.tl_desk.specs.Steps.{Step}
 use Rattle.tl_desk.specs.declared.call.Call.TheVariants as call
 use Rattle.tl_hall.specs.History.{Leads}

@@ -2,9 +2,9 @@ use Rattle.std.proofs.Common.{◌++◌, [], ap, sym, subst, ◌∙◌}
 use Rattle.std.specs.Prelude.{string_bytes}
 use Rattle.std.specs.List.{flat_map}
 use Rattle.std.proofs.lemmas.List.{take_all}
-use Rattle.tl_report.specs.Notes.{IsNoted}
-use Rattle.tl_report.specs.Output.{row_text}
-use Rattle.tl_report.proofs.NoteLaws.{noted_nil}
+use Rattle.tl_check.specs.Notes.{IsNoted}
+use Rattle.tl_check.specs.Output.{row_text}
+use Rattle.tl_check.proofs.NoteLaws.{noted_nil}
 use Rattle.tl_show.proofs.Noted.{rows_more}
 use Rattle.tl_show.proofs.streaming.ShownRowForm.rows.Goals as goal
 

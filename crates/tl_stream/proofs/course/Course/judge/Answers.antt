@@ -5,8 +5,8 @@ use Rattle.tl_topology.specs.Regions.{areas_of}
 use Rattle.tl_beats.specs.declared.Placed.{Placed}
 use Rattle.tl_definitions.specs.Managers.{manager_at}
 use Rattle.tl_definitions.specs.Positions.{beats_of_all}
-use Rattle.tl_span.specs.Jobs.{GoesOn}
-use Rattle.tl_windows.specs.Windows.{beats_within}
+use Rattle.tl_check.specs.Jobs.{GoesOn}
+use Rattle.tl_capture.specs.Windows.{beats_within}
 use Rattle.tl_stream.specs.Courses.{next_from}
 use Rattle.tl_stream.proofs.course.Course.judge.Goals as goal
 

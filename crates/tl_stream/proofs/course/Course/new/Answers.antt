@@ -1,8 +1,8 @@
 use Rattle.std.proofs.Common.{◌≡◌, cond, Some, None, refl, sym, ap, subst, ◌∙◌}
 use Rattle.std.specs.Prelude.{◌==◌, nat_lt, [], vec_len}
 use Rattle.tl_definitions.specs.Managers.{manager_at}
-use Rattle.tl_span.specs.States.{StandsFor}
-use Rattle.tl_span.specs.declared.state.SpanState.{SpanState}
+use Rattle.tl_check.specs.States.{StandsFor}
+use Rattle.tl_check.specs.declared.state.SpanState.{SpanState}
 use Rattle.tl_stream.specs.Courses.{next_from}
 use Rattle.tl_stream.proofs.CourseLemmas.{first_cycle}
 use Rattle.tl_stream.proofs.course.Course.new.Goals as goal

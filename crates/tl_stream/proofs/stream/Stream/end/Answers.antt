@@ -5,7 +5,7 @@ use Rattle.std.specs.List.{All}
 use Rattle.std.proofs.lemmas.Result.{IfOk-weaker}
 use Rattle.tl_beats.specs.declared.Row.{Row}
 use Rattle.tl_definitions.specs.Positions.{Recorded}
-use Rattle.tl_plain.specs.Captured.{areas_at}
+use Rattle.tl_check.specs.Captured.{areas_at}
 use Rattle.tl_stream.specs.Courses.{HasEnded}
 use Rattle.tl_stream.specs.Streams.{StreamData, HasAccepted, areas_in}
 use Rattle.tl_stream.specs.Told.{untold_of}

@@ -11,8 +11,8 @@ use Rattle.tl_beats.specs.Fragments.{Frag}
 use Rattle.tl_beats.specs.declared.Row.{Row}
 use Rattle.tl_definitions.specs.Managers.{declared_links}
 use Rattle.tl_definitions.specs.Positions.{Recorded}
-use Rattle.tl_plain.specs.Captured.{areas_at}
-use Rattle.tl_windows.specs.Present.{recorded, numbered, overlapped, put_in}
+use Rattle.tl_check.specs.Captured.{areas_at}
+use Rattle.tl_capture.specs.Present.{recorded, numbered, overlapped, put_in}
 use Rattle.tl_stream.specs.Courses.{IsRunning}
 use Rattle.tl_stream.specs.Fronts.{front_at, refusal_of}
 use Rattle.tl_stream.specs.Streams.{StreamData, HasAccepted, Accepts, Refuses, areas_in, course_at}

@@ -3,7 +3,7 @@ use Rattle.std.specs.Prelude.{IfOk, IfErr}
 use Rattle.tl_topology.specs.Topology.{Topology}
 use Rattle.tl_desk.specs.Core.{AreLinked}
 use Rattle.tl_desk.specs.declared.fault.PublishFault.TheVariants as fault
-use Rattle.tl_report.specs.Output.{ReportData, report_bytes}
+use Rattle.tl_check.specs.Output.{ReportData, report_bytes}
 use Rattle.tl_hall.specs.Passes.{Looked, IsLatest}
 use Rattle.tl_run.specs.Commands.{a_report}
 use Rattle.tl_run.specs.Output.{RunData, IsStep, refused_text}

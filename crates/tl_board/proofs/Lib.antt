@@ -1,0 +1,22 @@
+mod TaskLemmas
+pub mod CurrentLemmas
+pub mod CoverLemmas
+pub mod EntryLemmas
+pub mod OpenLemmas
+pub mod FoundLemmas
+pub mod CheckLemmas
+pub mod WindowLemmas
+pub mod TouchLemmas
+pub mod TouchedLemmas
+pub mod EditLemmas
+pub mod RecheckLemmas
+pub mod TicketLemmas
+mod MonitorLemmas
+mod PassLemmas
+mod RowLemmas
+mod TouchLemmas
+pub mod AfterLemmas
+mod KeyLemmas
+mod OwnerLemmas
+mod TaskLemmas
+mod OutsideLemmas

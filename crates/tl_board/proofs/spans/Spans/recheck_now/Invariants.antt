@@ -1,0 +1,17 @@
+use Rattle.std.proofs.Common.{◌≡◌, ◌-◌, List, length}
+use Rattle.tl_results.specs.declared.key.PieceKey.{PieceKey}
+use Rattle.tl_check.specs.States.{SameSpan}
+use Rattle.tl_board.proofs.RecheckLemmas.{IsUnderWay}
+use Rattle.tl_board.proofs.spans.Spans.recheck_now.Given as goal
+
+-- so many windows were checked so far, and the log is as it was
+abbrev pub invariant-loop-alloc : goal.invariant-loop-alloc
+invariant-loop-alloc l = record {
+  log : l.self.log ≡ l.fn.self.log;
+  keys : List PieceKey;
+  number : l.count ≡ length keys;
+  way : IsUnderWay SameSpan keys l.fn.self.board l.self.board;
+}
+
+abbrev pub decreases-loop-alloc : goal.decreases-loop-alloc
+decreases-loop-alloc l = length l.fn.self.board.pieces - l.count

@@ -1,0 +1,16 @@
+pub mod Tasks
+pub mod Covers
+pub mod Spans
+pub mod Rows
+pub mod Touch
+pub mod Touched
+pub mod Windows
+pub mod Edits
+pub mod Recheck
+pub mod Tickets
+pub mod Tally
+pub mod Watches
+pub mod TouchedWatches
+pub mod Accepting
+pub mod WatchTasks
+pub mod Outside

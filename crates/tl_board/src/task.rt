@@ -1,0 +1,132 @@
+//! Windows of managers.
+
+ghost use Rattle.std.specs.Prelude.{◌≡◌, ◌<◌, length, IfOk};
+ghost use Rattle.std.specs.Arc.{arc_value};
+ghost use Rattle.tl_topology.specs.Regions.{areas_of};
+ghost use Rattle.tl_definitions.specs.Captures.{manager_beats};
+ghost use Rattle.tl_definitions.specs.Managers.{manager_at};
+ghost use Rattle.tl_results.specs.Marks.{pass_of};
+ghost use Rattle.tl_check.specs.States.{IsOf};
+ghost use Rattle.tl_capture.specs.Windows.{beats_in};
+ghost use Rattle.tl_board.specs.Tasks.{IsPassOf, HasNumbers};
+
+use crate::rows::Rows;
+use std::alloc::{AllocError, Global};
+use std::marker::Model;
+use std::sync::Arc;
+use tl_client_rules::clients_of;
+use tl_results::Stored;
+use tl_check::{SpanState, check_window};
+use tl_topology::{RegionMap, Topo};
+use tl_capture::{Present, WindowBeats};
+
+/// A window of a manager that is to be checked, with all that its check asks: it needs nothing else, and may go to another
+/// thread. The state that it is checked from may be a guess: the result is true of it whatever it is.
+#[derive(Drop)]
+pub struct SpanTask {
+    pub(crate) topo: Arc<Topo>,
+    pub(crate) manager: u16,
+    pub(crate) window: u64,
+    pub(crate) regions: RegionMap,
+    // The links of the manager.
+    pub(crate) links: Vec<u16>,
+    pub(crate) beats: WindowBeats,
+    pub(crate) entry: Arc<SpanState>,
+}
+
+impl Model for SpanTask {
+    ghost use Rattle.std.specs.Coded.{codes};
+    ghost use Rattle.std.specs.Arc.{arc_value};
+    ghost use Rattle.std.specs.Prelude.{◌≡◌};
+    ghost use Rattle.tl_definitions.specs.Managers.{declared_links};
+    ghost use Rattle.tl_definitions.specs.Positions.{clients_of as clients};
+    ghost use Rattle.tl_check.specs.contracts.state.SpanState as state;
+    ghost use Rattle.tl_board.specs.Tasks.{TaskData, IsTask};
+
+    ghost Value = { TaskData };
+
+    ghost coded = { Prim.hlevel (codes, state.the_row.coded) };
+
+    ghost view = { λ t. record { topo = arc_value t.topo; owner = t.manager; window = t.window; regions = t.regions; beats = t.beats; entry = arc_value t.entry } };
+
+    ghost invariant = { λ t. IsTask (record { topo = arc_value t.topo; owner = t.manager; window = t.window; regions = t.regions; beats = t.beats; entry = arc_value t.entry })
+        × (t.links.items ≡ clients t.manager (declared_links (arc_value t.topo))) };
+}
+
+impl SpanTask {
+    ghost use Rattle.tl_board.specs.Tasks.{IsTask};
+
+    /// The window of a manager with the beats that are present there, shared and not copied, these regions and this entry, which
+    /// is a state of the manager. AllocError where memory is refused.
+    pub fn new(
+        alloc: Global,
+        topo: &Arc<Topo>,
+        manager: u16,
+        regions: &RegionMap,
+        present: &Present,
+        window: u64,
+        entry: &Arc<SpanState>,
+    ) -> Result<SpanTask, AllocError>
+        requires manager { manager < length (arc_value topo.now).managers }
+        requires entry { IsOf (manager_at (arc_value topo.now) manager (areas_of regions.now)) (arc_value entry.now) }
+        requires numbers { HasNumbers regions.now }
+        ensures { IfOk result (λ task. task ≡ record {
+          topo = arc_value topo.now;
+          owner = manager;
+          window = window;
+          regions = regions.now;
+          beats = beats_in window (manager_beats (arc_value topo.now) present.now manager);
+          entry = arc_value entry.now;
+        }) }
+    {
+        let links = clients_of(alloc, topo, manager)?;
+        Ok(SpanTask {
+            topo: Arc::try_clone(topo)?,
+            manager,
+            window,
+            regions: regions.copy()?,
+            beats: present.window_beats(alloc, window, &links)?,
+            links,
+            entry: Arc::try_clone(entry)?,
+        })
+    }
+
+    /// The number of the manager.
+    pub fn manager(&self) -> u16
+        ensures exact { result ≡ self.now.owner }
+        ensures kept { IsTask self.now }
+    {
+        let _ = &self.topo;
+        self.manager
+    }
+
+    /// The window.
+    pub fn window(&self) -> u64
+        ensures { result ≡ self.now.window }
+    {
+        self.window
+    }
+
+    /// The pass of its beats from its entry. What it leaves is settled, so that the states of windows share what is held.
+    /// AllocError where memory is refused.
+    pub fn check(&self, alloc: Global) -> Result<Stored<SpanState, Rows>, AllocError>
+        ensures pass { IfOk result (λ stored. IsPassOf self.now (pass_of stored)) }
+        ensures entry { IfOk result (λ stored. arc_value stored.entry ≡ self.now.entry) }
+    {
+        let walk = self.beats.walk(alloc)?;
+        let (mut exit, rows) = check_window(
+            alloc,
+            &self.topo,
+            self.manager,
+            &self.regions,
+            walk,
+            &self.entry,
+        )?;
+        exit.settle()?;
+        Ok(Stored {
+            entry: Arc::try_clone(&self.entry)?,
+            exit: Arc::new(alloc, exit)?,
+            rows: Rows::new(rows),
+        })
+    }
+}

@@ -1,0 +1,108 @@
+//! Pieces of some windows of managers or monitors that come, go, lose their results, or get them.
+
+ghost use Rattle.std.specs.Prelude.{◌≡◌, ◌++◌, IfOk, OnOk, is_some, map, true};
+ghost use Rattle.std.specs.List.{Contains};
+ghost use Rattle.tl_results.specs.declared.key.PieceKey.{PieceKey as AnyKey};
+ghost use Rattle.tl_results.specs.Keys.{change};
+ghost use Rattle.tl_results.specs.Marks.{pass_of};
+ghost use Rattle.tl_results.specs.Pieces.{opening_of, piece_at, with_pieces};
+ghost use Rattle.tl_board.specs.Windows.{key_of, with_checked, AreKeysOf, IsGrown, HasAll, IsTaken, IsPruned, AreBlank};
+ghost use Rattle.tl_capture.specs.Windows.{HasBeat};
+ghost use Rattle.tl_definitions.specs.Positions.{beats_of_all};
+
+use std::alloc::{AllocError, Global};
+use tl_results::{PieceKey, PieceMap, Stored};
+use tl_state::Same;
+use tl_capture::Present;
+
+/// The keys with one of these owners and one of these windows. AllocError where memory is refused.
+pub fn keys_of(alloc: Global, owners: &[u32], windows: &[u64]) -> Result<Vec<PieceKey>, AllocError>
+    ensures { IfOk result (λ keys. AreKeysOf owners.now windows.now keys.items) }
+{
+    let mut keys = Vec::new(alloc);
+    for owner in owners {
+        push_keys(*owner, windows, &mut keys)?;
+    }
+    Ok(keys)
+}
+
+/// Puts the keys of an owner with these windows after others. AllocError where memory is refused.
+fn push_keys(owner: u32, windows: &[u64], keys: &mut Vec<PieceKey>) -> Result<(), AllocError>
+    ensures { OnOk result (keys.new.items ≡ keys.old.items ++ map (key_of owner) windows.now) }
+{
+    for window in windows {
+        keys.push(PieceKey {
+            owner,
+            window: *window,
+        })?;
+    }
+    Ok(())
+}
+
+/// Puts in a piece for each of these keys, whose owners are there, that has none. AllocError where memory is refused: then some
+/// have come.
+pub fn grow<S: Same + Drop, R: Drop>(
+    pieces: &mut PieceMap<S, R>,
+    keys: &[PieceKey],
+) -> Result<(), AllocError>
+    requires { (key : AnyKey) → Contains keys.now key → is_some (opening_of key.owner pieces.old.openings) ≡ true }
+    ensures grown { IsGrown keys.now pieces.old pieces.new }
+    ensures all { OnOk result (HasAll keys.now pieces.new) }
+{
+    for key in keys {
+        if !pieces.contains(*key) {
+            pieces.insert(*key)?;
+        }
+    }
+    Ok(())
+}
+
+/// The pieces of these keys lose their results and their live tickets.
+pub fn touch_each<S: Same + Drop, R: Drop>(pieces: &mut PieceMap<S, R>, keys: &[PieceKey])
+    ensures { AreBlank keys.now pieces.old pieces.new }
+{
+    for key in keys {
+        if pieces.contains(*key) {
+            pieces.touch(*key);
+        }
+    }
+}
+
+/// A piece that was checked keeps its result, and its live ticket ends.
+pub fn keep<S: Same + Drop, R: Drop>(
+    pieces: &mut PieceMap<S, R>,
+    key: PieceKey,
+    stored: Stored<S, R>,
+)
+    requires { is_some (piece_at key pieces.old) ≡ true }
+    ensures { pieces.new ≡ with_pieces pieces.old (change key (with_checked (pass_of stored)) pieces.old.pieces) }
+{
+    pieces.store(key, stored);
+    pieces.set_live(key, None);
+}
+
+/// Takes out a piece, if it is there.
+fn take_out<S: Same + Drop, R: Drop>(pieces: &mut PieceMap<S, R>, key: PieceKey)
+    ensures { IsTaken key pieces.old pieces.new }
+{
+    let _ = pieces.len();
+    if pieces.contains(key) {
+        pieces.remove(key);
+    }
+}
+
+/// Takes out those pieces of these keys in whose windows none of these links has a beat.
+pub fn prune<S: Same + Drop, R: Drop>(
+    pieces: &mut PieceMap<S, R>,
+    present: &Present,
+    links: &[u16],
+    keys: &[PieceKey],
+)
+    ensures { IsPruned (HasBeat (beats_of_all links.now present.now)) keys.now pieces.old pieces.new }
+{
+    for key in keys {
+        if !present.has_beat(key.window, links) {
+            take_out(pieces, *key);
+        }
+    }
+}

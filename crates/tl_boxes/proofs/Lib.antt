@@ -1,7 +1,0 @@
-pub mod KeptLemmas
-mod FinishLemmas
-mod NumberLemmas
-mod PlaceLemmas
-pub mod WatchLemmas
-pub mod DepartureLemmas
-pub mod OutLemmas

@@ -1,6 +1,0 @@
-use Rattle.std.proofs.Common.{◌≡◌}
-use Rattle.tl_boxes.specs.Boxes.{first_out}
-use Rattle.tl_boxes.proofs.boxes.first_away.Given as goal
-
-abbrev pub invariant-loop-number : goal.invariant-loop-number
-invariant-loop-number g l = first_out l.number-iterator ≡ first_out l.slots.entries

@@ -1,5 +1,0 @@
-use Rattle.tl_boxes.proofs.WatchLemmas.{attached_watches}
-use Rattle.tl_boxes.proofs.laws.attach_sets_the_watch.Goals as goal
-
-pub returns : goal.returns
-returns c b m n held = attached_watches b m n held

@@ -1,5 +1,0 @@
-use Rattle.tl_boxes.proofs.WatchLemmas.{detached_watches}
-use Rattle.tl_boxes.proofs.laws.detach_ends_the_watch.Goals as goal
-
-pub returns : goal.returns
-returns c b m n edit are = detached_watches b m n edit are

@@ -1,5 +1,0 @@
-use Rattle.tl_boxes.proofs.DepartureLemmas.{detached_departures}
-use Rattle.tl_boxes.proofs.laws.detach_keeps_all_departures.Goals as goal
-
-pub returns : goal.returns
-returns c b m n edit are = detached_departures b m n edit are

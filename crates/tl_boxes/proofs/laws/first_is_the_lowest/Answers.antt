@@ -1,5 +1,0 @@
-use Rattle.tl_boxes.proofs.OutLemmas.{lowest}
-use Rattle.tl_boxes.proofs.laws.first_is_the_lowest.Goals as goal
-
-pub returns : goal.returns
-returns c b n are first = lowest n b.slots are.rises first

@@ -1,5 +1,0 @@
-use Rattle.tl_boxes.proofs.DepartureLemmas.{retuned_departures}
-use Rattle.tl_boxes.proofs.laws.retune_keeps_all_departures.Goals as goal
-
-pub returns : goal.returns
-returns c b m n limit = retuned_departures b m n limit

@@ -1,5 +1,0 @@
-use Rattle.tl_boxes.proofs.WatchLemmas.{taken_watches}
-use Rattle.tl_boxes.proofs.laws.take_box_keeps_all_watches.Goals as goal
-
-pub returns : goal.returns
-returns c b m n ticket = taken_watches b m n ticket

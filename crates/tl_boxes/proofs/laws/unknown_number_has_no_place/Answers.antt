@@ -1,5 +1,0 @@
-use Rattle.tl_boxes.proofs.WatchLemmas.{no_place}
-use Rattle.tl_boxes.proofs.laws.unknown_number_has_no_place.Goals as goal
-
-pub returns : goal.returns
-returns c b m watch out = no_place b m watch out

@@ -1,0 +1,14 @@
+use Rattle.std.proofs.Common.{◌≡◌, ◌++◌}
+use Rattle.std.specs.Arc.{arc_value}
+use Rattle.tl_definitions.specs.Positions.{all_placed}
+use Rattle.tl_capture.specs.Parts.{spanned}
+use Rattle.tl_capture.specs.Present.{of_link}
+use Rattle.tl_capture.specs.Ranges.{span_beats}
+use Rattle.tl_capture.specs.Walk.{fragments_left}
+use Rattle.tl_capture.specs.Windows.{beats_within}
+use Rattle.tl_capture.proofs.WalkLemmas.{read_all}
+use Rattle.tl_capture.proofs.ranges.Ranges.push_parts.Given as goal
+
+-- the beats of what is pushed so far and of the fragments that are left
+abbrev pub invariant-loop-of : goal.invariant-loop-of
+invariant-loop-of l = spanned arc_value l.from l.to l.parts.items ++ read_all (span_beats l.from l.to) (fragments_left l.of-iterator) ≡ spanned arc_value l.from l.to l.fn.parts.items ++ beats_within l.from l.to (all_placed (of_link l.link l.self))

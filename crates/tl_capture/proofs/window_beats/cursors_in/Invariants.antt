@@ -1,0 +1,9 @@
+use Rattle.std.proofs.Common.{◌≡◌, ◌++◌, drop}
+use Rattle.std.specs.Arc.{arc_value}
+use Rattle.tl_capture.specs.Cursors.{all_left}
+use Rattle.tl_capture.specs.Parts.{spanned}
+use Rattle.tl_capture.proofs.window_beats.cursors_in.Given as goal
+
+-- what the cursors so far and the fragments that are left have
+abbrev pub invariant-loop-link : goal.invariant-loop-link
+invariant-loop-link l = all_left l.cursors.items ++ spanned arc_value l.from l.to (drop l.link-index l.parts) ≡ spanned arc_value l.from l.to l.parts

@@ -1,0 +1,14 @@
+pub mod Links
+pub mod States
+pub mod Jobs
+pub mod Laws
+pub mod Captured
+pub mod Clean
+pub mod Found
+pub mod Output
+pub mod Once
+pub mod Notes
+pub mod Requests
+pub mod Apart
+pub mod Managers
+pub mod CleanHeads

@@ -1,0 +1,140 @@
+//! The rows of managers, from their first beats on.
+
+ghost use Rattle.std.specs.Prelude.{◌≡◌, ◌<◌, [], ◌∷◌, IfOk, length};
+ghost use Rattle.std.specs.List.{All};
+ghost use Rattle.tl_topology.specs.Regions.{areas_of};
+ghost use Rattle.tl_definitions.specs.Captures.{captures_of, manager_beats};
+ghost use Rattle.tl_definitions.specs.Managers.{declared_links, manager_at};
+ghost use Rattle.tl_definitions.specs.Positions.{beats_of_all, clients_of};
+ghost use Rattle.tl_definitions.specs.Report.{of_manager};
+ghost use Rattle.tl_check.specs.Captured.{areas_at};
+ghost use Rattle.tl_check.specs.Found.{AreFound};
+ghost use Rattle.tl_check.specs.Apart.{rows_of_links};
+ghost use Rattle.tl_check.specs.Managers.{has_caches, cached_links, plain_links, IsPlain, AreMerged};
+
+use crate::apart::add_link;
+use std::alloc::{AllocError, Global};
+use tl_beats::Row;
+use tl_client_rules::clients_of;
+use crate::{SpanState, check_window};
+use tl_tables::Level;
+use tl_topology::{RegionMap, Topo};
+use tl_capture::Present;
+
+/// Whether a link has caches.
+fn has_caches(topo: &Topo, link: u16) -> bool
+    ensures { result ≡ has_caches topo.now link }
+{
+    match topo.link(link) {
+        Some(decl) => decl.level == Level::C,
+        None => false,
+    }
+}
+
+/// Those of these links that have caches. AllocError where memory is refused.
+fn cached_links(alloc: Global, topo: &Topo, links: &[u16]) -> Result<Vec<u16>, AllocError>
+    ensures { IfOk result (λ cached. cached.items ≡ cached_links topo.now links.now) }
+{
+    links
+        .iter()
+        .copied()
+        .filter(|link| has_caches(topo, *link))
+        .collect(alloc)
+}
+
+/// Those that have none. AllocError where memory is refused.
+fn plain_links(alloc: Global, topo: &Topo, links: &[u16]) -> Result<Vec<u16>, AllocError>
+    ensures { IfOk result (λ plain. plain.items ≡ plain_links topo.now links.now) }
+{
+    links
+        .iter()
+        .copied()
+        .filter(|link| !has_caches(topo, *link))
+        .collect(alloc)
+}
+
+/// The rows of links below the level of caches with the regions of their manager, one link after the other, each from its first beat
+/// on. AllocError where memory is refused.
+fn links_rows(
+    alloc: Global,
+    topo: &Topo,
+    present: &Present,
+    manager: u16,
+    regions: &RegionMap,
+    links: &[u16],
+) -> Result<Vec<Row>, AllocError>
+    requires manager { manager < length topo.now.managers }
+    requires plain { All (IsPlain topo.now) links.now }
+    requires within { All (λ link. link < length topo.now.links) links.now }
+    ensures { IfOk result (λ rows. rows.items ≡ rows_of_links (manager_at topo.now manager (areas_of regions.now)) present.now links.now) }
+{
+    let _ = present.is_empty();
+    let exponent = topo.block(manager).unwrap();
+    let mut rows = Vec::new(alloc);
+    for link in links {
+        let decl = topo.link(*link).unwrap();
+        let walk = present.walk(alloc, &[*link])?;
+        add_link(alloc, decl, exponent, regions, walk, &mut rows)?;
+    }
+    Ok(rows)
+}
+
+/// The rows of the beats of these links of a manager with its regions, judged one after the other in the order of positions.
+fn merged_rows(
+    alloc: Global,
+    topo: &Topo,
+    present: &Present,
+    manager: u16,
+    regions: &RegionMap,
+    links: &[u16],
+) -> Result<Vec<Row>, AllocError>
+    requires manager { manager < length topo.now.managers }
+    requires links { links.now ≡ cached_links topo.now (clients_of manager (declared_links topo.now)) }
+    ensures { IfOk result (λ rows. AreMerged (manager_at topo.now manager (areas_of regions.now)) (beats_of_all links.now present.now) rows.items) }
+{
+    let walk = present.walk(alloc, links)?;
+    let entry = SpanState::opening(alloc, topo, manager)?;
+    let (_, rows) = check_window(alloc, topo, manager, regions, walk, &entry)?;
+    Ok(rows)
+}
+
+/// The rows of a manager with its regions, from its first beat on. Each link without caches is judged by itself, and those with caches
+/// together.
+fn manager_rows(
+    alloc: Global,
+    topo: &Topo,
+    present: &Present,
+    manager: u16,
+    regions: &RegionMap,
+) -> Result<Vec<Row>, AllocError>
+    requires { manager < length topo.now.managers }
+    ensures { IfOk result (λ rows. AreFound (of_manager (manager_at topo.now manager (areas_of regions.now)) (manager_beats topo.now present.now manager) ∷ []) rows.items) }
+{
+    let _ = present.is_empty();
+    let links = clients_of(alloc, topo, manager)?;
+    let plain = plain_links(alloc, topo, &links)?;
+    let cached = cached_links(alloc, topo, &links)?;
+    let mut rows = links_rows(alloc, topo, present, manager, regions, &plain)?;
+    let merged = merged_rows(alloc, topo, present, manager, regions, &cached)?;
+    rows.extend_from_slice(&merged)?;
+    Ok(rows)
+}
+
+/// The rows of all managers with their regions, one manager after the other. AllocError where memory is refused.
+pub fn managers_rows(
+    alloc: Global,
+    topo: &Topo,
+    present: &Present,
+    regions: &[RegionMap],
+) -> Result<Vec<Row>, AllocError>
+    ensures { IfOk result (λ rows. AreFound (captures_of topo.now (areas_at regions.now) present.now) rows.items) }
+{
+    let none = RegionMap::new(alloc);
+    let mut rows = Vec::new(alloc);
+    for manager in 0..topo.manager_count() {
+        let own = regions.get(manager).unwrap_or(&none);
+        let found = manager_rows(alloc, topo, present, manager as u16, own)?;
+        rows.extend_from_slice(&found)?;
+    }
+    Ok(rows)
+}

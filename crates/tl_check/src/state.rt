@@ -1,0 +1,142 @@
+//! What the beats of a manager leave for those that come.
+
+ghost use Rattle.std.specs.Prelude.{◌≡◌, ◌<◌, ◌++◌, List, [], length, map, IfOk, OnOk};
+ghost use Rattle.std.specs.Bool.{Decides};
+ghost use Rattle.tl_topology.specs.Regions.{Area, areas_of};
+ghost use Rattle.tl_topology.specs.Topology.{IsSound};
+ghost use Rattle.tl_beats.specs.Beats.{IsWellFormed};
+ghost use Rattle.tl_definitions.specs.Breaks.{row_of};
+ghost use Rattle.tl_definitions.specs.Judging.{judged_rules, judged_next};
+ghost use Rattle.tl_definitions.specs.Managers.{manager_at};
+ghost use Rattle.tl_definitions.specs.Rules.{Manager};
+ghost use Rattle.tl_client_rules.specs.Manager.{AreSettled};
+ghost use Rattle.tl_state.specs.SameItems.{SameItems};
+ghost use Rattle.tl_check.specs.Links.{SameLink, AreOpening};
+ghost use Rattle.tl_check.specs.States.{shown, HasLink, IsOf, StandsFor, SameSpan, AreFormed, Serves};
+
+use crate::links::LinkState;
+use crate::rows::add_rows;
+use std::alloc::{AllocError, Global};
+use tl_beats::{Placed, Row};
+use tl_link_rules::{check_head, check_later};
+use tl_client_rules::ManagerState;
+use tl_state::Same;
+use tl_topology::{LinkDecl, RegionMap, Topo};
+
+/// All that the beats of a manager so far leave for those that come: for each link what is unfinished and in flight, for each
+/// client what it can hold and what is open on it. Two states of one manager are the same (`is_same`) exactly where they show
+/// the same.
+#[derive(Drop)]
+pub struct SpanState {
+    /// One for each link of the manager, in the order of their numbers.
+    links: Vec<LinkState>,
+    clients: ManagerState,
+}
+
+/// The states of so many links without beats.
+fn opening_links(alloc: Global, count: usize) -> Result<Vec<LinkState>, AllocError>
+    ensures { IfOk result (λ links. (length links.items ≡ count) × AreOpening links.items) }
+{
+    let mut links = Vec::new(alloc);
+    links.reserve_exact(count)?;
+    for _ in 0..count {
+        links.push(LinkState::new(alloc))?;
+    }
+    Ok(links)
+}
+
+/// States that show the same.
+fn copied_links(alloc: Global, links: &[LinkState]) -> Result<Vec<LinkState>, AllocError>
+    ensures { IfOk result (λ copies. SameItems SameLink links.now copies.items) }
+{
+    let mut copies = Vec::new(alloc);
+    copies.reserve_exact(links.len())?;
+    for link in links {
+        copies.push(link.copy()?)?;
+    }
+    Ok(copies)
+}
+
+impl SpanState {
+    /// The state of a manager before all its beats. AllocError where memory is refused.
+    #[tactic(auto, using(crate::proofs::StateLaws::opening_stands))]
+    pub fn opening(alloc: Global, topo: &Topo, manager: u16) -> Result<SpanState, AllocError>
+        requires manager { manager < length topo.now.managers }
+        ensures { (regions : List Area) → IfOk result (λ state. StandsFor (manager_at topo.now manager regions) state []) }
+    {
+        let clients = ManagerState::new(alloc, topo, manager)?;
+        let links = opening_links(alloc, clients.count())?;
+        Ok(SpanState { links, clients })
+    }
+
+    /// Judges the manager's next beat by what the state shows: puts the rows of what it breaks at the end, and the state then
+    /// shows what is left with it. AllocError where memory is refused: then state and rows may have part of the beat, and are
+    /// for nothing more.
+    pub(crate) fn step(
+        &mut self,
+        alloc: Global,
+        decl: &LinkDecl,
+        exponent: u8,
+        regions: &RegionMap,
+        at: &Placed,
+        rows: &mut Vec<Row>,
+    ) -> Result<(), AllocError>
+        requires decl { IsSound decl.now }
+        requires beat { IsWellFormed at.now.beat }
+        requires link { HasLink self.old at.now.link }
+        requires formed { AreFormed self.old }
+        ensures rows { (m : Manager) → IsOf m self.old → Serves m at.now.link decl.now exponent (areas_of regions.now)
+            → OnOk result (rows.new.items ≡ rows.old.items ++ map (row_of at.now) (judged_rules m (shown self.old) at.now)) }
+        ensures next { (m : Manager) → IsOf m self.old → Serves m at.now.link decl.now exponent (areas_of regions.now)
+            → OnOk result (IsOf m self.new × (shown self.new ≡ judged_next m (shown self.old) at.now)) }
+    {
+        let place = self.clients.place(at.link).unwrap();
+        let link = &mut self.links[place];
+        match link.bursts.head(at.beat.chan) {
+            Some(head) => {
+                let later = check_later(alloc, decl, head, &at.beat);
+                link.go_on(decl, &at.beat);
+                add_rows(rows, at, &later)
+            }
+            None => {
+                let answer = link.begin(alloc, decl, &at.beat)?;
+                let format = check_head(alloc, decl, exponent, regions, &at.beat);
+                let request = answer.request.as_ref();
+                let clients = self.clients.step(alloc, at.link, decl, &at.beat, request)?;
+                add_rows(rows, at, &format)?;
+                add_rows(rows, at, &answer.rules)?;
+                add_rows(rows, at, &clients)
+            }
+        }
+    }
+
+    /// A state that shows the same, and so is one for the same manager. AllocError where memory is refused.
+    pub fn copy(&self, alloc: Global) -> Result<SpanState, AllocError>
+        ensures same { IfOk result (SameSpan self.now) }
+        ensures kept { (m : Manager) → IsOf m self.now → IfOk result (IsOf m) }
+    {
+        Ok(SpanState {
+            links: copied_links(alloc, &self.links)?,
+            clients: self.clients.copy(alloc)?,
+        })
+    }
+
+    /// Settles what the clients can hold, so that copies of the state share it, and cost what is unfinished and in flight and
+    /// what is set from then on. What the state shows stays the same, at want of memory too.
+    #[tactic(auto, using(crate::proofs::StateLaws::same_clients))]
+    pub fn settle(&mut self) -> Result<(), AllocError>
+        ensures same { SameSpan self.old self.new }
+        ensures kept { (m : Manager) → IsOf m self.old → IsOf m self.new }
+        ensures settled { OnOk result (AreSettled self.new.clients) }
+    {
+        self.clients.settle()
+    }
+}
+
+impl Same for SpanState {
+    ghost same = { SameSpan };
+
+    fn is_same(&self, other: &Self) -> bool {
+        self.links.is_same(&other.links) && self.clients.is_same(&other.clients)
+    }
+}

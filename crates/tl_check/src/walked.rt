@@ -1,0 +1,104 @@
+//! The check of a window.
+
+ghost use Rattle.std.specs.Prelude.{◌≡◌, ◌<◌, length, IfOk};
+ghost use Rattle.std.specs.List.{All, Contains};
+ghost use Rattle.std.specs.List.Sorted.{IsStrictlySortedBy};
+ghost use Rattle.tl_topology.specs.Regions.{areas_of};
+ghost use Rattle.tl_topology.specs.Topology.{IsSound};
+ghost use Rattle.tl_beats.specs.Beats.{IsWellFormed};
+ghost use Rattle.tl_definitions.specs.Managers.{declared_links, manager_at};
+ghost use Rattle.tl_definitions.specs.Positions.{clients_of, position_order};
+ghost use Rattle.tl_check.specs.Jobs.{GoesOn, Judges, manager_from};
+ghost use Rattle.tl_check.specs.States.{IsOf};
+
+use crate::sorted::sort_rows;
+use crate::state::SpanState;
+use std::alloc::{AllocError, Global};
+use tl_beats::Row;
+use tl_topology::{LinkDecl, RegionMap, Topo};
+use tl_capture::Merged;
+
+/// The links of a topology, by number.
+fn links_of(alloc: Global, topo: &Topo) -> Result<Vec<LinkDecl>, AllocError>
+    ensures exact { IfOk result (λ links. links.items ≡ declared_links topo.now) }
+    ensures sound { IfOk result (λ links. All IsSound links.items) }
+{
+    let mut links = Vec::new(alloc);
+    for number in 0..topo.link_count() {
+        if let Some(link) = topo.link(number as u16) {
+            links.push(*link)?;
+        }
+    }
+    Ok(links)
+}
+
+/// Judges the beats that a walk has left, one after the other, from what a state shows; answers the rows of what they break, and the
+/// state then shows what is left after them. AllocError where memory is refused: then the state is for nothing more.
+fn walk_on<'a>(
+    alloc: Global,
+    links: &[LinkDecl],
+    exponent: u8,
+    regions: &RegionMap,
+    walk: Merged<'a>,
+    state: &mut SpanState,
+) -> Result<Vec<Row>, AllocError>
+    requires links { All IsSound links.now }
+    requires formed { All (λ p. IsWellFormed p.beat) walk }
+    requires within { All (λ p. p.link < length links.now) walk }
+    requires linked { All (λ p. Contains (manager_from links.now exponent (areas_of regions.now) state.old).clients p.link) walk }
+    requires state { IsOf (manager_from links.now exponent (areas_of regions.now) state.old) state.old }
+    ensures { IfOk result (λ rows. GoesOn (manager_from links.now exponent (areas_of regions.now) state.old) state.old walk.entry state.new rows.items) }
+{
+    let mut rows = Vec::new(alloc);
+    for at in walk {
+        let link = &links[usize::from(at.link)];
+        state.step(alloc, link, exponent, regions, &at, &mut rows)?;
+    }
+    Ok(rows)
+}
+
+/// Judges the beats of a manager of a topology that a walk has left with these regions, from a state of the manager. Answers the rows of
+/// what they break, in the order of positions, and the state goes on after the beats. AllocError where memory is refused: then the
+/// state is for nothing more.
+pub fn go_on<'a>(
+    alloc: Global,
+    topo: &Topo,
+    manager: u16,
+    regions: &RegionMap,
+    walk: Merged<'a>,
+    state: &mut SpanState,
+) -> Result<Vec<Row>, AllocError>
+    requires manager { manager < length topo.now.managers }
+    requires formed { All (λ p. IsWellFormed p.beat) walk }
+    requires linked { All (λ p. Contains (clients_of manager (declared_links topo.now)) p.link) walk }
+    requires state { IsOf (manager_at topo.now manager (areas_of regions.now)) state.old }
+    ensures { IfOk result (λ rows. GoesOn (manager_at topo.now manager (areas_of regions.now)) state.old walk.entry state.new rows.items) }
+{
+    let links = links_of(alloc, topo)?;
+    let exponent = topo.block(manager).unwrap();
+    let rows = walk_on(alloc, &links, exponent, regions, walk, state)?;
+    Ok(rows)
+}
+
+/// The check of a window of a manager of a topology: judges the beats that a walk has left with these regions from a state of the
+/// manager. That may be a guess: the pass is true of it whatever it is. Answers the state after the beats, and the rows of what they
+/// break in the order of reports, each once. AllocError where memory is refused.
+pub fn check_window<'a>(
+    alloc: Global,
+    topo: &Topo,
+    manager: u16,
+    regions: &RegionMap,
+    walk: Merged<'a>,
+    entry: &SpanState,
+) -> Result<(SpanState, Vec<Row>), AllocError>
+    requires manager { manager < length topo.now.managers }
+    requires formed { All (λ p. IsWellFormed p.beat) walk }
+    requires linked { All (λ p. Contains (clients_of manager (declared_links topo.now)) p.link) walk }
+    requires rises { IsStrictlySortedBy position_order walk }
+    requires entry { IsOf (manager_at topo.now manager (areas_of regions.now)) entry.now }
+    ensures { IfOk result (λ x. Judges (manager_at topo.now manager (areas_of regions.now)) entry.now walk.entry x.0 x.1.items) }
+{
+    let mut state = entry.copy(alloc)?;
+    let rows = go_on(alloc, topo, manager, regions, walk, &mut state)?;
+    Ok((state, sort_rows(rows)))
+}

@@ -1,0 +1,14 @@
+pub mod CountLaws
+pub mod HoldLaws
+pub mod BoundLaws
+pub mod Blocks
+pub mod Carried
+pub mod ClientLaws
+pub mod SameLaws
+pub mod LinkLaws
+pub mod ClaimLaws
+pub mod BlockLaws
+pub mod ClientsLaws
+pub mod ManagerLaws
+pub mod StandLaws
+pub mod DeclaredLaws

@@ -1,0 +1,33 @@
+-- Bounds by block.
+use Rattle.std.specs.Prelude.{ℕ, ◌≡◌, List, Option, None, unwrap_or}
+use Rattle.std.specs.List.{AllByRecursion}
+use Rattle.std.specs.Ordering.{nat_cmp}
+use Rattle.tl_tables.specs.declared.Perm.{Perm}
+use Rattle.tl_state.specs.Map.{value_at}
+use Rattle.tl_client_rules.specs.Entries.{entry_of}
+use Rattle.tl_client_rules.specs.Holds.{perm_of}
+use Rattle.tl_client_rules.specs.declared.bounds.Bounds.{Bounds}
+
+-- The bound of a block as it was last settled.
+abbrev pub settled_at : Bounds → ℕ → Perm
+settled_at bounds block = perm_of (value_at nat_cmp bounds.base block)
+
+-- The bound that was set since then, if one was.
+abbrev pub recent_at : Bounds → ℕ → Option Perm
+recent_at bounds block = entry_of nat_cmp bounds.recent block
+
+-- The bound of a block: what was set since the settling comes first.
+abbrev pub bound_at : Bounds → ℕ → Perm
+bound_at bounds block = unwrap_or (recent_at bounds block) (settled_at bounds block)
+
+-- Both have the same bound of each block.
+abbrev pub SameBounds : Bounds → Bounds → Type 0
+SameBounds one two = (block : ℕ) → bound_at one block ≡ bound_at two block
+
+-- All bounds are settled.
+abbrev pub IsSettled : Bounds → Type 0
+IsSettled bounds = (block : ℕ) → recent_at bounds block ≡ None
+
+-- Both have the same bound of the block of each of these entries.
+abbrev pub AgreeOn : Bounds → Bounds → {V : Type 0} → List (ℕ × V) → Type 0
+AgreeOn one two entries = AllByRecursion (λ e. bound_at one e.0 ≡ bound_at two e.0) entries

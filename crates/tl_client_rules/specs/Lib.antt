@@ -1,0 +1,10 @@
+pub mod Entries
+pub mod Counts
+pub mod OpenBlocks
+pub mod Holds
+pub mod Bounds
+pub mod Client
+pub mod ClientLaws
+pub mod Clients
+pub mod Manager
+pub mod ManagerLaws

@@ -1,0 +1,18 @@
+//! The rules of what is held: the permission rules of one client, and the manager rules over all clients.
+#![tactic(auto)]
+
+mod bounds;
+mod claims;
+mod client;
+pub mod client_laws;
+mod clients;
+mod counts;
+mod entries;
+mod manager;
+pub mod manager_laws;
+mod open_blocks;
+
+pub use claims::{block_of, claim, granted_block};
+pub use client::ClientState;
+pub use clients::clients_of;
+pub use manager::ManagerState;

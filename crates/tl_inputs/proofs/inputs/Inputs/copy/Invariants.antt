@@ -1,6 +1,0 @@
-use Rattle.std.proofs.Common.{◌≡◌, take}
-use Rattle.tl_inputs.proofs.inputs.Inputs.copy.Given as goal
-
--- the maps so far
-abbrev pub invariant-loop-map : goal.invariant-loop-map
-invariant-loop-map l = l.regions.items ≡ take l.map-index l.map-items

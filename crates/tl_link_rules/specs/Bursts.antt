@@ -1,0 +1,38 @@
+-- What a state of bursts shows, and what it stands for.
+use Rattle.std.specs.Prelude.{◌≡◌, ℕ, List, Option, Some, None, if◌then◌else◌, slice_index_or}
+use Rattle.std.specs.Option.{option_map_or}
+use Rattle.tl_tables.specs.declared.Chan.{Chan}
+use Rattle.tl_tables.specs.Messages.{chan_number, same_chan}
+use Rattle.tl_topology.specs.declared.LinkDecl.{LinkDecl}
+use Rattle.tl_beats.specs.declared.Beat.{Beat}
+use Rattle.tl_beats.specs.declared.Placed.{Placed}
+use Rattle.tl_definitions.specs.declared.Unfinished.{Unfinished}
+use Rattle.tl_definitions.specs.Heads.{is_head, last_head, before_on, unfinished, after_beat}
+use Rattle.tl_link_rules.specs.declared.bursts.Place.{Place}
+use Rattle.tl_link_rules.specs.declared.bursts.Place.TheVariants as place
+use Rattle.tl_link_rules.specs.declared.bursts.BurstState.{BurstState}
+
+-- What the next beat of a channel of a link is, after these: a head, or a later beat of the newest head.
+abbrev pub place_of : LinkDecl → List Beat → Place
+place_of link before = if is_head link before then place.Head else option_map_or place.Later (last_head link before) place.Head
+
+-- the same, from the burst that they leave unfinished
+abbrev pub place_in : Option Unfinished → Place
+place_in None = place.Head
+place_in (Some burst) = place.Later burst.head
+
+-- what is unfinished on each channel after a beat, from what was before it
+abbrev pub slots_after : LinkDecl → Beat → (Chan → Option Unfinished) → Chan → Option Unfinished
+slots_after link beat slots chan = if same_chan beat.chan chan then after_beat link beat (slots chan) else slots chan
+
+-- what a state shows on a channel
+abbrev pub slot_at : BurstState → Chan → Option Unfinished
+slot_at state chan = slice_index_or state.slots (chan_number chan) None
+
+-- The state shows what these beats leave unfinished on each channel of the link with this number.
+pub record StandsFor (state : BurstState) (link : LinkDecl) (number : ℕ) (before : List Placed) : Type 0 where
+  pub slots : (chan : Chan) → slot_at state chan ≡ unfinished link (before_on number chan before)
+
+-- Both show the same on each channel.
+abbrev pub SameBursts : BurstState → BurstState → Type 0
+SameBursts one two = (chan : Chan) → slot_at one chan ≡ slot_at two chan

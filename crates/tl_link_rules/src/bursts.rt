@@ -1,0 +1,128 @@
+//! Heads and later beats: which beat of a link begins a message, and which belongs to an earlier one.
+
+ghost use Rattle.std.specs.Prelude.{◌≡◌, ◌≤◌, ℕ, List, [], ◌∷◌, option_map};
+ghost use Rattle.tl_topology.specs.Topology.{IsSound};
+ghost use Rattle.tl_beats.specs.Beats.{IsWellFormed};
+ghost use Rattle.tl_definitions.specs.Heads.{beat_count};
+ghost use Rattle.tl_link_rules.specs.Bursts.{SameBursts};
+
+use tl_beats::Beat;
+use tl_definitions::Unfinished;
+use tl_state::Same;
+use tl_tables::{Chan, carries_data, chan_index, op_of};
+use tl_topology::LinkDecl;
+
+/// Where a beat stands in its message. [TileLink 1.8: serialization]
+#[derive(Clone, Copy, Debug, PartialEq, Eq)]
+pub enum Place {
+    /// The first beat of a message.
+    Head,
+    /// A later beat of the message that begins with this one.
+    Later(Beat),
+}
+
+/// How many beats a message has that begins with this beat, 1 to 32,768: with data as many as the link's width asks, else
+/// one. A beat whose opcode is no message of its channel and level has one. [TileLink 1.8: serialization]
+pub fn beat_count(link: &LinkDecl, beat: &Beat) -> u16
+    requires link { IsSound link.now }
+    requires beat { IsWellFormed beat.now }
+    ensures exact { result ≡ beat_count link.now beat.now }
+    ensures positive { 1 ≤ result }
+{
+    match op_of(link.level, beat.chan, beat.opcode) {
+        Some(op) if carries_data(op) => ((1u16 << beat.size) / u16::from(link.width)).max(1),
+        _ => 1,
+    }
+}
+
+/// The bursts of one link that still miss beats, one for each channel. [TileLink 1.8: serialization]
+#[derive(Clone, Copy, Debug, PartialEq, Eq)]
+pub struct BurstState {
+    slots: [Option<Unfinished>; 5],
+}
+
+impl BurstState {
+    ghost use Rattle.tl_topology.specs.declared.LinkDecl.{LinkDecl as AnyLink};
+    ghost use Rattle.tl_tables.specs.declared.Chan.{Chan as AnyChan};
+    ghost use Rattle.tl_beats.specs.declared.Placed.{Placed};
+    ghost use Rattle.tl_definitions.specs.Heads.{before_on};
+    ghost use Rattle.tl_link_rules.specs.Bursts.{place_of, place_in, slots_after, slot_at, StandsFor};
+
+    /// The state of a link without beats.
+    pub fn new() -> BurstState
+        ensures { (link : AnyLink) (number : ℕ) → StandsFor result link number [] }
+    {
+        BurstState { slots: [None; 5] }
+    }
+
+    /// The head of the burst that the next beat of a channel belongs to; None where that beat is a head itself.
+    pub fn head(&self, chan: Chan) -> Option<&Beat>
+        ensures { option_map (λ head. head.now) result ≡ option_map (λ burst. burst.head) (slot_at self.now chan) }
+    {
+        match &self.slots[chan_index(chan)] {
+            Some(burst) => Some(&burst.head),
+            None => None,
+        }
+    }
+
+    /// The state with the next beat of the link, whatever that is.
+    #[tactic(auto, using(crate::proofs::BurstLaws::slot_set))]
+    pub fn pass(&mut self, link: &LinkDecl, beat: &Beat)
+        requires link { IsSound link.now }
+        requires beat { IsWellFormed beat.now }
+        ensures { (chan : AnyChan) → slot_at self.new chan ≡ slots_after link.now beat.now (slot_at self.old) chan }
+    {
+        let slot = &mut self.slots[chan_index(beat.chan)];
+        match slot {
+            Some(burst) if burst.missing > 1 => burst.missing -= 1,
+            Some(_) => *slot = None,
+            None => {
+                let count = beat_count(link, beat);
+                if count > 1 {
+                    *slot = Some(Unfinished {
+                        head: *beat,
+                        missing: count - 1,
+                    });
+                }
+            }
+        }
+    }
+
+    /// What the next beat of the link is, a head or a later beat of its head, and the state with it. [TileLink 1.8:
+    /// serialization]
+    #[tactic(auto, using(crate::proofs::BurstLaws::stands_law, crate::proofs::BurstLaws::place_stands))]
+    pub fn step(&mut self, link: &LinkDecl, beat: &Beat) -> Place
+        requires link { IsSound link.now }
+        requires beat { IsWellFormed beat.now }
+        // On what the state shows.
+        ensures judged { result ≡ place_in (slot_at self.old beat.now.chan) }
+        ensures next { (chan : AnyChan) → slot_at self.new chan ≡ slots_after link.now beat.now (slot_at self.old) chan }
+        // Where the state stands for beats, the answer is the definition's, and the state then stands for them and this one.
+        ensures place { (number : ℕ) (before : List Placed) → StandsFor self.old link.now number before
+            → result ≡ place_of link.now (before_on number beat.now.chan before) }
+        ensures stands { (number fragment line : ℕ) (before : List Placed) → StandsFor self.old link.now number before
+            → StandsFor self.new link.now number (record { link = number; fragment = fragment; line = line; beat = beat.now } ∷ before) }
+    {
+        let place = self.place(beat.chan);
+        self.pass(link, beat);
+        place
+    }
+
+    /// What the next beat of a channel is.
+    fn place(&self, chan: Chan) -> Place
+        ensures { result ≡ place_in (slot_at self.now chan) }
+    {
+        match self.head(chan) {
+            Some(head) => Place::Later(*head),
+            None => Place::Head,
+        }
+    }
+}
+
+impl Same for BurstState {
+    ghost same = { SameBursts };
+
+    fn is_same(&self, other: &Self) -> bool {
+        self == other
+    }
+}

@@ -1,0 +1,19 @@
+//! The rules of one link: which beat begins a message, the format rules, and the flow rules.
+#![tactic(auto)]
+
+mod bursts;
+mod fields;
+mod flow;
+mod heads;
+mod later;
+pub mod laws;
+mod open_table;
+mod rule_list;
+
+pub use bursts::{BurstState, Place, beat_count};
+pub use fields::active_lanes;
+pub use flow::{FlowAnswer, FlowState};
+pub use heads::check_head;
+pub use later::check_later;
+pub use open_table::OpenTable;
+pub use rule_list::RuleList;

@@ -1,4 +1,0 @@
-pub mod ClientLaws
-pub mod ManagerLaws
-pub mod StandLaws
-pub mod DeclaredLaws

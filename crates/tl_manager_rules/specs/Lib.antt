@@ -1,3 +1,0 @@
-pub mod Clients
-pub mod Manager
-pub mod Laws

@@ -1,2 +1,0 @@
-pub mod BurstLaws
-pub mod SameLaws

@@ -1,4 +1,0 @@
-pub mod Requests
-pub mod Links
-pub mod Managers
-pub mod Clean

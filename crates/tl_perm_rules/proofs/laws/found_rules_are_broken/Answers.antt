@@ -1,5 +1,0 @@
-use Rattle.tl_perm_rules.proofs.LinkLaws.{found_rules_are_broken}
-use Rattle.tl_perm_rules.proofs.laws.found_rules_are_broken.Goals as goal
-
-pub returns : goal.returns
-returns c = found_rules_are_broken

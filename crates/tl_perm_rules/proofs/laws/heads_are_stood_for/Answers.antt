@@ -1,5 +1,0 @@
-use Rattle.tl_perm_rules.proofs.LinkLaws.{heads_are_stood_for}
-use Rattle.tl_perm_rules.proofs.laws.heads_are_stood_for.Goals as goal
-
-pub returns : goal.returns
-returns c = heads_are_stood_for

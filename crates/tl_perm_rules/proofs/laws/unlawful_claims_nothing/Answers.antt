@@ -1,5 +1,0 @@
-use Rattle.tl_perm_rules.proofs.ClaimLaws.{unlawful_claims_nothing}
-use Rattle.tl_perm_rules.proofs.laws.unlawful_claims_nothing.Goals as goal
-
-pub returns : goal.returns
-returns c = unlawful_claims_nothing

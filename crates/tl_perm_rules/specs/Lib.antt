@@ -1,7 +1,0 @@
-pub mod Entries
-pub mod Counts
-pub mod OpenBlocks
-pub mod Holds
-pub mod Bounds
-pub mod Client
-pub mod Laws

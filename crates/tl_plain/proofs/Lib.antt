@@ -1,4 +1,0 @@
-pub mod CaptureLaws
-pub mod CleanLaws
-pub mod MonitorLaws
-pub mod ScratchLaws

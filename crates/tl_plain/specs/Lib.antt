@@ -1,3 +1,0 @@
-pub mod Captured
-pub mod Clean
-pub mod Found

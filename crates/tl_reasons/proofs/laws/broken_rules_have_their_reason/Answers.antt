@@ -1,5 +1,0 @@
-use Rattle.tl_reasons.proofs.RowLaws.{broken_rules_have_their_reason}
-use Rattle.tl_reasons.proofs.laws.broken_rules_have_their_reason.Goals as goal
-
-pub returns : goal.returns
-returns c = broken_rules_have_their_reason

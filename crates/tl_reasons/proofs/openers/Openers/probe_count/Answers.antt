@@ -1,8 +1,0 @@
-use Rattle.std.proofs.Common.{ap}
-use Rattle.tl_definitions.specs.Messages.{probes}
-use Rattle.tl_reasons.specs.Reasons.{Trail}
-use Rattle.tl_reasons.proofs.CountLaws.{counted}
-use Rattle.tl_reasons.proofs.openers.Openers.probe_count.Goals as goal
-
-pub returns : goal.returns
-returns c exponent before stands = counted (probes exponent) before c.args.self.now.probes _ c.len.ensures.len c.len.ensures.ordered (λ key. ap (λ (t : Trail). t.probe key) stands.shows)

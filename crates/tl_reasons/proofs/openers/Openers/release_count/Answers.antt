@@ -1,8 +1,0 @@
-use Rattle.std.proofs.Common.{ap}
-use Rattle.tl_definitions.specs.Messages.{releases}
-use Rattle.tl_reasons.specs.Reasons.{Trail}
-use Rattle.tl_reasons.proofs.CountLaws.{counted}
-use Rattle.tl_reasons.proofs.openers.Openers.release_count.Goals as goal
-
-pub returns : goal.returns
-returns c exponent before stands = counted releases before c.args.self.now.releases _ c.len.ensures.len c.len.ensures.ordered (λ key. ap (λ (t : Trail). t.release key) stands.shows)

@@ -1,0 +1,15 @@
+pub mod Texts
+pub mod Lines
+pub mod Kept
+pub mod OpenerLaws
+pub mod FirstLaws
+pub mod StepLaws
+pub mod LinkLaws
+pub mod ManagerLaws
+pub mod PassedLaws
+pub mod MeaningLaws
+pub mod NamingLaws
+pub mod HeadMeanings
+pub mod RowLaws
+pub mod TellingLaws
+pub mod CountLaws

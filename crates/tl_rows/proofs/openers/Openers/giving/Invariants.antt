@@ -1,0 +1,13 @@
+use Rattle.std.proofs.Common.{◌≡◌}
+use Rattle.std.specs.Prelude.{find}
+use Rattle.tl_rows.specs.Openers.{first_in}
+use Rattle.tl_rows.specs.Origins.{message}
+use Rattle.tl_rows.specs.Reasons.{gives_back}
+use Rattle.tl_rows.proofs.openers.Openers.giving.Given as goal
+
+-- what is left has the first
+abbrev pub invariant-loop-origin : goal.invariant-loop-origin
+invariant-loop-origin l =
+    (goal.iterator-loop-origin).can_next l.origin-iterator ×
+    (goal.iterator-loop-origin).is_finite l.origin-iterator ×
+    (find (λ origin. gives_back l.exponent l.block (message origin)) l.origin-iterator ≡ first_in l.self.releases (gives_back l.exponent l.block))

@@ -1,3 +1,0 @@
-pub mod Exact
-pub mod SameItems
-pub mod Faithful

@@ -1,5 +1,0 @@
-pub mod KeyOrder
-pub mod Leaves
-pub mod Map
-pub mod Spots
-pub mod Walk

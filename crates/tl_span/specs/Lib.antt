@@ -1,4 +1,0 @@
-pub mod Links
-pub mod States
-pub mod Jobs
-pub mod Laws

@@ -1,0 +1,113 @@
+//! The leaves of a map: runs of its entries, of which none is empty. Nothing here knows of the order of keys.
+
+ghost use Rattle.std.specs.Prelude.{◌≡◌, ◌≤◌, ◌<◌, ◌+◌, ◌++◌, ◌∷◌, [], length, take, drop, IfOk, OnOk, OnErr, option_to_list};
+ghost use Rattle.tl_state.specs.Leaves.{all_entries, entries_of, entries_ahead, entries_behind, EachHasEntries};
+
+use std::alloc::{AllocError, Global};
+use std::sync::Arc;
+
+/// The most entries of a leaf.
+const LEAF: usize = 64;
+
+/// The entries before `start` and those from `end` on, with an entry between them.
+fn spliced<K: Copy, V: Copy>(
+    alloc: Global,
+    entries: &[(K, V)],
+    start: usize,
+    end: usize,
+    entry: Option<(K, V)>,
+) -> Result<Vec<(K, V)>, AllocError>
+    requires start { start ≤ length entries.now }
+    requires end { end ≤ length entries.now }
+    ensures { IfOk result (λ made. made.items ≡ take start entries.now ++ (option_to_list entry ++ drop end entries.now)) }
+{
+    let before = &entries[..start];
+    let after = &entries[end..];
+    let count = before.len().saturating_add(after.len());
+    let count = count.saturating_add(usize::from(entry.is_some()));
+    let mut made = Vec::with_capacity(alloc, count)?;
+    made.extend_from_slice(before)?;
+    if let Some(entry) = entry {
+        made.push(entry)?;
+    }
+    made.extend_from_slice(after)?;
+    Ok(made)
+}
+
+/// Puts the entries in the place of a leaf, as one leaf or as two. At want of memory nothing has changed.
+fn put_leaf<K: Copy, V: Copy>(
+    alloc: Global,
+    leaves: &mut Vec<Arc<Vec<(K, V)>>>,
+    at: usize,
+    made: Vec<(K, V)>,
+) -> Result<(), AllocError>
+    requires at { at < length leaves.old.items }
+    requires some { 0 < length made.items }
+    ensures ok { OnOk result (all_entries leaves.new.items ≡ all_entries (take at leaves.old.items) ++ (made.items ++ all_entries (drop (at + 1) leaves.old.items))) }
+    ensures full { EachHasEntries leaves.old.items → EachHasEntries leaves.new.items }
+    ensures err { OnErr result (leaves.new.items ≡ leaves.old.items) }
+{
+    let entries = made.as_slice();
+    if entries.len() <= LEAF {
+        let leaf = Arc::new(alloc, made)?;
+        leaves[at] = leaf;
+        return Ok(());
+    }
+    let half = entries.len() / 2;
+    let left = Arc::new(alloc, Vec::from_slice(alloc, &entries[..half])?)?;
+    let right = Arc::new(alloc, Vec::from_slice(alloc, &entries[half..])?)?;
+    leaves.insert(at + 1, right)?;
+    leaves[at] = left;
+    Ok(())
+}
+
+/// Puts an entry, or none, in the place of those from `start` to `end` of a leaf. A leaf that is left without entries goes. At
+/// want of memory nothing has changed.
+pub(crate) fn replace<K: Copy, V: Copy>(
+    alloc: Global,
+    leaves: &mut Vec<Arc<Vec<(K, V)>>>,
+    at: usize,
+    start: usize,
+    end: usize,
+    entry: Option<(K, V)>,
+) -> Result<(), AllocError>
+    requires at { at < length leaves.old.items }
+    requires start { start ≤ end }
+    requires end { end ≤ length (entries_of leaves.old.items at) }
+    ensures ok { OnOk result (all_entries leaves.new.items ≡ entries_ahead leaves.old.items at start ++ (option_to_list entry ++ entries_behind leaves.old.items at end)) }
+    ensures full { EachHasEntries leaves.old.items → EachHasEntries leaves.new.items }
+    ensures err { OnErr result (leaves.new.items ≡ leaves.old.items) }
+{
+    let entries = leaves[at].as_slice();
+    let made = spliced(alloc, entries, start, end, entry)?;
+    if made.is_empty() {
+        let _ = leaves.remove(at);
+        return Ok(());
+    }
+    put_leaf(alloc, leaves, at, made)
+}
+
+/// Puts an entry behind all others. At want of memory nothing has changed.
+pub(crate) fn put_last<K: Copy, V: Copy>(
+    alloc: Global,
+    leaves: &mut Vec<Arc<Vec<(K, V)>>>,
+    entry: (K, V),
+) -> Result<(), AllocError>
+    ensures ok { OnOk result (all_entries leaves.new.items ≡ all_entries leaves.old.items ++ entry ∷ []) }
+    ensures full { EachHasEntries leaves.old.items → EachHasEntries leaves.new.items }
+    ensures err { OnErr result (leaves.new.items ≡ leaves.old.items) }
+{
+    let count = leaves.as_slice().len();
+    if count > 0 {
+        let entries = leaves[count - 1].as_slice();
+        if entries.len() < LEAF {
+            let made = spliced(alloc, entries, entries.len(), entries.len(), Some(entry))?;
+            return put_leaf(alloc, leaves, count - 1, made);
+        }
+    }
+    let mut made = Vec::with_capacity(alloc, 1)?;
+    made.push(entry)?;
+    let leaf = Arc::new(alloc, made)?;
+    leaves.push(leaf)?;
+    Ok(())
+}

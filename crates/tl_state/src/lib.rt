@@ -1,0 +1,17 @@
+//! States: what it means to compare and to copy them, and ordered maps that copies share.
+#![tactic(auto)]
+
+mod changes;
+mod exact;
+mod faithful;
+mod leaves;
+mod same;
+mod search;
+mod share_map;
+mod walk;
+
+pub use exact::Exact;
+pub use faithful::Faithful;
+pub use same::{Same, are_same};
+pub use share_map::ShareMap;
+pub use walk::Entries;

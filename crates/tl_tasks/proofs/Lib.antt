@@ -1,2 +1,0 @@
-mod TaskLemmas
-pub mod CurrentLemmas

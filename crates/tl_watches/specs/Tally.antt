@@ -1,6 +1,0 @@
--- When two tallies are one.
-use Rattle.std.specs.Prelude.{◌≡◌}
-use Rattle.tl_watches.specs.declared.tally.Tally.{Tally}
-
-abbrev pub SameTally : Tally → Tally → Type 0
-SameTally one two = one.count ≡ two.count

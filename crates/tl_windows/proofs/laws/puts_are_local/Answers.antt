@@ -1,5 +1,0 @@
-use Rattle.tl_windows.proofs.TouchLemmas.{puts_are_local}
-use Rattle.tl_windows.proofs.laws.puts_are_local.Goals as goal
-
-pub returns : goal.returns
-returns c = puts_are_local

@@ -1,5 +1,0 @@
-use Rattle.tl_windows.proofs.LawLemmas.{windows_are_whole}
-use Rattle.tl_windows.proofs.laws.windows_are_whole.Goals as goal
-
-pub returns : goal.returns
-returns c = windows_are_whole

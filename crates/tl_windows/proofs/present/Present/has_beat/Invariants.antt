@@ -1,8 +1,0 @@
-use Rattle.std.proofs.Common.{◌≡◌, drop}
-use Rattle.tl_windows.specs.Windows.{is_within}
-use Rattle.tl_windows.proofs.GatherLemmas.{pushed}
-use Rattle.tl_windows.proofs.present.Present.has_beat.Given as goal
-
--- The links that are left have all that there is.
-abbrev pub invariant-loop-link : goal.invariant-loop-link
-invariant-loop-link l = pushed (is_within l.from l.to) (drop l.link-index l.links) l.self ≡ pushed (is_within l.from l.to) l.links l.self

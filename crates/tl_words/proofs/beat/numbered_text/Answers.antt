@@ -1,8 +1,0 @@
-use Rattle.std.proofs.Common.{refl}
-use Rattle.tl_words.specs.Words.{numbered_text_of}
-use Rattle.tl_words.proofs.Texts.{in_words}
-use Rattle.tl_words.proofs.beat.numbered_text.Goals as goal
-
-pub returns : goal.returns
-unfolding numbered_text_of
-returns c = in_words c.format.result _ (numbered_text_of c.args.op c.args.beat.now) c.format.ensures.ok (rw (c.chan_text-chan.ensures, c.op_text-name.ensures) refl)

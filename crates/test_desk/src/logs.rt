@@ -7,8 +7,8 @@ use crate::retries::{add, open_desk};
 use crate::texts::{BLOCK_ASKED, BLOCK_GRANTED, GETS};
 use std::alloc::Global;
 use std::test::Fail;
-use tl_edits::{Inputs, Log};
 use tl_capture::Present;
+use tl_edits::{Inputs, Log};
 
 /// A copy of what stands after a copy of a log.
 fn copied(log: &Log) -> Result<Inputs, Fail> {

@@ -2,7 +2,10 @@
 
 ghost use Rattle.std.specs.Prelude.{◌≡◌};
 
-use crate::bench::{Fate, MISALIGNED_GET, TWO_WINDOWS, Told, Trip, abandon, add, check_one, finish, opened, read, take};
+use crate::bench::{
+    Fate, MISALIGNED_GET, TWO_WINDOWS, Told, Trip, abandon, add, check_one, finish, opened, read,
+    take,
+};
 use std::alloc::Global;
 use std::sync::Wait;
 use std::test::Fail;

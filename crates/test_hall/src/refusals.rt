@@ -3,7 +3,9 @@
 
 ghost use Rattle.std.specs.Prelude.{◌≡◌};
 
-use crate::bench::{Fate, MISALIGNED_GET, OF_MISALIGNED_GET, Told, Trip, add, finish, hand_in, opened, read, take};
+use crate::bench::{
+    Fate, MISALIGNED_GET, OF_MISALIGNED_GET, Told, Trip, add, finish, hand_in, opened, read, take,
+};
 use std::alloc::Global;
 use std::sync::Wait;
 use std::test::Fail;

@@ -2,13 +2,12 @@
 
 use std::alloc::Global;
 use std::fmt::Display;
-use tl_edits::{EditFault, PastFault};
 use tl_check::OnceFault;
-use tl_run::{AuditFault, Stop, StopCause};
-use tl_script::ScriptFault;
+use tl_edits::{EditFault, PastFault};
+use tl_script::{AuditFault, ScriptFault, Stop, StopCause};
 
 /// Whether each fault prints the text beside it.
-fn are_printed<E: Display>(alloc: Global, faults: &[(E, &str)]) -> bool {
+pub(crate) fn are_printed<E: Display>(alloc: Global, faults: &[(E, &str)]) -> bool {
     for (fault, text) in faults {
         match format!(in alloc; "{fault}") {
             Ok(printed) if printed.as_str() == *text => {}

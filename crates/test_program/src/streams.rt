@@ -1,13 +1,13 @@
 //! A reader and a writer of one byte at a time, that fail.
 
-use crate::text::INPUT;
 use std::alloc::Global;
 use std::io;
 use std::io::{Read, Write};
 
-/// Gives one byte of the input a read, and fails after so many.
+/// Gives one byte of a text a read, and fails after so many.
 #[derive(Drop)]
 pub(crate) struct Breaking {
+    pub(crate) text: &'static str,
     pub(crate) at: usize,
     pub(crate) fails_at: usize,
 }
@@ -17,7 +17,8 @@ impl Read for Breaking {
         if self.at >= self.fails_at {
             return Err(io::ErrorKind::Other.into());
         }
-        let (Some(byte), Some(place)) = (INPUT.as_bytes().get(self.at), buffer.first_mut()) else {
+        let (Some(byte), Some(place)) = (self.text.as_bytes().get(self.at), buffer.first_mut())
+        else {
             return Ok(0);
         };
         *place = *byte;

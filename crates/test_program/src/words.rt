@@ -15,7 +15,11 @@ fn each_read_of_standard_input_that_fails_is_told(rt: HostRuntime) {
         let mut told = Vec::new(rt.alloc());
         let mut out = CountedWriter::new(&mut written);
         let mut err = CountedWriter::new(&mut told);
-        let mut input = CountedReader::new(Breaking { at: 0, fails_at });
+        let mut input = CountedReader::new(Breaking {
+            text: INPUT,
+            at: 0,
+            fails_at,
+        });
         let status = run_words(&rt, &words, &mut input, &mut out, &mut err);
         assert!(rt; status == 2 && written.is_empty(), "{fails_at}");
         assert!(rt;
@@ -49,6 +53,7 @@ fn each_write_that_fails_is_told(rt: HostRuntime) -> Result<(), Fail> {
                 let mut slow = writer_with(rt.alloc(), room, full);
                 let mut told = Vec::new(rt.alloc());
                 let mut input = CountedReader::new(Breaking {
+                    text: INPUT,
                     at: 0,
                     fails_at: 999,
                 });

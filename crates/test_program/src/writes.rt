@@ -7,7 +7,7 @@ use std::sync::Arc;
 use std::test::Fail;
 use tl_beats::{Fragment, parse_whole_fragment};
 use tl_check::{OnceFault, run_once};
-use tl_run::{AuditFault, audit_script};
+use tl_script::{AuditFault, audit_script};
 use tl_text::CountedWriter;
 use tl_topology::{Topo, read_topo};
 

@@ -4,9 +4,9 @@ ghost use Rattle.std.specs.Prelude.{◌≡◌, ◌<◌, IfOk, length};
 ghost use Rattle.tl_advice.specs.LinkCounts.{IsCountOf, AreCounted};
 
 use std::alloc::{AllocError, Global};
+use tl_capture::Present;
 use tl_rows::{OpenCounts, tell};
 use tl_topology::{Name, Topo};
-use tl_capture::Present;
 
 /// How much of a link was checked.
 #[derive(Clone, Copy, Debug)]

@@ -8,8 +8,7 @@ use crate::sentences::{Before, Home, fragment_cause, line_of, stop_cause};
 use std::alloc::{AllocError, Global};
 use tl_beats::FragmentFault;
 use tl_edits::{Edit, EditFault, Log};
-use tl_run::{Asked, asked_by};
-use tl_script::{Command, ScriptFault, Spot, Visitor, visit_all};
+use tl_script::{Asked, Command, ScriptFault, Spot, Visitor, asked_by, visit_all};
 use tl_show::{first_line, line_at};
 use tl_topology::Topo;
 

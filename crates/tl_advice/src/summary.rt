@@ -3,7 +3,7 @@
 ghost use Rattle.std.specs.Prelude.{◌≡◌, ◌++◌, IfOk, OnOk, option_map, string_bytes, take};
 ghost use Rattle.std.specs.List.{flat_map};
 ghost use Rattle.tl_edits.specs.Log.{inputs_after};
-ghost use Rattle.tl_run.specs.Audits.{edits_of};
+ghost use Rattle.tl_script.specs.Audits.{edits_of};
 ghost use Rattle.tl_advice.specs.Tallies.{AreLinked};
 ghost use Rattle.tl_advice.specs.Summaries.{open_part_of, asked_of, given_of, link_line_of, are_empty, links_text_of, place_of, tally_line_of, rules_text_of, IsBody, IsSummary, edits_line_of, report_line_of, IsReported, IsLinkedReport, IsRunSummary};
 
@@ -11,10 +11,10 @@ use crate::links::{LinkCount, link_counts};
 use crate::tallies::{Tally, all_tallies};
 use std::alloc::{AllocError, Global};
 use tl_beats::Row;
+use tl_check::Report;
 use tl_edits::{Inputs, Log};
 use tl_rows::OpenCounts;
-use tl_check::Report;
-use tl_run::{AuditFault, log_of};
+use tl_script::{AuditFault, log_of};
 use tl_tables::rule_text;
 use tl_topology::Topo;
 

@@ -12,12 +12,12 @@ ghost use Rattle.tl_board.specs.TouchedWatches.{edited_monitor, AreTouched};
 use crate::tally::Tally;
 use crate::touched_watches::{edited_link, keys_with, known, watchers, windows_in};
 use crate::watches::Watches;
+use crate::{Touched, grow, keys_of, prune, touch_each, touches_of};
 use std::alloc::{AllocError, Global};
 use std::sync::Arc;
 use tl_beats::Watch;
 use tl_edits::{Change, Edit, EditFault};
 use tl_results::PieceKey;
-use crate::{Touched, grow, keys_of, prune, touch_each, touches_of};
 
 impl Watches {
     /// Accepts an edit and answers its number, or refuses it: the first cause of `EditFault`, which stands then, or Memory where

@@ -7,12 +7,12 @@ ghost use Rattle.tl_results.specs.Pieces.{piece_at, entry_for, IsFirstWanted, Ha
 ghost use Rattle.tl_check.specs.States.{SameSpan};
 ghost use Rattle.tl_board.specs.Spans.{standing, IsSpanOf, ChecksFirst};
 
+use crate::Rows;
 use crate::spans::Spans;
 use crate::windows::keep;
 use std::alloc::{AllocError, Global};
-use tl_results::{PieceKey, Stored};
 use tl_check::SpanState;
-use crate::Rows;
+use tl_results::{PieceKey, Stored};
 
 impl Spans {
     /// Checks the first window that is wanted, from what the windows of its manager before it leave, and answers which it was; its

@@ -7,9 +7,9 @@ ghost use Rattle.tl_definitions.specs.Managers.{declared_links};
 ghost use Rattle.tl_board.specs.Tasks.{HasNumbers, IsCurrent};
 
 use crate::task::SpanTask;
+use tl_capture::Present;
 use tl_state::Exact;
 use tl_topology::{LinkDecl, Region, RegionMap, Topo};
-use tl_capture::Present;
 
 /// Whether two links are declared alike.
 fn is_link(own: &LinkDecl, other: &LinkDecl) -> bool

@@ -14,8 +14,8 @@ use crate::spans::Spans;
 use crate::touched::Touched;
 use crate::windows::{grow, keys_of, prune, touch_each};
 use std::alloc::{AllocError, Global};
-use tl_edits::Edit;
 use tl_client_rules::clients_of;
+use tl_edits::Edit;
 
 impl Spans {
     /// Accepts an edit that no cause refuses, and that touches exactly this, and answers its number. The windows that it touches

@@ -15,10 +15,10 @@ ghost use Rattle.tl_board.specs.WatchTasks.{IsWatchPassOf};
 use crate::tally::Tally;
 use crate::watch_task::{WatchTask, WatchWindow};
 use crate::watches::Watches;
+use crate::{Rows, keep};
 use std::alloc::{AllocError, Global};
 use tl_monitor::Monitor;
 use tl_results::{PieceKey, Stored};
-use crate::{Rows, keep};
 
 impl Watches {
     /// The first window of a monitor that is wanted and has no live ticket.

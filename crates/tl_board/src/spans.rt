@@ -12,15 +12,15 @@ ghost use Rattle.tl_check.specs.States.{SameSpan};
 ghost use Rattle.tl_board.specs.Rows.{all_rows};
 ghost use Rattle.tl_board.specs.Spans.{standing, HasManagers, IsSound};
 
+use crate::Rows;
 use std::alloc::{AllocError, Global};
 use std::marker::Model;
 use std::sync::Arc;
 use tl_beats::Row;
+use tl_check::SpanState;
 use tl_edits::Log;
 use tl_results::PieceMap;
 use tl_state::Same;
-use tl_check::SpanState;
-use crate::Rows;
 use tl_topology::Topo;
 
 /// A log of edits, and the windows of all managers: of each window in which a manager has a beat its result, from when it was

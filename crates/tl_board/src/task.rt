@@ -14,11 +14,11 @@ use crate::rows::Rows;
 use std::alloc::{AllocError, Global};
 use std::marker::Model;
 use std::sync::Arc;
+use tl_capture::{Present, WindowBeats};
+use tl_check::{SpanState, check_window};
 use tl_client_rules::clients_of;
 use tl_results::Stored;
-use tl_check::{SpanState, check_window};
 use tl_topology::{RegionMap, Topo};
-use tl_capture::{Present, WindowBeats};
 
 /// A window of a manager that is to be checked, with all that its check asks: it needs nothing else, and may go to another
 /// thread. The state that it is checked from may be a guess: the result is true of it whatever it is.

@@ -13,10 +13,10 @@ ghost use Rattle.tl_board.specs.Tasks.{IsPassOf};
 
 use crate::spans::Spans;
 use crate::windows::keep;
-use std::alloc::{AllocError, Global};
-use tl_results::{PieceKey, Stored};
-use tl_check::SpanState;
 use crate::{Rows, SpanTask};
+use std::alloc::{AllocError, Global};
+use tl_check::SpanState;
+use tl_results::{PieceKey, Stored};
 
 impl Spans {
     /// The first window that is wanted and has no live ticket.

@@ -9,9 +9,9 @@ ghost use Rattle.tl_board.specs.Touched.{IsLinkOf, IsTouched};
 use std::alloc::{AllocError, Global};
 use std::sync::Arc;
 use tl_beats::Fragment;
+use tl_capture::windows_of;
 use tl_edits::{Change, Edit, Inputs};
 use tl_topology::{Name, Topo};
-use tl_capture::windows_of;
 
 /// What an edit touches of the windows of managers.
 #[derive(Drop)]

@@ -12,11 +12,11 @@ ghost use Rattle.tl_board.specs.Touched.{IsTouched};
 ghost use Rattle.tl_capture.specs.Windows.{HasBeat};
 ghost use Rattle.tl_board.specs.TouchedWatches.{edited_link, names_link, watchers};
 
+use crate::{Touched, keys_of};
 use std::alloc::{AllocError, Global};
 use tl_beats::Watch;
 use tl_edits::{Change, Edit, Inputs};
 use tl_results::PieceKey;
-use crate::{Touched, keys_of};
 use tl_topology::Topo;
 
 /// The link whose fragments an edit changes.

@@ -15,12 +15,12 @@ ghost use Rattle.tl_board.specs.Watches.{IsOfWatch, IsAmidWindow, ChecksWatch};
 
 use crate::tally::Tally;
 use crate::watches::Watches;
+use crate::{Rows, gathered, keep};
 use std::alloc::{AllocError, Global};
 use tl_beats::Row;
+use tl_check::sort_rows;
 use tl_monitor::{Monitor, Watched};
 use tl_results::{PieceKey, Stored};
-use tl_check::sort_rows;
-use crate::{Rows, gathered, keep};
 
 impl Watches {
     /// Checks a window of a monitor, which is given, from what the windows of the monitor before it leave; the window's ticket

@@ -8,17 +8,17 @@ ghost use Rattle.tl_check.specs.Captured.{watched_beats};
 ghost use Rattle.tl_board.specs.WatchTasks.{AreWatched, IsAmid, IsTallyOf, IsWatchWindow, IsWatchTask, IsWatchPassOf, IsWatchCurrent, SameButTally, LeavesTally, with_monitor, without_monitor};
 ghost use Rattle.tl_capture.specs.Windows.{beats_in};
 
+use crate::Rows;
 use crate::same_watch::is_watch;
 use crate::tally::Tally;
 use std::alloc::{AllocError, Global};
 use std::marker::Model;
 use std::sync::Arc;
 use tl_beats::Watch;
+use tl_capture::{Present, WindowBeats};
 use tl_monitor::{Monitor, Watched, monitor_check};
 use tl_results::Stored;
-use crate::Rows;
 use tl_topology::Topo;
-use tl_capture::{Present, WindowBeats};
 
 /// A window of a monitor with all that its check asks but the monitor itself, which comes last, when no memory is asked any more.
 /// The tally that it is checked from may be a guess: the result is true of it whatever it is.

@@ -12,10 +12,10 @@ ghost use Rattle.tl_board.specs.Windows.{key_of};
 ghost use Rattle.tl_board.specs.Tasks.{IsPassOf};
 
 use crate::watches::Watches;
-use std::alloc::{AllocError, Global};
-use tl_results::{PieceKey, Stored};
-use tl_check::SpanState;
 use crate::{Rows, SpanTask};
+use std::alloc::{AllocError, Global};
+use tl_check::SpanState;
+use tl_results::{PieceKey, Stored};
 
 impl Watches {
     /// The first window of a manager that is wanted and has no live ticket.

@@ -11,12 +11,12 @@ ghost use Rattle.tl_board.specs.Spans.{standing};
 ghost use Rattle.tl_capture.specs.Present.{IsPresent};
 
 use crate::tally::Tally;
+use crate::{Rows, Spans};
 use std::alloc::{AllocError, Global};
 use std::marker::Model;
-use tl_results::{PieceKey, PieceMap};
-use crate::{Rows, Spans};
-use tl_topology::Topo;
 use tl_capture::Present;
+use tl_results::{PieceKey, PieceMap};
+use tl_topology::Topo;
 
 /// A log of edits with the windows of all managers, and the windows of the monitors that are attached: of each window in which a
 /// monitor's link has a beat its result, from when it was checked until an edit touches it. The owner of a monitor's windows is

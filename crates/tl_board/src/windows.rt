@@ -11,9 +11,9 @@ ghost use Rattle.tl_capture.specs.Windows.{HasBeat};
 ghost use Rattle.tl_definitions.specs.Positions.{beats_of_all};
 
 use std::alloc::{AllocError, Global};
+use tl_capture::Present;
 use tl_results::{PieceKey, PieceMap, Stored};
 use tl_state::Same;
-use tl_capture::Present;
 
 /// The keys with one of these owners and one of these windows. AllocError where memory is refused.
 pub fn keys_of(alloc: Global, owners: &[u32], windows: &[u64]) -> Result<Vec<PieceKey>, AllocError>

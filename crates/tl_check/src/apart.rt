@@ -17,9 +17,9 @@ use crate::requests::Requests;
 use crate::rows::add_rows;
 use std::alloc::{AllocError, Global};
 use tl_beats::{Placed, Row};
+use tl_capture::Merged;
 use tl_link_rules::{BurstState, check_head, check_later};
 use tl_topology::{LinkDecl, RegionMap};
-use tl_capture::Merged;
 
 /// What the beats of the link leave for those that come: the bursts that miss beats, and the requests in flight.
 #[derive(Drop)]

@@ -10,12 +10,12 @@ ghost use Rattle.tl_check.specs.Captured.{areas_at, captures_with};
 ghost use Rattle.tl_check.specs.Found.{AreFound};
 
 use crate::watching::watches_rows;
+use crate::{SpanState, check_window, sort_rows};
 use std::alloc::{AllocError, Global};
 use tl_beats::{Row, Watch};
-use tl_client_rules::clients_of;
-use crate::{SpanState, check_window, sort_rows};
-use tl_topology::{RegionMap, Topo};
 use tl_capture::Present;
+use tl_client_rules::clients_of;
+use tl_topology::{RegionMap, Topo};
 
 /// The report of one manager with its regions, from its first beat on.
 fn manager_rows(

@@ -13,13 +13,13 @@ ghost use Rattle.tl_check.specs.Apart.{rows_of_links};
 ghost use Rattle.tl_check.specs.Managers.{has_caches, cached_links, plain_links, IsPlain, AreMerged};
 
 use crate::apart::add_link;
+use crate::{SpanState, check_window};
 use std::alloc::{AllocError, Global};
 use tl_beats::Row;
+use tl_capture::Present;
 use tl_client_rules::clients_of;
-use crate::{SpanState, check_window};
 use tl_tables::Level;
 use tl_topology::{RegionMap, Topo};
-use tl_capture::Present;
 
 /// Whether a link has caches.
 fn has_caches(topo: &Topo, link: u16) -> bool

@@ -12,9 +12,9 @@ use crate::managers::managers_rows;
 use crate::sorted::sort_rows;
 use std::alloc::{AllocError, Global};
 use tl_beats::Row;
+use tl_capture::Present;
 use tl_edits::{Inputs, Log, PastFault};
 use tl_topology::{RegionMap, Topo};
-use tl_capture::Present;
 
 /// The report of fragments that are present on the links of a topology, with the regions of its managers, by number, and without
 /// monitors. AllocError where memory is refused.

@@ -18,8 +18,8 @@ use crate::links::LinkState;
 use crate::rows::add_rows;
 use std::alloc::{AllocError, Global};
 use tl_beats::{Placed, Row};
-use tl_link_rules::{check_head, check_later};
 use tl_client_rules::ManagerState;
+use tl_link_rules::{check_head, check_later};
 use tl_state::Same;
 use tl_topology::{LinkDecl, RegionMap, Topo};
 

@@ -15,8 +15,8 @@ use crate::sorted::sort_rows;
 use crate::state::SpanState;
 use std::alloc::{AllocError, Global};
 use tl_beats::Row;
-use tl_topology::{LinkDecl, RegionMap, Topo};
 use tl_capture::Merged;
+use tl_topology::{LinkDecl, RegionMap, Topo};
 
 /// The links of a topology, by number.
 fn links_of(alloc: Global, topo: &Topo) -> Result<Vec<LinkDecl>, AllocError>

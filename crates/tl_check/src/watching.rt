@@ -11,9 +11,9 @@ ghost use Rattle.tl_check.specs.Found.{AreFound};
 use std::alloc::{AllocError, Global};
 use std::sync::{Arc, OnceLock};
 use tl_beats::{Placed, Row, Watch};
+use tl_capture::Present;
 use tl_monitor::{After, Budget, Monitor, Watched, monitor_check};
 use tl_topology::Topo;
-use tl_capture::Present;
 
 /// The report of a monitor on the beats of its link, from the first on.
 fn monitor_rows<M: Monitor>(

@@ -10,12 +10,12 @@ use std::alloc::{AllocError, Global};
 use std::rt::Files;
 use std::sync::{Arc, OnceLock};
 use tl_beats::Watch;
+use tl_check::Report;
 use tl_commands::{Ending, Fault, topology_of};
 use tl_edits::Log;
 use tl_options::How;
-use tl_check::Report;
-use tl_run::{ComingFault, Maker, Making, Outcome, carry_out_coming, run_nothing};
-use tl_show::Showing;
+use tl_run::{ComingFault, Maker, Making, Showing, carry_out_coming, run_nothing};
+use tl_script::Outcome;
 use tl_text::{ByteIn, ByteOut, ReadFailed, TextFault};
 use tl_topology::Topo;
 

@@ -12,9 +12,13 @@ use std::rt::Files;
 use std::sync::Wait;
 use std::thread::Threads;
 use tl_advice::{Look, More};
-use tl_commands::{Denial, Ending, Fault, Past, Suspect, Written, audit_of_files, input_sentence, input_sentences, once_of_files, once_sentence, report_of, run_sentences, script_sentence, stream_of_files, stream_sentence};
+use tl_commands::{
+    Denial, Ending, Fault, Past, Suspect, Written, audit_of_files, input_sentence, input_sentences,
+    once_of_files, once_sentence, report_of, run_sentences, script_sentence, stream_of_files,
+    stream_sentence,
+};
 use tl_options::{Command, Told, not_utf8, read_words, titles};
-use tl_run::Outcome;
+use tl_script::Outcome;
 use tl_text::{ByteIn, ByteOut, read_text, write_all};
 
 /// The most bytes of standard input.

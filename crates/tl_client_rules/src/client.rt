@@ -17,7 +17,10 @@ use std::alloc::{AllocError, Global};
 use tl_beats::{Beat, Request};
 use tl_link_rules::{OpenTable, RuleList};
 use tl_state::Same;
-use tl_tables::{Chan, Op, Perm, Rule, cap_of, from_of, is_above, is_acquire, is_grant, is_probe, is_probe_ack, is_release, is_release_ack, op_of, to_of};
+use tl_tables::{
+    Chan, Op, Perm, Rule, cap_of, from_of, is_above, is_acquire, is_grant, is_probe, is_probe_ack,
+    is_release, is_release_ack, op_of, to_of,
+};
 use tl_topology::LinkDecl;
 
 /// What one client, on its link, can hold of each block, and what is open on it. [TileLink 1.8: permission transitions]

@@ -23,10 +23,10 @@ ghost use Rattle.tl_client_rules.specs.declared.client.ClientState.{ClientState}
 ghost use Rattle.tl_client_rules.specs.Manager.{SameManager, AreSettled};
 
 use crate::clients::Clients;
+use crate::{ClientState, block_of, claim, granted_block};
 use std::alloc::{AllocError, Global};
 use tl_beats::{Beat, Request};
 use tl_link_rules::RuleList;
-use crate::{ClientState, block_of, claim, granted_block};
 use tl_state::Same;
 use tl_tables::{Op, Perm, Rule, is_grant, is_probe, op_of};
 use tl_topology::{LinkDecl, Topo};

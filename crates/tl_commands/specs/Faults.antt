@@ -9,8 +9,8 @@ use Rattle.tl_text.specs.declared.input.TextFault.{TextFault}
 use Rattle.tl_text.specs.declared.input.TextFault.TheVariants as text
 use Rattle.tl_check.specs.declared.once.OnceFault.{OnceFault}
 use Rattle.tl_check.specs.declared.once.OnceFault.TheVariants as once
-use Rattle.tl_run.specs.Audits.{audit_code_of, audit_number_of}
-use Rattle.tl_run.specs.declared.audit.AuditFault.{AuditFault}
+use Rattle.tl_script.specs.Audits.{audit_code_of, audit_number_of}
+use Rattle.tl_script.specs.declared.audit.AuditFault.{AuditFault}
 use Rattle.tl_commands.specs.declared.fault.Fault.{Fault}
 
 abbrev pub of_topology : TopoFault → Fault

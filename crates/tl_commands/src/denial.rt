@@ -7,8 +7,7 @@ use std::sync::Arc;
 use tl_beats::Fragment;
 use tl_edits::Inputs;
 use tl_options::Deny;
-use tl_run::{AuditFault, log_of};
-use tl_script::{Command, Spot, Visitor, visit_all};
+use tl_script::{AuditFault, Command, Spot, Visitor, log_of, visit_all};
 use tl_topology::Topo;
 
 /// The most reports of a script; a further one is refused.

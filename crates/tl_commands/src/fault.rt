@@ -6,7 +6,7 @@ use std::alloc::{AllocError, AllocFailed};
 use std::fmt;
 use tl_beats::FragmentFault;
 use tl_check::OnceFault;
-use tl_run::AuditFault;
+use tl_script::AuditFault;
 use tl_stream::TellFault;
 use tl_text::{TextFault, WriteFault};
 use tl_topology::TopoFault;

@@ -10,7 +10,7 @@ use std::sync::Arc;
 use std::{fs, io};
 use tl_advice::Role;
 use tl_beats::{Fragment, read_fragment};
-use tl_run::read_script;
+use tl_script::read_script;
 use tl_text::{CountedReader, TextFault, read_text};
 use tl_topology::{Topo, TopoFault, read_topo};
 

@@ -2,7 +2,7 @@
 
 use std::alloc::Global;
 use tl_edits::{Inputs, Log};
-use tl_run::{AuditFault, log_of};
+use tl_script::{AuditFault, log_of};
 use tl_topology::Topo;
 
 /// What the first so many edits of a log leave.

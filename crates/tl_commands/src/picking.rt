@@ -11,11 +11,11 @@ use std::rt::Files;
 use std::sync::Arc;
 use tl_advice::report_summary;
 use tl_beats::{Fragment, Row};
-use tl_show::{Title, print_rows};
+use tl_check::{all_added, scratch};
 use tl_edits::Inputs;
 use tl_options::{How, View};
-use tl_check::{all_added, scratch};
 use tl_rows::{Format, Pick, Waiver, WaiverFault, read_waivers};
+use tl_show::{Title, print_rows};
 use tl_text::{ByteOut, CountedReader, TextFault, read_text, write_all};
 use tl_topology::{Name, Topo};
 

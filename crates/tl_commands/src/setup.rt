@@ -9,8 +9,7 @@ use std::alloc::{AllocError, Global};
 use std::rt::Files;
 use tl_beats::Watch;
 use tl_edits::{Edit, EditFault, Log};
-use tl_run::{Asked, asked_by, refusal_line};
-use tl_script::{Command, ScriptFault, Spot, Visitor, visit_all};
+use tl_script::{Asked, Command, ScriptFault, Spot, Visitor, asked_by, refusal_line, visit_all};
 use tl_topology::{RegionMap, Topo};
 
 /// The code of a command that is none, or that a setup may not have.

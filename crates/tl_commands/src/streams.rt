@@ -12,10 +12,13 @@ use std::alloc::{AllocError, Global};
 use std::rt::Files;
 use std::sync::Arc;
 use tl_beats::Watch;
-use tl_options::StreamOptions;
 use tl_check::Plain;
+use tl_options::StreamOptions;
 use tl_show::Shown;
-use tl_stream::{RowForm, Source, Stream, StreamStop, TellFault, Teller, stream_end, stream_input, stream_sources};
+use tl_stream::{
+    RowForm, Source, Stream, StreamStop, TellFault, Teller, stream_end, stream_input,
+    stream_sources,
+};
 use tl_text::{ByteIn, ByteOut, CountedReader, write_all};
 
 /// An input of files.

@@ -6,11 +6,14 @@ use crate::paths::{files_of, list_of};
 use std::alloc::Global;
 use std::rt::Files;
 use std::sync::Arc;
-use tl_advice::{Advice, Cause, Home, Line, Look, Place, Role, Script, Sentence, edit_cause, fragment_cause, kind_of, length_cause, line_at, line_of, script_sentences, topology_cause};
+use tl_advice::{
+    Advice, Cause, Home, Line, Look, Place, Role, Script, Sentence, edit_cause, fragment_cause,
+    kind_of, length_cause, line_at, line_of, script_sentences, topology_cause,
+};
 use tl_beats::{Fragment, FragmentFault, parse_whole_fragment};
 use tl_edits::{Change, Edit, EditFault, Log};
 use tl_options::StreamOptions;
-use tl_run::log_of;
+use tl_script::log_of;
 use tl_topology::{Topo, TopoFault, read_topo};
 
 /// The most refused commands of a script that are told.

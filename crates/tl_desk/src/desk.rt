@@ -14,12 +14,12 @@ ghost use Rattle.tl_desk.specs.Ends.{HaveEnded, AllHaveEnded};
 
 use std::alloc::{AllocError, Global};
 use std::marker::Model;
-use tl_monitor::{Boxes, Monitor, Settlement};
-use tl_edits::Log;
-use tl_check::Report;
-use tl_jobs::Tickets;
-use tl_topology::Topo;
 use tl_board::Watches;
+use tl_check::Report;
+use tl_edits::Log;
+use tl_jobs::Tickets;
+use tl_monitor::{Boxes, Monitor, Settlement};
+use tl_topology::Topo;
 
 /// A log of edits, with the windows of all managers and of all monitors that are attached, these monitors, and all reports that
 /// were published; and the tickets that are out. Each of its reports is that of the edits that it names.

@@ -14,8 +14,8 @@ ghost use Rattle.tl_desk.specs.declared.call.Call.TheVariants as call;
 
 use crate::desk::Desk;
 use std::alloc::Global;
-use tl_monitor::{Boxes, Monitor, Watched};
 use tl_edits::{Change, Edit, EditFault};
+use tl_monitor::{Boxes, Monitor, Watched};
 
 /// What a change does to monitors.
 #[derive(Clone, Copy, Drop)]

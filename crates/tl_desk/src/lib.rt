@@ -20,8 +20,8 @@ pub use call::{Call, Outcome, Start};
 pub use desk::Desk;
 pub use fault::{PublishFault, RecheckFault};
 pub use play::{Reply, Step};
+pub use tl_board::is_watch;
+pub use tl_check::Report;
 pub use tl_jobs::{
     Done, HandIn, Job, ManagerDone, ManagerJob, MonitorDone, MonitorJob, Piece, TakeFault, work,
 };
-pub use tl_check::Report;
-pub use tl_board::is_watch;

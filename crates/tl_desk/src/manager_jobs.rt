@@ -15,10 +15,10 @@ ghost use Rattle.tl_desk.specs.Jobs.{IsLiveAt, IsFresh, Unmarks, Takes, Accepts,
 
 use crate::desk::Desk;
 use std::alloc::Global;
+use tl_board::{Watches, window_key};
 use tl_jobs::{Done, HandIn, ManagerDone, ManagerJob, Piece, TakeFault, Taken};
 use tl_monitor::Monitor;
 use tl_results::PieceKey;
-use tl_board::{Watches, window_key};
 
 /// If a ticket is a window's live one, the window has none any more. Answers whether it was.
 fn unmark(windows: &mut Watches, key: PieceKey, ticket: u64) -> bool

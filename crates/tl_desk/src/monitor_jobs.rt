@@ -19,10 +19,10 @@ ghost use Rattle.tl_desk.specs.Jobs.{IsLiveAtWatch, IsFreshWatch, IsHere, IsFirs
 
 use crate::desk::Desk;
 use std::alloc::Global;
-use tl_monitor::{Boxes, Monitor};
-use tl_jobs::{Done, HandIn, MonitorDone, MonitorJob, Piece, TakeFault, Taken};
-use tl_results::PieceKey;
 use tl_board::{Watches, is_watch, watch_key};
+use tl_jobs::{Done, HandIn, MonitorDone, MonitorJob, Piece, TakeFault, Taken};
+use tl_monitor::{Boxes, Monitor};
+use tl_results::PieceKey;
 
 /// If a ticket is a window's live one, the window has none any more. Answers whether it was.
 fn unmark(windows: &mut Watches, key: PieceKey, ticket: u64) -> bool

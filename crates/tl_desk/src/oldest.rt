@@ -6,10 +6,10 @@ ghost use Rattle.tl_jobs.specs.Tickets.{IsOutFor};
 ghost use Rattle.tl_desk.specs.Jobs.{IsLive, IsLiveAt, IsLiveAtWatch, IsOldestLive};
 
 use crate::desk::Desk;
+use tl_board::Watches;
 use tl_jobs::Piece;
 use tl_monitor::Monitor;
 use tl_results::PieceKey;
-use tl_board::Watches;
 
 /// Whether a ticket is the live one of a window of a manager.
 fn is_live_at(windows: &Watches, key: PieceKey, ticket: u64) -> bool

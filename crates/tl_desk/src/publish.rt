@@ -12,8 +12,8 @@ use crate::desk::Desk;
 use crate::fault::PublishFault;
 use std::alloc::{AllocError, Global};
 use tl_beats::Row;
-use tl_monitor::Monitor;
 use tl_check::Report;
+use tl_monitor::Monitor;
 
 /// As many reports as are published in all.
 const MOST_VERSIONS: usize = 65_536;

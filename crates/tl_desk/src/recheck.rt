@@ -17,9 +17,9 @@ ghost use Rattle.tl_desk.specs.declared.call.Call.TheVariants as call;
 use crate::desk::Desk;
 use crate::fault::RecheckFault;
 use std::alloc::{AllocError, Global};
+use tl_board::Watches;
 use tl_monitor::{Boxes, Monitor};
 use tl_results::PieceKey;
-use tl_board::Watches;
 
 /// Checks a window of a monitor that is here. AllocError where memory is refused: then no window has changed.
 fn check_here<M: Monitor>(

@@ -14,8 +14,8 @@ use std::collections::BTreeMap;
 use std::marker::Model;
 use std::sync::Arc;
 use tl_beats::Watch;
-use tl_topology::{RegionMap, Topo};
 use tl_capture::Present;
+use tl_topology::{RegionMap, Topo};
 
 /// What a report is the report of: a topology, the fragments on its links, the regions of its managers, and the monitors that
 /// are attached. It knows the numbers of monitors that once were attached, too.

@@ -3,11 +3,11 @@
 ghost use Rattle.std.specs.Prelude.{◌≡◌, IfOk, IfErr};
 ghost use Rattle.tl_jobs.specs.Works.{ticket_of, window_of, done_ticket, done_window, job_of, IsChecked, IsDoneFrom, ComesBack};
 
+use crate::Piece;
 use crate::manager::{ManagerDone, ManagerJob, work_manager};
 use crate::monitor::{MonitorDone, MonitorJob, work_monitor};
 use std::alloc::Global;
 use tl_monitor::Monitor;
-use crate::Piece;
 
 /// A window that went out to be checked, with its ticket. It must be spent: by `work`, by its desk, which takes it back, or by
 /// `forfeit`. It can't be let go.

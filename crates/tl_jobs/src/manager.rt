@@ -4,12 +4,12 @@ ghost use Rattle.std.specs.Prelude.{◌≡◌, IfOk, IfErr};
 ghost use Rattle.tl_jobs.specs.Jobs.{piece_of, IsDone};
 ghost use Rattle.tl_results.specs.Marks.{pass_of};
 
+use crate::Piece;
 use std::alloc::Global;
 use std::marker::Model;
-use tl_results::Stored;
-use tl_check::SpanState;
 use tl_board::{Rows, SpanTask};
-use crate::Piece;
+use tl_check::SpanState;
+use tl_results::Stored;
 
 /// A window of a manager that went out to be checked, with its ticket. It must be spent, as a `Job`.
 pub struct ManagerJob {

@@ -4,12 +4,12 @@ ghost use Rattle.std.specs.Prelude.{◌≡◌, IfOk, IfErr};
 ghost use Rattle.tl_jobs.specs.Monitors.{monitor_piece, IsMonitorDone, SameJob};
 ghost use Rattle.tl_results.specs.Marks.{pass_of};
 
+use crate::Piece;
 use std::alloc::Global;
 use std::marker::Model;
+use tl_board::{Rows, Tally, WatchTask};
 use tl_monitor::Monitor;
 use tl_results::Stored;
-use tl_board::{Rows, Tally, WatchTask};
-use crate::Piece;
 
 /// A window of a monitor that went out to be checked with its monitor, and with its ticket. It must be spent, as a `Job`.
 pub struct MonitorJob<M: Monitor> {

@@ -10,12 +10,14 @@ ghost use Rattle.tl_definitions.specs.Rules.{breaks_flow, flow_order};
 ghost use Rattle.tl_definitions.specs.Judging.{request_in, message_in, flow_after};
 ghost use Rattle.tl_link_rules.specs.Flow.{SameFlow};
 
+use crate::RuleList;
 use crate::open_table::OpenTable;
 use std::alloc::{AllocError, Global};
 use tl_beats::{Beat, Request};
-use crate::RuleList;
 use tl_state::Same;
-use tl_tables::{Chan, Op, Rule, is_grant, is_grant_ack, is_release, is_release_ack, op_of, replies};
+use tl_tables::{
+    Chan, Op, Rule, is_grant, is_grant_ack, is_release, is_release_ack, op_of, replies,
+};
 use tl_topology::LinkDecl;
 
 /// What is in flight on one link. [TileLink 1.8: source and sink identifiers]

@@ -8,10 +8,10 @@ ghost use Rattle.tl_monitor.specs.Places.{Here, Out, tuned, limit_of, place_clos
 use crate::away::Away;
 use crate::slot::{Slot, end};
 use crate::watch::limit;
+use crate::{Monitor, Settlement, Watched};
 use std::alloc::{AllocFailed, Global};
 use std::collections::BTreeMap;
 use std::marker::Model;
-use crate::{Monitor, Settlement, Watched};
 
 /// The ticket of a monitor that is lent for a check, which no job has.
 const LENT: u64 = 0;

@@ -6,8 +6,8 @@ ghost use Rattle.tl_monitor.specs.Places.{Here, Out, held_of, away_of, tuned, li
 
 use crate::away::Away;
 use crate::watch::{limit, with_limit};
-use std::marker::Model;
 use crate::{Monitor, Settlement, Watched};
+use std::marker::Model;
 
 /// A monitor that is here, or what is known of one that is out.
 #[derive(Drop)]

@@ -4,7 +4,6 @@ ghost use Rattle.std.specs.Prelude.{◌≡◌, [], ◌∷◌, codes, option_map}
 ghost use Rattle.std.specs.List.{slice_get};
 ghost use Rattle.tl_rows.specs.Words.{chan_text_of, op_text_of, param_text_of};
 
-
 use tl_tables::{Chan, Op};
 
 /// The name of a channel.

@@ -16,7 +16,9 @@ use std::alloc::{AllocError, Global};
 use std::collections::BTreeMap;
 use tl_beats::{Beat, Placed, Request};
 use tl_client_rules::{block_of, claim, granted_block};
-use tl_tables::{Chan, Op, Perm, Rule, is_acquire, is_grant, is_probe, is_probe_ack, is_release, is_release_ack};
+use tl_tables::{
+    Chan, Op, Perm, Rule, is_acquire, is_grant, is_probe, is_probe_ack, is_release, is_release_ack,
+};
 
 /// The openers that are open on one link, and the last messages that set a bound of its client.
 #[derive(Drop)]

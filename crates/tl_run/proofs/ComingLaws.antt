@@ -20,13 +20,14 @@ use Rattle.tl_script.proofs.CommandTexts.{in_starts, spellings_are_read}
 use Rattle.tl_script.proofs.ReadCommands.{IsRead, behind_them, none_read, one_read}
 use Rattle.tl_script.proofs.ScriptLaws.{first_command_then_others}
 use Rattle.tl_stream.specs.Feeds.{all_left}
-use Rattle.tl_run.specs.declared.stop.Outcome.{Outcome}
-use Rattle.tl_run.specs.declared.stop.StopCause.{StopCause}
-use Rattle.tl_run.specs.declared.stop.StopCause.TheVariants as cause
+use Rattle.tl_script.specs.declared.stop.Outcome.{Outcome}
+use Rattle.tl_script.specs.declared.stop.StopCause.{StopCause}
+use Rattle.tl_script.specs.declared.stop.StopCause.TheVariants as cause
 use Rattle.tl_run.specs.Coming.{is_whole, all_watches, IsFirstOf, IsCarriedOut, IsCutOff, HasComeTo, KeepsUp}
-use Rattle.tl_run.specs.Commands.{Asking, asked, attached_by, watches_of}
+use Rattle.tl_script.specs.Asked.{Asking, asked, attached_by, watches_of}
 use Rattle.tl_run.specs.Output.{Progress, start, IsStep, IsOutput, TakesBox, LacksBox}
-use Rattle.tl_run.specs.Stops.{AreSaid, IsSaid, IsFront, IsFrontOf, of_script, last_text}
+use Rattle.tl_run.specs.Stops.{AreSaid, IsSaid, IsFront, IsFrontOf, last_text}
+use Rattle.tl_script.specs.Causes.{of_script}
 use Rattle.tl_run.proofs.LineLaws.{nothing_said, said_written}
 use Rattle.tl_run.proofs.OutputLaws.{output_more}
 use Rattle.tl_run.proofs.RunLaws.{Ran, cut_there, came_to_want, came_to_fault, came_to_end, end_cut, end_written}

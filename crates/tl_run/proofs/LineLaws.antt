@@ -10,12 +10,12 @@ use Rattle.tl_check.specs.Notes.{Tells, IsNoted, is_note, is_unbroken}
 use Rattle.std.specs.Prelude.{codes}
 use Rattle.std.specs.Fmt.{decimal}
 use Rattle.tl_check.specs.Output.{joined}
-use Rattle.tl_run.specs.Output.{edit_text, refused_text, and_number}
+use Rattle.tl_script.specs.Replies.{edit_text, refused_text, and_number}
 use Rattle.tl_check.proofs.NoteLaws.{ends_here, ends_more, joined_ends, digits_unbroken, decimal_unbroken, unbroken_more, plain_line, noted_nil, tells_more, tells_plain}
 use Rattle.tl_run.specs.Stops.{IsSaid, IsFront, AreSaid, IsFrontOf, stop_front, stop_text, last_text}
-use Rattle.tl_run.specs.declared.stop.Stop.{Stop}
-use Rattle.tl_run.specs.declared.stop.StopCause.{StopCause}
-use Rattle.tl_run.specs.declared.stop.StopCause.TheVariants as cause
+use Rattle.tl_script.specs.declared.stop.Stop.{Stop}
+use Rattle.tl_script.specs.declared.stop.StopCause.{StopCause}
+use Rattle.tl_script.specs.declared.stop.StopCause.TheVariants as cause
 
 abbrev Known : Type 0
 Known = Option (List ℕ)
@@ -62,10 +62,6 @@ writes_cut a b front rest f g e (count, (n, le, some)) =
 pub at_error : {A E X : Type 0} (r : Result A E) → X → OnErr r X
 at_error (Ok done) x = tt
 at_error (Err e) x = x
-
-pub when_done : {E X Y : Type 0} (r : Result (Unit {0}) E) → (X → Y) → OnOk r X → OnOk r Y
-when_done (Ok done) f x = f x
-when_done (Err e) f x = tt
 
 pub ok_map : {A E : Type 0} (P Q : A → Type 0) (r : Result A E) → ((x : A) → P x → Q x) → IfOk r P → IfOk r Q
 ok_map P Q (Ok x) f h = f x h

@@ -11,7 +11,7 @@ use Rattle.tl_edits.specs.Edits.{add, replace}
 use Rattle.tl_script.specs.Commands.{monitor_of}
 use Rattle.tl_script.specs.declared.command.Command.{Command}
 use Rattle.tl_script.specs.declared.command.Command.TheVariants as command
-use Rattle.tl_run.specs.Commands.{asked, attached_by, with_fragment}
+use Rattle.tl_script.specs.Asked.{asked, attached_by, with_fragment}
 use Rattle.tl_run.specs.Output.{RunData, supplied}
 
 none_added : (read : Result Frag FragmentFault) → attached_by (with_fragment add read) ≡ []

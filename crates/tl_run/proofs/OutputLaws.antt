@@ -10,9 +10,10 @@ use Rattle.tl_edits.specs.declared.fault.EditFault.{EditFault}
 use Rattle.tl_check.specs.Captured.{captures_after}
 use Rattle.tl_check.specs.Output.{report_bytes}
 use Rattle.tl_script.specs.declared.command.Command.{Command}
-use Rattle.tl_run.specs.Commands.{Asking, an_edit, no_fragment, a_report, asked}
+use Rattle.tl_script.specs.Asked.{Asking, an_edit, no_fragment, a_report, asked}
 use Rattle.tl_desk.specs.Core.{most_versions}
-use Rattle.tl_run.specs.Output.{Progress, IsEdit, IsRenewed, IsPublish, IsStep, IsOutput, OneOutput, RunsKeepEdits, edits_with, accepted}
+use Rattle.tl_run.specs.Output.{Progress, IsEdit, IsRenewed, IsPublish, IsStep, IsOutput, OneOutput, RunsKeepEdits}
+use Rattle.tl_script.specs.Accepted.{edits_with, accepted}
 
 one_edit : (now : Progress) (e : AnEdit) (why : Option EditFault) (one two : List ℕ) (here there : Progress) → IsEdit now e why one here → IsEdit now e why two there → (one ≡ two) × (here ≡ there)
 one_edit now e None one two here there p q = (p.0 ∙ sym q.0, p.1 ∙ sym q.1)

@@ -13,18 +13,20 @@ use Rattle.tl_script.specs.Reading.{command_in}
 use Rattle.tl_script.specs.Scripts.{Script, commands_of, fault_of}
 use Rattle.tl_script.proofs.ReadCommands.{IsRead, none_read, one_read, all_read, fault_read, first_are, few_are}
 use Rattle.tl_beats.specs.declared.watch.Watch.{Watch}
-use Rattle.tl_run.specs.Commands.{asked, attached_by, watches_of}
+use Rattle.tl_script.specs.Asked.{asked, attached_by, watches_of}
 use Rattle.tl_edits.specs.Edits.{AnEdit}
-use Rattle.tl_run.specs.Audits.{IsStopAt}
-use Rattle.tl_run.specs.Output.{Progress, start, IsStep, IsOutput, TakesBox, LacksBox, accepted, edits_with}
+use Rattle.tl_script.specs.Audits.{IsStopAt}
+use Rattle.tl_run.specs.Output.{Progress, start, IsStep, IsOutput, TakesBox, LacksBox}
+use Rattle.tl_script.specs.Accepted.{accepted, edits_with}
 use Rattle.tl_script.specs.Text.{IsCommand}
 use Rattle.tl_script.proofs.CommandTexts.{reads_are_spelled}
 use Rattle.tl_script.specs.declared.fault.ScriptFault.TheVariants as fault
-use Rattle.tl_run.specs.declared.stop.Outcome.{Outcome}
-use Rattle.tl_run.specs.declared.stop.Stop.{Stop}
-use Rattle.tl_run.specs.declared.stop.StopCause.{StopCause}
-use Rattle.tl_run.specs.declared.stop.StopCause.TheVariants as cause
-use Rattle.tl_run.specs.Stops.{HaveBoxes, IsUnboxed, IsSaid, IsFront, AreSaid, IsFrontOf, IsCut, IsCutAs, IsCutBy, IsWritten, IsWrittenAs, HasCome, Stops, StopsFor, commands_before, of_script, last_text}
+use Rattle.tl_script.specs.declared.stop.Outcome.{Outcome}
+use Rattle.tl_script.specs.declared.stop.Stop.{Stop}
+use Rattle.tl_script.specs.declared.stop.StopCause.{StopCause}
+use Rattle.tl_script.specs.declared.stop.StopCause.TheVariants as cause
+use Rattle.tl_run.specs.Stops.{HaveBoxes, IsUnboxed, IsSaid, IsFront, AreSaid, IsFrontOf, IsCut, IsCutAs, IsCutBy, IsWritten, IsWrittenAs, HasCome, Stops, StopsFor, commands_before, last_text}
+use Rattle.tl_script.specs.Causes.{of_script}
 use Rattle.tl_check.specs.Notes.{Tells}
 use Rattle.tl_check.proofs.NoteLaws.{tells_nil, tells_more, put_plain}
 use Rattle.tl_run.proofs.LineLaws.{nothing_said, last_tells}
@@ -264,23 +266,3 @@ plain_cut topo script boxes old new cut = record {
 }
 
 -- ---- the edits of a script
-
-accepted_more : (topo : Topology) (edits : List AnEdit) (cs : List Command) (c : Command) → accepted topo edits (cs ++ c ∷ []) ≡ edits_with topo (accepted topo edits cs) (asked c)
-accepted_more topo edits [] c = refl
-accepted_more topo edits (d ∷ cs) c = accepted_more topo (edits_with topo edits (asked d)) cs c
-
--- The edits of one command more.
-pub more_accepted : (topo now_topo : Topology) (edits now next : List AnEdit) (before : List Command) (c : Command) → now_topo ≡ topo → now ≡ accepted topo edits before → next ≡ edits_with now_topo now (asked c) → next ≡ accepted topo edits (before ++ c ∷ [])
-more_accepted topo now_topo edits now next before c same was then =
-    then ∙ ap (λ t. edits_with t now (asked c)) same ∙ ap (λ es. edits_with topo es (asked c)) was ∙ sym (accepted_more topo edits before c)
-
-none_of : (n : ℕ) (found : Option ScriptFault) → None ≡ option_map (λ f. (let p : ℕ × ScriptFault = (n, f) in p)) found → found ≡ None
-none_of n None e = refl
-none_of n (Some f) e = absurd cc
-
--- how a script ends that was seen whole
-pub seen_whole : (script : List ℕ) → None ≡ fault_of (commands_of script) → (commands_of script).fault ≡ None
-seen_whole script e = none_of (length (commands_of script).commands + 1) (commands_of script).fault e
-
-pub seen_stop : (script : List ℕ) (done : ℕ) (found : ScriptFault) → Some (done + 1, found) ≡ fault_of (commands_of script) → IsStopAt script (record { cause = of_script found; command = done + 1 })
-seen_stop script done found e = (found, sym e, refl)

@@ -16,8 +16,9 @@ use Rattle.tl_check.specs.Output.{ReportData, report_bytes}
 use Rattle.tl_desk.specs.Core.{Core, AllHere, IsNew, AllSettled, latest_of, log_of, standing, most_versions}
 use Rattle.tl_desk.specs.Steps.{Edits, Publishes, RechecksAll, Step}
 use Rattle.tl_desk.specs.declared.call.Call.TheVariants as call
-use Rattle.tl_run.specs.Commands.{an_edit, a_report, attached_in}
-use Rattle.tl_run.specs.Output.{Progress, IsEdit, IsPublish, IsRenewed, IsStep, edit_text, progress_of, refused_text, start}
+use Rattle.tl_script.specs.Asked.{an_edit, a_report, attached_in}
+use Rattle.tl_run.specs.Output.{Progress, IsEdit, IsPublish, IsRenewed, IsStep, progress_of, start}
+use Rattle.tl_script.specs.Replies.{edit_text, refused_text}
 
 -- ---- a run that begins
 

@@ -9,8 +9,8 @@ use Rattle.tl_script.specs.Scripts.{commands_of}
 use Rattle.tl_script.specs.declared.command.Command.{Command}
 use Rattle.tl_script.specs.declared.fault.ScriptFault.{ScriptFault}
 use Rattle.tl_script.specs.declared.fault.ScriptFault.TheVariants as fault
-use Rattle.tl_run.specs.declared.stop.Outcome.{Outcome}
-use Rattle.tl_run.specs.Commands.{watches_of}
+use Rattle.tl_script.specs.declared.stop.Outcome.{Outcome}
+use Rattle.tl_script.specs.Asked.{watches_of}
 use Rattle.tl_run.specs.Output.{Progress, start, IsOutput}
 use Rattle.tl_run.specs.Stops.{IsWrittenAs, IsCutAs, HasCome}
 

@@ -1,6 +1,4 @@
 pub mod Boxes
-pub mod Commands
 pub mod Output
 pub mod Stops
 pub mod Coming
-pub mod Audits

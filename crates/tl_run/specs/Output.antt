@@ -18,7 +18,7 @@ use Rattle.tl_desk.specs.Core.{Core, AreLinked, log_of, latest_of, most_versions
 use Rattle.tl_edits.specs.declared.fault.EditFault.TheVariants as edit_fault
 use Rattle.tl_run.specs.declared.answer.Answer.{Answer}
 use Rattle.tl_run.specs.declared.answer.Answer.TheVariants as answer
-use Rattle.tl_run.specs.Commands.{Asking, an_edit, no_fragment, a_report, asked, attached_by}
+use Rattle.tl_script.specs.Asked.{Asking, an_edit, no_fragment, a_report, asked, attached_by}
 
 -- What a run has come to: the edits that were accepted, how many reports were published, and the rows of the last one.
 pub record Progress : Type 0 where
@@ -38,18 +38,6 @@ start = record { edits = []; reports = 0; rows = [] }
 -- what a run has come to whose desk is this
 abbrev pub progress_of : Core → Progress
 progress_of core = record { edits = (log_of core).edits; reports = length core.reports; rows = option_map_or (λ (r : ReportData). r.rows) (latest_of core.reports) [] }
-
--- the edit's number
-unfoldable pub edit_text : ℕ → List ℕ
-edit_text number = joined (codes "edit " ∷ decimal number ∷ newline ∷ [])
-
-abbrev pub and_number : Option ℕ → List ℕ
-and_number None = []
-and_number (Some number) = codes " " ++ decimal number
-
--- the number of a refusal, and what it names
-unfoldable pub refused_text : ℕ → Option ℕ → List ℕ
-refused_text code number = joined (codes "refused " ∷ decimal code ∷ and_number number ∷ newline ∷ [])
 
 -- The lines of what came of a command.
 abbrev pub text_of : Topology → Answer → List ℕ
@@ -117,16 +105,6 @@ OneOutput = (topo : Topology) (now : Progress) (commands : List Command) (one tw
     → IsOutput topo now commands one here → IsOutput topo now commands two there → (one ≡ two) × (here ≡ there)
 
 -- ---- the edits alone
-
--- the accepted edits after one command, and after several
-abbrev pub edits_with : Topology → List AnEdit → Asking → List AnEdit
-edits_with topo edits (an_edit e) = option_map_or (λ why. edits) (refusal (length edits) (inputs_after topo edits) e) (edits ++ e ∷ [])
-edits_with topo edits (no_fragment fault) = edits
-edits_with topo edits a_report = edits
-
-abbrev pub accepted : Topology → List AnEdit → List Command → List AnEdit
-accepted topo edits [] = edits
-accepted topo edits (c ∷ cs) = accepted topo (edits_with topo edits (asked c)) cs
 
 -- They are those that a run comes to.
 abbrev pub RunsKeepEdits : Type 0

@@ -15,22 +15,12 @@ use Rattle.tl_run.specs.declared.lines.LineFault.{LineFault}
 use Rattle.tl_run.specs.declared.lines.LineFault.TheVariants as line
 use Rattle.tl_run.specs.declared.session.CommandFault.{CommandFault}
 use Rattle.tl_run.specs.declared.session.CommandFault.TheVariants as command
-use Rattle.tl_run.specs.declared.stop.Outcome.{Outcome}
-use Rattle.tl_run.specs.declared.stop.Stop.{Stop}
-use Rattle.tl_run.specs.declared.stop.StopCause.{StopCause}
-use Rattle.tl_run.specs.declared.stop.StopCause.TheVariants as cause
-use Rattle.tl_run.specs.Commands.{asked, watches_of}
+use Rattle.tl_script.specs.declared.stop.Outcome.{Outcome}
+use Rattle.tl_script.specs.declared.stop.Stop.{Stop}
+use Rattle.tl_script.specs.declared.stop.StopCause.{StopCause}
+use Rattle.tl_script.specs.declared.stop.StopCause.TheVariants as cause
+use Rattle.tl_script.specs.Asked.{asked, watches_of}
 use Rattle.tl_run.specs.Output.{Progress, RunData, start, IsOutput, LacksBox}
-
-abbrev pub code_of : StopCause → ℕ
-code_of cause.Memory = 20
-code_of cause.BadCommand = 41
-code_of cause.Truncated = 42
-code_of cause.WrongBox = 36
-
-abbrev pub of_script : ScriptFault → StopCause
-of_script fault.BadCommand = cause.BadCommand
-of_script fault.Truncated = cause.Truncated
 
 -- why a command has no lines
 abbrev pub of_command : CommandFault → LineFault

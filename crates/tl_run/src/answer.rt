@@ -1,11 +1,13 @@
 //! What comes of a command, and its lines.
 
 ghost use Rattle.std.specs.Prelude.{◌≡◌, IfOk, string_bytes};
-ghost use Rattle.tl_run.specs.Output.{edit_text, refused_text, text_of, IsLinked, IsAnswerTo};
+ghost use Rattle.tl_script.specs.Replies.{edit_text, refused_text};
+ghost use Rattle.tl_run.specs.Output.{text_of, IsLinked, IsAnswerTo};
 
 use std::alloc::{AllocError, Global};
-use tl_edits::EditFault;
 use tl_check::{Report, report_text};
+use tl_edits::EditFault;
+use tl_script::{edit_line, refusal_line};
 use tl_topology::Topo;
 
 /// What comes of a command.
@@ -29,25 +31,6 @@ impl Answer {
             Err(EditFault::Memory) => Err(AllocError),
             Err(fault) => Ok(Answer::Refused(fault.code(), fault.number())),
         }
-    }
-}
-
-/// The line of an edit of this number. AllocError where memory is refused.
-#[tactic(auto, unfolding(crate::specs::Output::edit_text))]
-pub fn edit_line(alloc: Global, number: u64) -> Result<String, AllocError>
-    ensures { IfOk result (λ line. string_bytes line ≡ edit_text number) }
-{
-    format!(in alloc; "edit {number}\n")
-}
-
-/// The line of a refusal of this code, with the number that it names. AllocError where memory is refused.
-#[tactic(auto, unfolding(crate::specs::Output::refused_text))]
-pub fn refusal_line(alloc: Global, code: u8, number: Option<u32>) -> Result<String, AllocError>
-    ensures { IfOk result (λ line. string_bytes line ≡ refused_text code number) }
-{
-    match number {
-        Some(number) => format!(in alloc; "refused {code} {number}\n"),
-        None => format!(in alloc; "refused {code}\n"),
     }
 }
 

@@ -7,7 +7,7 @@ ghost use Rattle.tl_script.specs.Reading.{command_in};
 ghost use Rattle.tl_script.specs.Text.{IsCommand};
 ghost use Rattle.tl_stream.specs.Feeds.{all_left};
 ghost use Rattle.tl_run.specs.Coming.{is_whole, IsCarriedOut, IsCutOff, IsFirstOf, HasComeTo, KeepsUp};
-ghost use Rattle.tl_run.specs.Commands.{asked};
+ghost use Rattle.tl_script.specs.Asked.{asked};
 ghost use Rattle.tl_run.specs.Output.{start, supplied, Advances};
 ghost use Rattle.tl_run.specs.Stops.{AreSaid, IsFrontOf};
 ghost use Rattle.tl_run.specs.declared.coming.ComingFault.TheVariants.{WriteFault as Unwritten};
@@ -15,10 +15,9 @@ ghost use Rattle.tl_run.specs.declared.coming.ComingFault.TheVariants.{WriteFaul
 use crate::lines::{LineFault, write_end, write_gathered};
 use crate::run::{last_notes, run_command};
 use crate::runner::Runner;
-use crate::stop::{Outcome, Stop, StopCause};
 use std::alloc::Global;
 use thiserror::Error;
-use tl_script::{Command, ScriptFault, read_command};
+use tl_script::{Command, Outcome, ScriptFault, Stop, StopCause, read_command};
 use tl_stream::Ahead;
 use tl_text::{ByteIn, ByteOut, TextFault, WriteFault};
 

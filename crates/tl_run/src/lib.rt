@@ -2,8 +2,6 @@
 #![tactic(auto)]
 
 mod answer;
-mod asked;
-mod audit;
 mod boxes;
 mod coming;
 pub mod laws;
@@ -12,15 +10,13 @@ mod making;
 mod run;
 mod runner;
 mod session;
-mod stop;
+mod showing;
 
-pub use answer::{Answer, answer_text, edit_line, refusal_line};
-pub use asked::{Asked, asked_by, fragment_of};
-pub use audit::{AuditFault, audit_script, audit_script_as, log_of};
+pub use answer::{Answer, answer_text};
 pub use boxes::Boxes;
 pub use coming::{ComingFault, carry_out_coming};
 pub use making::{Maker, Making};
-pub use run::{carry_out, read_script, run_nothing, run_script};
+pub use run::{carry_out, run_nothing, run_script};
 pub use runner::Runner;
 pub use session::{CommandFault, Session};
-pub use stop::{Outcome, Stop, StopCause};
+pub use showing::Showing;

@@ -8,8 +8,8 @@ ghost use Rattle.tl_run.specs.Stops.{IsSaid, IsFront, of_command, stop_front, st
 ghost use Rattle.tl_run.specs.declared.lines.LineFault.TheVariants.{Memory, WriteFault as Unwritten};
 
 use crate::session::CommandFault;
-use crate::stop::{Stop, StopCause};
 use std::alloc::AllocError;
+use tl_script::{Stop, StopCause};
 use tl_text::{ByteOut, Word, WriteFault, write_all, write_words};
 
 /// The most bytes that are gathered before they are written, but for one line.

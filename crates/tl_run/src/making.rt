@@ -5,20 +5,18 @@ ghost use Rattle.std.specs.Option.{option_map_or};
 ghost use Rattle.tl_desk.specs.Core.{AreLinked};
 ghost use Rattle.tl_desk.specs.Ends.{AllHaveEnded};
 ghost use Rattle.tl_script.specs.Text.{IsCommand};
-ghost use Rattle.tl_run.specs.Commands.{asked, asking};
+ghost use Rattle.tl_script.specs.Asked.{asked, asking};
 ghost use Rattle.tl_run.specs.Output.{start};
 
 use crate::answer::{Answer, answer_text};
-use crate::asked::{Asked, asked_by};
 use crate::runner::Runner;
 use crate::session::{CommandFault, Session};
-use crate::stop::StopCause;
 use std::alloc::{AllocError, Global};
 use std::marker::Model;
 use tl_beats::Watch;
-use tl_monitor::{Monitor, Settlement};
 use tl_check::Report;
-use tl_script::Command;
+use tl_monitor::{Monitor, Settlement};
+use tl_script::{Asked, Command, StopCause, asked_by};
 use tl_topology::Topo;
 
 /// What makes monitors.

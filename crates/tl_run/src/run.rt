@@ -8,35 +8,18 @@ ghost use Rattle.tl_check.specs.Notes.{Tells};
 ghost use Rattle.tl_script.specs.Scripts.{commands_of};
 ghost use Rattle.tl_script.specs.Text.{IsCommand};
 ghost use Rattle.tl_run.specs.Boxes.{watches_in};
-ghost use Rattle.tl_run.specs.Commands.{asked};
+ghost use Rattle.tl_script.specs.Asked.{asked};
 ghost use Rattle.tl_run.specs.Output.{start, Advances, LacksBox};
 ghost use Rattle.tl_run.specs.Stops.{AreSaid, IsFrontOf, HasRun, IsWritten, IsWrittenAs, IsCut, IsCutAs};
 
 use crate::lines::{LineFault, put_lines, write_end};
 use crate::runner::Runner;
 use crate::session::Session;
-use crate::stop::{Outcome, Stop, StopCause};
 use std::alloc::Global;
 use tl_monitor::Monitor;
-use tl_script::{Command, read_command};
+use tl_script::{Command, Outcome, Stop, StopCause, read_command};
 use tl_text::{ByteIn, ByteOut, TextFault, WriteFault, read_text};
 use tl_topology::Topo;
-
-/// The most bytes of a script.
-const MOST_SCRIPT: u64 = 67_108_864;
-
-/// Reads the input to its end as a script. TooLong where it has more than 67,108,864 bytes; ReadFault exactly where a read failed;
-/// Memory where memory is refused.
-pub fn read_script<I: ByteIn>(alloc: Global, input: &mut I) -> Result<Vec<u8>, TextFault>
-    requires reads { I.read_count input.old < 2 ^ 63 }
-    requires failures { I.failure_count input.old < 2 ^ 63 }
-    ensures ok { IfOk result (λ script. (length script.items ≤ 67108864) × IfSome (I.remaining input.old) (λ bytes. script.items ≡ bytes)) }
-    ensures too_long { IsErrOf result TextFault.TooLong → IfSome (I.remaining input.old) (λ bytes. 67108864 < length bytes) }
-    ensures failed { IsErrOf result TextFault.ReadFault ↔ (I.failure_count input.old < I.failure_count input.new) }
-    ensures quiet { OnOk result (I.failure_count input.new ≡ I.failure_count input.old) }
-{
-    read_text(alloc, input, MOST_SCRIPT)
-}
 
 /// The lines of one command, before which so many bytes of the script are left, put after those that are gathered. Memory and
 /// WrongBox write nothing.

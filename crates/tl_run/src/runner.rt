@@ -4,16 +4,14 @@ ghost use Rattle.std.specs.Prelude.{◌≡◌, [], Bool, false, IfOk, OnOk, OnEr
 ghost use Rattle.std.specs.Result.{IsErrOf};
 ghost use Rattle.tl_check.specs.Notes.{Tells};
 ghost use Rattle.tl_script.specs.Text.{IsCommand};
-ghost use Rattle.tl_run.specs.Commands.{asked, asking};
+ghost use Rattle.tl_script.specs.Asked.{asked, asking};
 ghost use Rattle.tl_run.specs.Output.{RunData, supplied, text_of, IsLinked, IsStep, TakesBox, LacksBox};
 
 use crate::answer::{Answer, answer_text};
-use crate::asked::{Asked, asked_by};
 use crate::session::{CommandFault, Session};
-use crate::stop::StopCause;
 use std::alloc::{AllocError, Global};
 use tl_monitor::Monitor;
-use tl_script::Command;
+use tl_script::{Asked, Command, StopCause, asked_by};
 use tl_topology::Topo;
 
 /// What carries out commands, one after the other.

@@ -7,21 +7,21 @@ ghost use Rattle.tl_edits.specs.Edits.{plain_change, attach};
 ghost use Rattle.tl_desk.specs.Core.{AreLinked};
 ghost use Rattle.tl_desk.specs.Ends.{AllHaveEnded};
 ghost use Rattle.tl_run.specs.Boxes.{watches_in};
-ghost use Rattle.tl_run.specs.Commands.{asking, an_edit, a_report};
+ghost use Rattle.tl_script.specs.Asked.{asking, an_edit, a_report};
 ghost use Rattle.tl_run.specs.Output.{start, text_of, IsLinked, IsStep, TakesBox, LacksBox};
 ghost use Rattle.tl_run.specs.declared.session.CommandFault.TheVariants.{Memory};
 
 use crate::answer::Answer;
-use crate::asked::Asked;
 use crate::boxes::Boxes;
 use std::alloc::{AllocError, Global};
 use std::marker::Model;
 use thiserror::Error;
 use tl_beats::Watch;
+use tl_check::Report;
 use tl_desk::{Desk, PublishFault, RecheckFault};
 use tl_edits::{Change, EditFault};
 use tl_monitor::{Monitor, Settlement};
-use tl_check::Report;
+use tl_script::Asked;
 use tl_topology::Topo;
 
 /// Why a command has no lines.

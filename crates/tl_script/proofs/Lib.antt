@@ -5,3 +5,4 @@ pub mod ScriptLaws
 pub mod FaultLaws
 pub mod ReadCommands
 pub mod Visits
+pub mod AcceptedLaws

@@ -5,3 +5,8 @@ pub mod Reading
 pub mod Scripts
 pub mod Text
 pub mod Laws
+pub mod Asked
+pub mod Accepted
+pub mod Replies
+pub mod Causes
+pub mod Audits

@@ -2,8 +2,8 @@
 
 use std::alloc::{AllocError, Global};
 use tl_beats::Beat;
-use tl_tables::{Chan, Level, Op, op_of};
 use tl_rows::{chan_text, op_text, param_text};
+use tl_tables::{Chan, Level, Op, op_of};
 
 /// The name of a message, or null.
 fn message_member(alloc: Global, found: Option<Op>) -> Result<String, AllocError> {

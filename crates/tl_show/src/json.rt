@@ -1,13 +1,13 @@
 //! Rows as lines of JSON. All text in them is names of links, messages, params and rules, which JSON has as they are.
 
 use crate::beat::beat_text;
+use crate::survey_beats;
 use std::alloc::{AllocError, Global};
 use tl_beats::{Beat, Placed, Row};
+use tl_capture::Present;
 use tl_rows::{Reason, Told};
-use crate::survey_beats;
 use tl_tables::{Level, rule_text};
 use tl_topology::Topo;
-use tl_capture::Present;
 
 /// How many rows have their reason at most, as with `--show`.
 const MOST_TOLD: usize = 1_000;

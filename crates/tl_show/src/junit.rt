@@ -4,13 +4,13 @@ ghost use Rattle.std.specs.Prelude.{◌<◌, length};
 ghost use Rattle.std.specs.List.{All};
 ghost use Rattle.tl_show.specs.Lines.{IsSoundTold};
 
+use crate::{shown_row, survey_beats};
 use std::alloc::{AllocError, Global};
 use tl_beats::Row;
+use tl_capture::Present;
 use tl_rows::{Pick, RULES, Told, rule_line};
-use crate::{shown_row, survey_beats};
 use tl_tables::{Level, Rule, rule_number, rule_text};
 use tl_topology::Topo;
-use tl_capture::Present;
 
 /// How many rows have their lines at most, as with `--show`.
 const MOST_TOLD: usize = 1_000;

@@ -7,14 +7,14 @@ ghost use Rattle.tl_show.specs.Printed.{text_under, IsPrinted};
 
 use crate::json::json_text;
 use crate::junit::junit_text;
+use crate::{shown_audit, shown_report};
 use std::alloc::{AllocError, Global};
 use tl_beats::Row;
+use tl_capture::Present;
+use tl_check::{Report, audit_text, report_text};
 use tl_edits::Inputs;
 use tl_rows::{Format, Pick};
-use tl_check::{Report, audit_text, report_text};
-use crate::{shown_audit, shown_report};
 use tl_topology::Topo;
-use tl_capture::Present;
 
 /// The first line of a text of rows.
 #[derive(Clone, Copy, Debug, PartialEq, Eq)]

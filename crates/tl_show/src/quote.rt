@@ -29,7 +29,7 @@ fn front_of(bytes: &[u8]) -> &[u8]
 }
 
 /// A line as it can be shown: at most 100 bytes of it, without a carriage return at the end; none with control characters.
-pub(crate) fn quoted(bytes: &[u8]) -> &str
+pub fn quoted(bytes: &[u8]) -> &str
     requires { is_unbroken bytes.now ≡ true }
     ensures { is_unbroken result.now ≡ true }
 {

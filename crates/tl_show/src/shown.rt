@@ -12,11 +12,11 @@ use crate::lines::told_lines;
 use crate::survey::{Counts, Survey, survey_beats};
 use std::alloc::{AllocError, Global};
 use tl_beats::Row;
-use tl_rows::Told;
+use tl_capture::Present;
 use tl_check::{Report, audit_head, head_text, row_text};
+use tl_rows::Told;
 use tl_tables::rule_number;
 use tl_topology::Topo;
-use tl_capture::Present;
 
 /// How many rows are shown at most.
 const MOST_SHOWN: usize = 1_000;

@@ -6,15 +6,15 @@ ghost use Rattle.tl_beats.specs.Beats.{IsWellFormed};
 ghost use Rattle.tl_check.specs.Notes.{is_unbroken, IsNoted};
 ghost use Rattle.tl_check.specs.Output.{row_text};
 
+use crate::form::{Shown, note};
 use crate::lines::bare_lines;
 use crate::quote::{line_at, quoted};
-use crate::showing::{Shown, note};
 use std::alloc::{AllocError, Global};
 use tl_beats::{FragmentFault, Placed, Row};
+use tl_capture::Present;
 use tl_check::row_text;
 use tl_stream::RowForm;
 use tl_topology::Topo;
-use tl_capture::Present;
 
 /// The beat of a row among the fragments that are kept, if it is there.
 fn beat_of(kept: &Present, row: &Row) -> Option<Placed>

@@ -7,10 +7,10 @@ ghost use Rattle.tl_show.specs.Shown.{told_of_all, IsSurvey};
 
 use std::alloc::{AllocError, Global};
 use tl_beats::Row;
+use tl_capture::Present;
 use tl_client_rules::clients_of;
 use tl_rows::{OpenCounts, Told, tell};
 use tl_topology::Topo;
-use tl_capture::Present;
 
 /// How much was checked, and what is open after the last beat.
 #[derive(Clone, Copy, Debug, PartialEq)]

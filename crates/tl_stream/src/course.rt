@@ -6,10 +6,10 @@ ghost use Rattle.tl_stream.specs.Courses.{IsLost, IsNewCourse, IsRunning, Judged
 
 use std::alloc::{AllocError, Global};
 use tl_beats::Row;
-use tl_client_rules::clients_of;
-use tl_check::{SpanState, go_on};
-use tl_topology::{RegionMap, Topo};
 use tl_capture::Present;
+use tl_check::{SpanState, go_on};
+use tl_client_rules::clients_of;
+use tl_topology::{RegionMap, Topo};
 
 /// What the beats of a manager leave up to a cycle.
 #[derive(Drop)]

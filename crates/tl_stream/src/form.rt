@@ -7,9 +7,9 @@ ghost use Rattle.tl_check.specs.Output.{row_text};
 
 use std::alloc::{AllocError, Global};
 use tl_beats::{FragmentFault, Row};
+use tl_capture::Present;
 use tl_check::{Plain, listed};
 use tl_topology::Topo;
-use tl_capture::Present;
 
 /// How the rows of a stream are written: their lines alone, or with notes.
 pub trait RowForm {

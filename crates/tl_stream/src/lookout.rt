@@ -12,8 +12,8 @@ ghost use Rattle.tl_stream.specs.Lookouts.{IsLookedOut};
 use std::alloc::{AllocError, Global};
 use std::sync::{Arc, OnceLock};
 use tl_beats::{Fragment, Placed, Row, Watch};
-use tl_monitor::{After, Budget, Checked, Monitor, Watched, monitor_check};
 use tl_capture::Present;
+use tl_monitor::{After, Budget, Checked, Monitor, Watched, monitor_check};
 
 /// A watch with the number of its monitor, and the tally of the beats that came.
 #[derive(Clone, Copy, Debug, PartialEq, Eq)]

@@ -21,8 +21,8 @@ use std::alloc::{AllocError, Global};
 use std::marker::Model;
 use std::sync::Arc;
 use tl_beats::{Fragment, Row};
-use tl_topology::{RegionMap, Topo};
 use tl_capture::Present;
+use tl_topology::{RegionMap, Topo};
 
 /// The fragments of a capture as they come, those of each link with rising numbers and ranges. It holds those of which a cycle is not
 /// complete on all links of their manager, and of all others what they leave.

@@ -11,9 +11,9 @@ use std::alloc::{AllocError, AllocFailed, Global};
 use std::sync::Arc;
 use thiserror::Error;
 use tl_beats::{Fragment, FragmentFault, Row, Watch};
+use tl_capture::Present;
 use tl_text::{ByteOut, WriteFault, write_all};
 use tl_topology::Topo;
-use tl_capture::Present;
 
 /// So many beats that wait for a link without a fragment that this is told.
 const MANY_BEATS: u64 = 1_000_000;

@@ -28,9 +28,10 @@ use Rattle.tl_hall.specs.Telling.{Told, nothing_told, told_more, told_after, tol
 use Rattle.tl_hall.specs.Working.{WorkedOnce}
 use Rattle.tl_hall.proofs.Histories.{only_self, only_trans}
 use Rattle.tl_hall.proofs.Tellings.{histories_tell}
-use Rattle.tl_run.specs.Commands.{Asking, an_edit, a_report}
+use Rattle.tl_script.specs.Asked.{Asking, an_edit, a_report}
 use Rattle.tl_run.specs.declared.answer.Answer.{Answer}
-use Rattle.tl_run.specs.Output.{Progress, RunData, IsEdit, IsPublish, IsStep, IsLinked, IsAnswerTo, edit_text, refused_text, text_of}
+use Rattle.tl_run.specs.Output.{Progress, RunData, IsEdit, IsPublish, IsStep, IsLinked, IsAnswerTo, text_of}
+use Rattle.tl_script.specs.Replies.{edit_text, refused_text}
 use Rattle.tl_workers.specs.Crew.{GoesOn, HasPublished, IsUnpublished, progress_in, seen_in}
 use Rattle.tl_workers.specs.Crew.{Leads as LeadsRun}
 

@@ -13,7 +13,7 @@ use Rattle.tl_hall.specs.History.{OnlyWork}
 use Rattle.tl_hall.specs.Passes.{HallData, PassData, IsSame, Made, NoMore, Looked, IsUnready}
 use Rattle.tl_hall.specs.Telling.{told_by}
 use Rattle.tl_script.specs.Scripts.{commands_of}
-use Rattle.tl_run.specs.declared.stop.Outcome.{Outcome}
+use Rattle.tl_script.specs.declared.stop.Outcome.{Outcome}
 use Rattle.tl_run.specs.Output.{Progress, RunData, start}
 use Rattle.tl_run.specs.Stops.{IsWrittenAs, IsCutAs}
 

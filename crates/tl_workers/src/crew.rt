@@ -6,7 +6,7 @@ ghost use Rattle.tl_edits.specs.Edits.{plain_change, attach};
 ghost use Rattle.tl_desk.specs.declared.call.Call.TheVariants as call;
 ghost use Rattle.tl_hall.specs.Passes.{Made, NoMore, Looked, IsRefused};
 ghost use Rattle.tl_script.specs.Text.{IsCommand};
-ghost use Rattle.tl_run.specs.Commands.{asked, asking, an_edit, a_report};
+ghost use Rattle.tl_script.specs.Asked.{asked, asking, an_edit, a_report};
 ghost use Rattle.tl_run.specs.Output.{text_of, IsLinked, IsStep, TakesBox, LacksBox};
 ghost use Rattle.tl_workers.specs.Crew.{HasPublished, IsUnpublished};
 
@@ -17,13 +17,13 @@ use std::marker::Model;
 use std::sync::Wait;
 use std::thread::yield_now;
 use tl_beats::Watch;
-use tl_desk::PublishFault;
-use tl_hall::{Gate, Hall, Pass};
-use tl_edits::{Change, EditFault};
-use tl_monitor::Monitor;
 use tl_check::Report;
-use tl_run::{Answer, Asked, Boxes, CommandFault, Runner, StopCause, answer_text, asked_by};
-use tl_script::Command;
+use tl_desk::PublishFault;
+use tl_edits::{Change, EditFault};
+use tl_hall::{Gate, Hall, Pass};
+use tl_monitor::Monitor;
+use tl_run::{Answer, Boxes, CommandFault, Runner, answer_text};
+use tl_script::{Asked, Command, StopCause, asked_by};
 use tl_topology::Topo;
 
 /// A run on a hall of its own, in which all others only help: its pass, which is here between two calls, the monitors that no

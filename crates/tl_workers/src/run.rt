@@ -15,12 +15,12 @@ use std::alloc::{AllocError, Global};
 use std::marker::Model;
 use std::sync::Wait;
 use std::thread::{Threads, join};
-use tl_hall::{Gate, Hall, Helper, Pass};
-use tl_edits::Log;
-use tl_monitor::Monitor;
 use tl_check::Report;
-use tl_run::{Boxes, Outcome, Runner, Session, carry_out, run_nothing};
-use tl_show::Showing;
+use tl_edits::Log;
+use tl_hall::{Gate, Hall, Helper, Pass};
+use tl_monitor::Monitor;
+use tl_run::{Boxes, Runner, Session, Showing, carry_out, run_nothing};
+use tl_script::Outcome;
 use tl_text::{ByteOut, WriteFault};
 use tl_topology::Topo;
 

@@ -4,7 +4,7 @@ ghost use Rattle.std.specs.Prelude.{◌≡◌, ◌≤◌, IfSome, length, true};
 ghost use Rattle.std.specs.Arc.{arc_value};
 ghost use Rattle.tl_text.specs.Words.{lines_of};
 ghost use Rattle.tl_beats.specs.Reading.{whole_fragment_in};
-ghost use Rattle.tl_run.specs.Commands.{asked, asking, read_as};
+ghost use Rattle.tl_script.specs.Asked.{asked, asking, read_as};
 
 use std::alloc::{AllocError, Global};
 use std::sync::atomic::{AtomicBool, AtomicU64, Ordering};
@@ -12,8 +12,7 @@ use std::sync::{Arc, OnceLock, Wait};
 use std::thread::yield_now;
 use tl_beats::{Fragment, FragmentFault};
 use tl_edits::Change;
-use tl_run::{Asked, fragment_of};
-use tl_script::{Command, Spot, Text, Visitor, visit_all};
+use tl_script::{Asked, Command, Spot, Text, Visitor, fragment_of, visit_all};
 
 /// The most bytes of a fragment's text in a script.
 const MOST_TEXT: usize = 8_388_608;

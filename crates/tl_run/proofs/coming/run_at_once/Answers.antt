@@ -1,6 +1,6 @@
 use Rattle.std.proofs.Common.{rules, true, ◌≡◌, ◌+◌, ◌++◌, ℕ, List, Option, ap, ◌∙◌, subst}
 use Rattle.std.specs.Prelude.{string_bytes}
-use Rattle.tl_run.specs.Commands.{asked}
+use Rattle.tl_script.specs.Asked.{asked}
 use Rattle.tl_run.specs.Output.{RunData, supplied, Advances, LacksBox}
 use Rattle.tl_run.specs.Stops.{AreSaid}
 use Rattle.tl_run.proofs.LineLaws.{said_out, said_cut}

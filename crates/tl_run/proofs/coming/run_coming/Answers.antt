@@ -2,7 +2,7 @@ use Rattle.std.proofs.Common.{rules, refl, ◌≡◌, ◌+◌, Some, None, Ok, E
 use Rattle.tl_stream.specs.Feeds.{all_left}
 use Rattle.tl_script.specs.Reading.{command_in}
 use Rattle.tl_script.proofs.CommandTexts.{in_starts}
-use Rattle.tl_run.specs.Commands.{asked}
+use Rattle.tl_script.specs.Asked.{asked}
 use Rattle.tl_run.specs.Output.{IsStep}
 use Rattle.tl_run.proofs.ComingLaws.{came_none, came_kept, came_more, came_cut, came_unread, came_want, came_last, came_fault, came_end}
 use Rattle.tl_run.proofs.coming.run_coming.Goals as goal

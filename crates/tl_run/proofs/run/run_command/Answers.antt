@@ -3,7 +3,8 @@ use Rattle.std.specs.Prelude.{string_bytes}
 use Rattle.tl_check.specs.Notes.{Tells}
 use Rattle.tl_run.specs.Output.{IsStep, TakesBox, text_of}
 use Rattle.tl_run.specs.Stops.{IsSaid, IsFront}
-use Rattle.tl_run.proofs.LineLaws.{said_more, said_front, when_done}
+use Rattle.tl_run.proofs.LineLaws.{said_more, said_front}
+use Rattle.tl_script.proofs.AcceptedLaws.{when_done}
 use Rattle.tl_run.proofs.run.run_command.Goals as goal
 
 pub returns-clause-step : goal.returns-clause-step

@@ -1,6 +1,6 @@
 use Rattle.std.proofs.Common.{rules, refl, ◌≡◌, ◌+◌, Some, None, Ok, Err, sym, ap, ◌∙◌, subst}
 use Rattle.tl_script.specs.Reading.{command_in}
-use Rattle.tl_run.specs.Commands.{asked}
+use Rattle.tl_script.specs.Asked.{asked}
 use Rattle.tl_run.specs.Output.{IsStep}
 use Rattle.tl_run.proofs.RunLaws.{ran_none, ran_more, came_to_fault, came_to_end, came_to_want, came_to_lack, lawful, cut_there}
 use Rattle.tl_run.proofs.run.run_commands.Goals as goal

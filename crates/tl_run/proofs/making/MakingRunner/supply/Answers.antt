@@ -1,7 +1,7 @@
 use Rattle.std.proofs.Common.{rules, true, ◌≡◌, subst}
-use Rattle.tl_run.specs.Commands.{asked}
+use Rattle.tl_script.specs.Asked.{asked}
 use Rattle.tl_run.specs.Output.{RunData, supplied}
-use Rattle.tl_run.proofs.LineLaws.{when_done}
+use Rattle.tl_script.proofs.AcceptedLaws.{when_done}
 use Rattle.tl_run.proofs.MakingLaws.{none_made, one_made}
 use Rattle.tl_run.proofs.making.MakingRunner.supply.Goals as goal
 

@@ -1,7 +1,7 @@
 use Rattle.std.proofs.Common.{rules, ◌≡◌, Some, subst}
 use Rattle.tl_beats.specs.declared.watch.Watch.{Watch}
 use Rattle.tl_edits.specs.Edits.{attach}
-use Rattle.tl_run.specs.Commands.{an_edit}
+use Rattle.tl_script.specs.Asked.{an_edit}
 use Rattle.tl_run.specs.Output.{IsStep, text_of}
 use Rattle.tl_workers.specs.Crew.{progress_in, rows_in}
 use Rattle.tl_workers.proofs.Knowing.{attach_answer, edits_linked}

@@ -5,8 +5,9 @@ use Rattle.tl_desk.specs.Core.{AreLinked}
 use Rattle.tl_desk.specs.declared.fault.PublishFault.TheVariants as fault
 use Rattle.tl_check.specs.Output.{ReportData, report_bytes}
 use Rattle.tl_hall.specs.Passes.{Looked, IsLatest}
-use Rattle.tl_run.specs.Commands.{a_report}
-use Rattle.tl_run.specs.Output.{RunData, IsStep, refused_text}
+use Rattle.tl_script.specs.Asked.{a_report}
+use Rattle.tl_run.specs.Output.{RunData, IsStep}
+use Rattle.tl_script.specs.Replies.{refused_text}
 use Rattle.tl_workers.specs.Crew.{HasPublished, IsUnpublished, progress_in, rows_in}
 use Rattle.tl_workers.proofs.Knowing.{linked, publish_made, publish_full, read_finds, run_sole, run_topo, run_step}
 use Rattle.tl_workers.proofs.crew.Crew.publish.Goals as goal

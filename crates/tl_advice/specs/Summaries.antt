@@ -84,7 +84,7 @@ report_line_of report = joined (codes "  report " ∷ decimal report.version ∷
 unfoldable pub unreported_line : List ℕ
 unreported_line = joined (codes "  no report was published" ∷ newline ∷ [])
 
--- The summary of a report behind the last edits.
+-- The summary of a report after the last edits.
 abbrev pub IsReported : Topology → List Recorded → ReportData → List ℕ → List ℕ → Type 0
 IsReported topo fragments report last text = (body : List ℕ) × IsBody topo fragments report.rows body × (text ≡ joined (heading ∷ report_line_of report ∷ body ∷ last ∷ []))
 

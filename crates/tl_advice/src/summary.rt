@@ -18,7 +18,7 @@ use tl_script::{AuditFault, log_of};
 use tl_tables::rule_text;
 use tl_topology::Topo;
 
-/// How many are open, behind what they are, if any are.
+/// How many are open, after what they are, if any are.
 #[tactic(auto, unfolding(crate::specs::Summaries::open_part_of))]
 fn open_part(alloc: Global, name: &str, count: usize) -> Result<String, AllocError>
     ensures { IfOk result (λ text. string_bytes text ≡ open_part_of name.now count) }

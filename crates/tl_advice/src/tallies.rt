@@ -84,7 +84,7 @@ fn tally_of(topo: &Topo, rule: Rule, rows: &[Row]) -> Option<Tally>
     })
 }
 
-/// Puts a tally behind others, if there is one.
+/// Puts a tally after others, if there is one.
 fn push_found(tallies: &mut Vec<Tally>, found: Option<Tally>) -> Result<(), AllocError>
     ensures { OnOk result (tallies.new.items ≡ tallies.old.items ++ option_to_list found) }
 {

@@ -21,7 +21,7 @@ reads b text rest formed is =
     let beat = beat_again b formed in
     rw (is, line, beat) refl
 
--- the cycle, the channel's letter, and the fields behind them
+-- the cycle, the channel's letter, and the fields after them
 pub joins : (b : Beat) (cycle name : ℕ) (text fields rest : List ℕ) → text ≡ numeral 10 cycle ++ 32 ∷ name ∷ 32 ∷ fields → b.cycle ≡ cycle → chan_text b.chan ≡ name ∷ [] → fields ≡ fields_text b.chan b ++ 10 ∷ rest
     → text ≡ beat_text b ++ 10 ∷ rest
 unfolding beat_text

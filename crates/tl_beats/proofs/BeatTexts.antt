@@ -210,7 +210,7 @@ grant_ack_takes cycle line b e =
     number_step 10 65535 line _ b P (omega arith) (omega arith) e (λ s s_is s_fits k.
     grant_ack_from cycle line s b s_is s_fits k)
 
--- what a channel's word and the words behind it are
+-- what a channel's word and the words after it are
 abbrev Named : ℕ → ℕ → List ℕ → Beat → Type 0
 Named x cycle line b = (x ∷ [] ≡ chan_text b.chan) × Reads (fields_text b.chan b) line cycle b.chan b
 

@@ -107,7 +107,7 @@ at_end true b formed same = absurd (none-some b (sym end_is_none ∙ ap beat_at 
 pub end_is_no_beat : (b : Beat) → IsWellFormed b → bytes_eq (beat_text b) (codes "end") ≡ false
 end_is_no_beat b formed = at_end (bytes_eq (beat_text b) (codes "end")) b formed (λ h. same_text (beat_text b) (codes "end") h)
 
--- lines are the beats behind those before, up to the end
+-- lines are the beats after those before, up to the end
 record AreLines (before : List Beat) (lines : List (List ℕ)) (beats : List Beat) (rest : List (List ℕ)) : Type 0 where
   pub more : List Beat
   pub all : beats ≡ before ++ more

@@ -1,4 +1,4 @@
--- One beat more behind those of a fragment.
+-- One beat more after those of a fragment.
 use Rattle.std.proofs.Common.{◌≡◌, ℕ, zero, suc, ◌+◌, ◌-◌, ◌<◌, ◌≤◌, Bool, true, false, cond, leb, ltb, List, [], ◌∷◌, ◌++◌, length, get_or, take, add-one, sym, Option, Some, None, Result, Ok, Err, refl, subst, arith, inl, inr, length-append}
 use Rattle.std.specs.Prelude.{◌||◌, slice_get}
 use Rattle.std.specs.List.{All, AllAdjacentBelow}
@@ -15,7 +15,7 @@ use Rattle.tl_beats.specs.Beats.{IsWellFormed, rises}
 use Rattle.tl_beats.specs.Fragments.{AreBeats}
 use Rattle.tl_beats.specs.Reading.{beat_at, rises_behind, placed_at, next_at}
 
--- what a beat has that is read behind others
+-- what a beat has that is read after others
 pub record IsNext (first last : ℕ) (before : List Beat) (beat : Beat) : Type 0 where
   pub room : length before < 65536
   pub low : first ≤ beat.cycle

@@ -28,7 +28,7 @@ beats_text beats = flat_map ended (map beat_text beats)
 pub fragment_ends : (f : Frag) → fragment_text f ≡ (ended (header_text f) ++ beats_text f.beats) ++ codes "end\n"
 fragment_ends f = fragment_parts f ∙ sym (append_assoc (ended (header_text f)) (beats_text f.beats) (codes "end\n"))
 
--- the lines before a beat's, its own, and those behind
+-- the lines before a beat's, its own, and those after
 pub beats_parts : (i : ℕ) (beats : List Beat) (d : Beat) → i < length beats → beats_text beats ≡ beats_text (take i beats) ++ (ended (beat_text (get_or beats i d)) ++ beats_text (drop (suc i) beats))
 beats_parts i [] d lt = absurd (omega arith)
 beats_parts zero (b ∷ beats) d lt = flat_map-cons ended (beat_text b) (map beat_text beats)

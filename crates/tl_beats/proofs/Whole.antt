@@ -1,4 +1,4 @@
--- A fragment and what stands behind it.
+-- A fragment and what stands after it.
 use Rattle.std.proofs.Common.{◌≡◌, ℕ, ◌+◌, Bool, true, false, cond, eqb, List, [], ◌∷◌, length, Ok, Err, refl, arith}
 use Rattle.std.proofs.lemmas.Bool.{eqb-true}
 use Rattle.std.specs.List.{onto_first}

@@ -4,7 +4,7 @@ use Rattle.tl_text.specs.Words.{◌>>=◌, line_at}
 use Rattle.tl_beats.specs.declared.Beat.{Beat}
 use Rattle.tl_beats.specs.Reading.{beat_at}
 
--- the beat that the first line spells, and what stands behind the line
+-- the beat that the first line spells, and what stands after the line
 abbrev pub beat_line_at : List ℕ → Option (Beat × List ℕ)
 beat_line_at text = do
   line ← line_at text

@@ -7,7 +7,7 @@ use Rattle.tl_beats.specs.Beats.{IsWellFormed}
 use Rattle.tl_beats.specs.Fragments.{Frag, AreBeats}
 use Rattle.tl_beats.specs.Reading.{placed_at}
 
--- The fault of line n's beat behind those before: that it is not well-formed, or else that of its place.
+-- The fault of line n's beat after those before: that it is not well-formed, or else that of its place.
 abbrev pub IsFaultOf : ℕ → ℕ → ℕ → List Beat → Beat → FragmentFault → Type 0
 IsFaultOf first last n before beat found = ((¬ IsWellFormed beat) × (found ≡ fault.BadField n)) ⊎ (IsWellFormed beat × (placed_at first last n before beat ≡ Err found))
 

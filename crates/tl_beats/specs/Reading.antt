@@ -18,7 +18,7 @@ use Rattle.tl_beats.specs.Fragments.{Frag}
 
 -- ---- the spelling of one beat
 
--- opcode, param, size and source, and the words behind them
+-- opcode, param, size and source, and the words after them
 unfoldable pub message_at : List ℕ → Option (Message × List ℕ)
 message_at words = do
   opcode ← word_at words
@@ -31,7 +31,7 @@ message_at words = do
   s ← number_at 10 65535 source.0
   Some (record { opcode = o; param = p; size = z; source = s }, source.1)
 
--- address, mask and corrupt, behind the message: channels A and B
+-- address, mask and corrupt, after the message: channels A and B
 unfoldable pub access_at : Chan → ℕ → List ℕ → Option Beat
 access_at c cycle words = do
   message ← message_at words
@@ -42,7 +42,7 @@ access_at c cycle words = do
   corrupt ← bit_at mask.1
   Some (record { cycle = cycle; chan = c; opcode = message.0.opcode; param = message.0.param; size = message.0.size; source = message.0.source; sink = 0; address = a; mask = m; denied = false; corrupt = corrupt })
 
--- address and corrupt, behind the message: channel C
+-- address and corrupt, after the message: channel C
 unfoldable pub release_at : ℕ → List ℕ → Option Beat
 release_at cycle words = do
   message ← message_at words
@@ -51,7 +51,7 @@ release_at cycle words = do
   corrupt ← bit_at address.1
   Some (record { cycle = cycle; chan = chan.C; opcode = message.0.opcode; param = message.0.param; size = message.0.size; source = message.0.source; sink = 0; address = a; mask = 0; denied = false; corrupt = corrupt })
 
--- sink, denied and corrupt, behind the message: channel D
+-- sink, denied and corrupt, after the message: channel D
 unfoldable pub reply_at : ℕ → List ℕ → Option Beat
 reply_at cycle words = do
   message ← message_at words
@@ -107,12 +107,12 @@ header_at line = do
 
 -- ---- lines
 
--- the beat stands behind the one before, if there is one
+-- the beat stands after the one before, if there is one
 abbrev pub rises_behind : Option Beat → Beat → Bool
 rises_behind None beat = true
 rises_behind (Some before) beat = rises before beat
 
--- line n's beat, where there is room behind the beats before it, in the range, and behind the last of them
+-- line n's beat, where there is room after the beats before it, in the range, and after the last of them
 abbrev pub placed_at : ℕ → ℕ → ℕ → List Beat → Beat → Result Beat FragmentFault
 placed_at first last n before beat = if nat_le 65536 (length before) then Err fault.TooManyBeats
     else (if nat_lt beat.cycle first || nat_lt last beat.cycle then Err (fault.OutOfRange n)
@@ -122,29 +122,29 @@ placed_at first last n before beat = if nat_le 65536 (length before) then Err fa
 unfoldable pub next_at : ℕ → ℕ → ℕ → List Beat → List ℕ → Result Beat FragmentFault
 next_at first last n before line = or_fault (beat_at line) (fault.BadField n) >>> λ beat. placed_at first last n before beat
 
--- the beats from line n on, behind those before, and the lines behind the end
+-- the beats from line n on, after those before, and the lines after the end
 unfoldable pub beats_from : ℕ → ℕ → ℕ → List Beat → List (List ℕ) → Result (List Beat × List (List ℕ)) FragmentFault
 beats_from first last n before [] = Err (fault.Truncated n)
 beats_from first last n before (line ∷ []) = Err (fault.Truncated n)
 beats_from first last n before (line ∷ next ∷ lines) = if bytes_eq line (codes "end") then Ok (before, next ∷ lines)
     else (next_at first last n before line >>> λ beat. beats_from first last (n + 1) (before ++ beat ∷ []) (next ∷ lines))
 
--- a fragment's beats and what follows, behind its header
+-- a fragment's beats and what follows, after its header
 unfoldable pub fragment_behind : Header → List (List ℕ) → Result (Frag × List (List ℕ)) FragmentFault
 fragment_behind header lines = beats_from header.first header.last 2 [] lines >>> λ beats.
     Ok (record { link = header.link; number = header.number; first = header.first; last = header.last; beats = beats.0 }, beats.1)
 
--- a fragment, and the lines behind it
+-- a fragment, and the lines after it
 unfoldable pub fragment_in : List (List ℕ) → Result (Frag × List (List ℕ)) FragmentFault
 fragment_in [] = Err (fault.Truncated 1)
 fragment_in (line ∷ []) = Err (fault.Truncated 1)
 fragment_in (line ∷ next ∷ lines) = or_fault (header_at line) fault.BadHeader >>> λ header. fragment_behind header (next ∷ lines)
 
--- nothing stands behind the last newline
+-- nothing stands after the last newline
 abbrev pub is_end : List (List ℕ) → Bool
 is_end ([] ∷ []) = true
 is_end _ = false
 
--- a fragment with nothing behind it; what follows is a bad line
+-- a fragment with nothing after it; what follows is a bad line
 unfoldable pub whole_fragment_in : List (List ℕ) → Result Frag FragmentFault
 whole_fragment_in lines = fragment_in lines >>> λ read. if is_end read.1 then Ok read.0 else Err (fault.BadField (length read.0.beats + 3))

@@ -20,7 +20,7 @@ chan_text chan.E = codes "E"
 abbrev pub message_text : Beat → List ℕ → List ℕ
 message_text b rest = numeral 10 b.opcode ␣ numeral 10 b.param ␣ numeral 10 b.size ␣ numeral 10 b.source ␣ rest
 
--- what stands behind the channel
+-- what stands after the channel
 abbrev pub fields_text : Chan → Beat → List ℕ
 fields_text chan.A b = message_text b (numeral 16 b.address ␣ numeral 16 b.mask ␣ bit b.corrupt)
 fields_text chan.B b = message_text b (numeral 16 b.address ␣ numeral 16 b.mask ␣ bit b.corrupt)

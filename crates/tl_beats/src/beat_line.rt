@@ -47,7 +47,7 @@ fn message_of(words: &[u8]) -> Option<(Message, &[u8])>
     Some((message, words))
 }
 
-/// The beat of channel A or B that the words behind the channel spell.
+/// The beat of channel A or B that the words after the channel spell.
 #[tactic(auto, unfolding(crate::specs::Reading::access_at), using(crate::proofs::Lacking::access_lacks))]
 fn access_of(chan: Chan, cycle: u64, words: &[u8]) -> Option<Beat>
     requires { HasMask chan }
@@ -75,7 +75,7 @@ fn access_of(chan: Chan, cycle: u64, words: &[u8]) -> Option<Beat>
     })
 }
 
-/// The beat of channel C that the words behind the channel spell.
+/// The beat of channel C that the words after the channel spell.
 #[tactic(auto, unfolding(crate::specs::Reading::release_at))]
 fn release_of(cycle: u64, words: &[u8]) -> Option<Beat>
     ensures exact { result ≡ release_at cycle words.now }
@@ -100,7 +100,7 @@ fn release_of(cycle: u64, words: &[u8]) -> Option<Beat>
     })
 }
 
-/// The beat of channel D that the words behind the channel spell.
+/// The beat of channel D that the words after the channel spell.
 #[tactic(auto, unfolding(crate::specs::Reading::reply_at))]
 fn reply_of(cycle: u64, words: &[u8]) -> Option<Beat>
     ensures exact { result ≡ reply_at cycle words.now }
@@ -127,7 +127,7 @@ fn reply_of(cycle: u64, words: &[u8]) -> Option<Beat>
     })
 }
 
-/// The beat of channel E that the words behind the channel spell.
+/// The beat of channel E that the words after the channel spell.
 #[tactic(auto, unfolding(crate::specs::Reading::grant_ack_at))]
 fn grant_ack_of(cycle: u64, words: &[u8]) -> Option<Beat>
     ensures exact { result ≡ grant_ack_at cycle words.now }

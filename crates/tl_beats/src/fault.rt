@@ -15,7 +15,7 @@ pub enum FragmentFault {
     /// The first line is no header, or its first cycle is above its last.
     #[error("the first line is no header of a fragment")]
     BadHeader,
-    /// The line is no beat of a channel, or stands behind the end of the fragment.
+    /// The line is no beat of a channel, or stands after the end of the fragment.
     #[error("line {0} is no beat")]
     BadField(u32),
     /// The beat's cycle and channel are not above those of the line before.

@@ -41,7 +41,7 @@ fn code(byte: u8) -> Option<u8>
     }
 }
 
-/// A source or a sink, and what stands behind the stop.
+/// A source or a sink, and what stands after the stop.
 #[inline(always)]
 fn number_front(words: &[u8], stop: u8) -> Option<(u16, &[u8])>
     ensures { IfSome result (λ x. words.now ≡ numeral 10 x.0 ++ stop ∷ x.1.now) }
@@ -54,7 +54,7 @@ fn number_front(words: &[u8], stop: u8) -> Option<(u16, &[u8])>
     }
 }
 
-/// A bit, and what stands behind the stop.
+/// A bit, and what stands after the stop.
 #[inline(always)]
 fn bit_front(words: &[u8], stop: u8) -> Option<(bool, &[u8])>
     ensures { IfSome result (λ x. words.now ≡ bit x.0 ++ stop ∷ x.1.now) }
@@ -66,7 +66,7 @@ fn bit_front(words: &[u8], stop: u8) -> Option<(bool, &[u8])>
     }
 }
 
-/// Opcode, param and size, a digit each, and the source; and the words behind them.
+/// Opcode, param and size, a digit each, and the source; and the words after them.
 #[inline(always)]
 fn opening_front(words: &[u8]) -> Option<(Opening, &[u8])>
     ensures opcode { IfSome result (λ x. x.0.opcode ≤ 7) }
@@ -90,7 +90,7 @@ fn opening_front(words: &[u8]) -> Option<(Opening, &[u8])>
     Some((opening, words))
 }
 
-/// The beat of channel A or B that the words behind the channel spell, and what stands behind their newline.
+/// The beat of channel A or B that the words after the channel spell, and what stands after their newline.
 #[inline(always)]
 fn access_front(chan: Chan, cycle: u64, words: &[u8]) -> Option<(Beat, &[u8])>
     requires { HasMask chan }
@@ -119,7 +119,7 @@ fn access_front(chan: Chan, cycle: u64, words: &[u8]) -> Option<(Beat, &[u8])>
     Some((beat, rest))
 }
 
-/// The beat of channel C that the words behind the channel spell, and what stands behind their newline.
+/// The beat of channel C that the words after the channel spell, and what stands after their newline.
 #[inline(always)]
 fn release_front(cycle: u64, words: &[u8]) -> Option<(Beat, &[u8])>
     ensures formed { IfSome result (λ x. IsWellFormed x.0) }
@@ -146,7 +146,7 @@ fn release_front(cycle: u64, words: &[u8]) -> Option<(Beat, &[u8])>
     Some((beat, rest))
 }
 
-/// The beat of channel D that the words behind the channel spell, and what stands behind their newline.
+/// The beat of channel D that the words after the channel spell, and what stands after their newline.
 #[inline(always)]
 fn reply_front(cycle: u64, words: &[u8]) -> Option<(Beat, &[u8])>
     ensures formed { IfSome result (λ x. IsWellFormed x.0) }
@@ -174,7 +174,7 @@ fn reply_front(cycle: u64, words: &[u8]) -> Option<(Beat, &[u8])>
     Some((beat, rest))
 }
 
-/// The beat of channel E that the word behind the channel spells, and what stands behind its newline.
+/// The beat of channel E that the word after the channel spells, and what stands after its newline.
 #[inline(always)]
 fn grant_ack_front(cycle: u64, words: &[u8]) -> Option<(Beat, &[u8])>
     ensures formed { IfSome result (λ x. IsWellFormed x.0) }
@@ -199,7 +199,7 @@ fn grant_ack_front(cycle: u64, words: &[u8]) -> Option<(Beat, &[u8])>
     Some((beat, rest))
 }
 
-/// The beat that the words behind this channel's letter spell, and what stands behind their newline.
+/// The beat that the words after this channel's letter spell, and what stands after their newline.
 #[inline(always)]
 fn fields_front(name: u8, cycle: u64, words: &[u8]) -> Option<(Beat, &[u8])>
     ensures formed { IfSome result (λ x. IsWellFormed x.0) }
@@ -217,7 +217,7 @@ fn fields_front(name: u8, cycle: u64, words: &[u8]) -> Option<(Beat, &[u8])>
     }
 }
 
-/// The beat that the first line of a text spells, and what stands behind the line; None for a line that is passed on.
+/// The beat that the first line of a text spells, and what stands after the line; None for a line that is passed on.
 #[inline(always)]
 pub(crate) fn beat_front(text: &[u8]) -> Option<(Beat, &[u8])>
     ensures formed { IfSome result (λ x. IsWellFormed x.0) }

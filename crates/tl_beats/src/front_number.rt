@@ -35,7 +35,7 @@ fn hexadecimal_digit(byte: u8) -> Option<u8>
     }
 }
 
-/// What stands behind the stop, where the text begins with it.
+/// What stands after the stop, where the text begins with it.
 #[inline(always)]
 fn behind(text: &[u8], stop: u8) -> Option<&[u8]>
     ensures { IfSome result (λ rest. text.now ≡ stop ∷ rest.now) }
@@ -46,7 +46,7 @@ fn behind(text: &[u8], stop: u8) -> Option<&[u8]>
     }
 }
 
-/// The decimal number at the front and what stands behind the stop that ends it; None for some numbers of 60 bits and
+/// The decimal number at the front and what stands after the stop that ends it; None for some numbers of 60 bits and
 /// more, and where none is spelled.
 #[inline(always)]
 pub(crate) fn decimal_front(text: &[u8], stop: u8) -> Option<(u64, &[u8])>
@@ -77,7 +77,7 @@ pub(crate) fn decimal_front(text: &[u8], stop: u8) -> Option<(u64, &[u8])>
     None
 }
 
-/// The hexadecimal number at the front and what stands behind the space that ends it; None where none is spelled.
+/// The hexadecimal number at the front and what stands after the space that ends it; None where none is spelled.
 #[inline(always)]
 pub(crate) fn hexadecimal_front(text: &[u8]) -> Option<(u64, &[u8])>
     ensures { IfSome result (λ x. text.now ≡ numeral 16 x.0 ++ 32 ∷ x.1.now) }

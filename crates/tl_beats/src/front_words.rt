@@ -8,7 +8,7 @@ use core::dec2flt::read_digits;
 /// The most digits whose number is below 2 ^ 64, whatever they are.
 const MOST_DIGITS: usize = 19;
 
-/// The decimal number at the front and what stands behind the stop that ends it; None where there are more than 19
+/// The decimal number at the front and what stands after the stop that ends it; None where there are more than 19
 /// digits, and where none is spelled.
 #[inline(always)]
 pub(crate) fn long_decimal_front(text: &[u8], stop: u8) -> Option<(u64, &[u8])>

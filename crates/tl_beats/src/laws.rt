@@ -13,7 +13,7 @@ pub fn texts_tell_fragments_apart()
     ensures { (f g : Frag) → IsFragment f → IsFragment g → fragment_text f ≡ fragment_text g → f ≡ g }
 {}
 
-/// No fragment's text goes on behind another fragment's text: where it begins with one, nothing follows.
+/// No fragment's text goes on after another fragment's text: where it begins with one, nothing follows.
 pub fn texts_end_by_themselves()
     ensures { (f g : Frag) (rest : List ℕ) → IsFragment f → IsFragment g → fragment_text g ≡ fragment_text f ++ rest → rest ≡ [] }
 {}

@@ -21,7 +21,7 @@ fn rises(before: &Beat, after: &Beat) -> bool
         || before.cycle == after.cycle && chan_index(before.chan) < chan_index(after.chan)
 }
 
-/// The beat of the line with this number, where there is room behind the beats before it, in the range and rising.
+/// The beat of the line with this number, where there is room after the beats before it, in the range and rising.
 pub(crate) fn placed(
     number: u32,
     first: u64,

@@ -70,7 +70,7 @@ fn header_of(line: &[u8]) -> Option<Header>
     })
 }
 
-/// The beat of a line, in the range and behind the beats before it.
+/// The beat of a line, in the range and after the beats before it.
 #[tactic(auto, unfolding(crate::specs::Reading::next_at))]
 fn next_of(
     line: &[u8],
@@ -89,7 +89,7 @@ fn next_of(
     }
 }
 
-/// The beats up to the line `end`, and what stands behind it.
+/// The beats up to the line `end`, and what stands after it.
 fn beats_of(
     alloc: Global,
     first: u64,
@@ -159,7 +159,7 @@ fn front_of(alloc: Global, bytes: &[u8]) -> Result<(Fragment, usize), FragmentFa
 /// The fragment whose text stands at the front, and the number of its bytes. A refusal names the first faulty line and,
 /// in that line, the first cause in the order of its newline, header, fields, number of beats, range, order, memory.
 pub fn parse_fragment(alloc: Global, bytes: &[u8]) -> Result<(Fragment, usize), FragmentFault>
-    // It is what reading the lines gives, and the bytes behind those used are the lines that reading leaves.
+    // It is what reading the lines gives, and the bytes after those used are the lines that reading leaves.
     ensures exact { Gives is_memory (λ x. (x.0, lines_of (drop x.1 bytes.now))) result (fragment_in (lines_of bytes.now)) }
     ensures used { IfOk result (λ x. x.1 ≤ length bytes.now) }
     // The bytes used are the text of the fragment.
@@ -184,7 +184,7 @@ fn whole_fragment(alloc: Global, bytes: &[u8]) -> Result<Fragment, FragmentFault
 }
 
 /// The fragment whose text is all the bytes. TooLong where they are more than 8,388,608, before anything is parsed; bytes
-/// behind the last line are BadField of the next line.
+/// after the last line are BadField of the next line.
 pub fn parse_whole_fragment(alloc: Global, bytes: &[u8]) -> Result<Fragment, FragmentFault>
     ensures exact { length bytes.now ≤ 8388608 → Gives is_memory (λ f. f) result (whole_fragment_in (lines_of bytes.now)) }
     ensures too_long { IsErrOf result FragmentFault.TooLong ↔ (8388608 < length bytes.now) }

@@ -31,7 +31,7 @@ module _ {X : Type 0} where
     | false ↦ λ e. grind (arith, nat_tests)
   ] refl
 
-  -- What fails in front is not kept, nor what fails behind.
+  -- What fails in front is not kept, nor what fails after.
   pub none_in_front : (p : X → Bool) (xs : List X) (n : ℕ) → AllWithin (λ x. p x ≡ false) xs 0 n → filter p (take n xs) ≡ []
   none_in_front p xs zero all = refl
   none_in_front p [] (suc n) all = refl

@@ -169,7 +169,7 @@ module _ {V : Type 0} (value : V → Frag) where
   at_ends link last e keyed = is_eq_then (nat_cmp link e.0.0) (nat_cmp last e.0.1) ∙ ap (λ t. t && is_eq (nat_cmp last e.0.1)) (eq_test link e.0.0)
       ∙ ap (λ t. (e.0.0 == link) && t) (eq_test last e.0.1) ∙ ap (λ n. (e.0.0 == link) && (n == last)) keyed
 
-  -- Those behind a fragment end elsewhere.
+  -- Those after a fragment end elsewhere.
   ends_apart : (link last : ℕ) (f g : Recorded) → g.first ≤ g.last → range_order f g ≡ Less → ends_at link last f ≡ true → not (ends_at link last g) ≡ true
   ends_apart link last f g order less at = elim (less_cases (nat_cmp f.link g.link) (nat_cmp f.last g.first) less) [
     | inl by_link ↦ (let lt = less_is f.link g.link by_link in grind (arith, nat_tests))

@@ -20,7 +20,7 @@ use Rattle.tl_capture.specs.Ranges.{AreRanges}
 use Rattle.tl_capture.proofs.OrderLemmas.{link_order, link_total, apart_by_link, moved_apart, strict_from}
 use Rattle.tl_capture.proofs.PresentLemmas.{ranges_kept, placed_strict, beats_rise, placed_is_of, placed_from_some, some_placed, less_is}
 
--- ---- the beats of a window of one link, and of links one behind the other
+-- ---- the beats of a window of one link, and of links one after the other
 
 abbrev pub own : (Placed → Bool) → ℕ → List Recorded → List Placed
 own keep link fs = filter keep (all_placed (filter (λ f. f.link == link) fs))

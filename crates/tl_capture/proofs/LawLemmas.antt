@@ -35,7 +35,7 @@ use Rattle.tl_capture.proofs.GatherLemmas.{link_of_any, or_left, or_right}
 use Rattle.tl_capture.proofs.ShareLemmas.{are_windows}
 use Rattle.tl_capture.proofs.ShareLemmas.{from_rise as windows_strict}
 
--- ---- windows one behind the other
+-- ---- windows one after the other
 
 joined_from : (windows : List ℕ) (ps : List Placed) (p : Placed) → Contains (joined windows ps) p → Contains ps p × Contains windows (window_of p.beat.cycle)
 joined_from [] ps p h = absurd (contains_none p h)

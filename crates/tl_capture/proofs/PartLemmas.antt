@@ -87,7 +87,7 @@ pub pushed_at : (keep : Placed → Bool) (links : List ℕ) (fs : List Recorded)
     → pushed keep (drop i links) fs ≡ own keep (get_or links i 0) fs ++ pushed keep (drop (i + 1) links) fs
 pushed_at keep links fs i within = ap (λ ls. pushed keep ls fs) (next_left links i 0 within)
 
--- ---- fragments, one behind the other
+-- ---- fragments, one after the other
 
 module _ {V : Type 0} (value : V → Frag) (from to : ℕ) where
   abbrev pub part_beats : ℕ × V → List Placed

@@ -227,7 +227,7 @@ module _ (m d : Cursor) (old new last : List Cursor) (place : ℕ) (are : AreShi
 
 -- ---- a walk
 
--- The next beat, and what is left behind it.
+-- The next beat, and what is left after it.
 taken : (c : Cursor) (cs : List Cursor) → AllByRecursion (λ d. IsBefore (here c) (here d)) cs → in_turn (c ∷ cs) ≡ here c ∷ in_order (after c ++ all_left cs)
 taken c cs least = least_first (here c) (after c ++ all_left cs) (λ q h. elim (Contains-append_cases (after c) (all_left cs) q h) [
   | inl own ↦ next_first c q own

@@ -94,7 +94,7 @@ other_link link first last g lt =
     let no : (g.link == link) ≡ false = grind (arith, nat_tests) in
     ap (λ t. t && nat_le first g.last && is_by last g.first) no
 
--- None behind one of a later link, or one that begins after the end, is met.
+-- None after one of a later link, or one that begins after the end, is met.
 none_behind : (link first : ℕ) (last : Option ℕ) (f : Recorded) (fs : List Recorded) → AreRanges (f ∷ fs) → link ≤ f.link → (f.link == link && is_by last f.first) ≡ false → filter (meets link first last) fs ≡ []
 unfolding IsStrictlySortedBy
 none_behind link first last f fs are from past = none_kept (meets link first last) fs (λ g h.
@@ -192,7 +192,7 @@ lower_least ns = lower_merge None ns
 
 -- ---- what is read
 
--- of each, one behind the other
+-- of each, one after the other
 abbrev pub read_all : {X : Type 0} → (Recorded → List X) → List Recorded → List X
 read_all read [] = []
 read_all read (f ∷ fs) = read f ++ read_all read fs

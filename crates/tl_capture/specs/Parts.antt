@@ -11,7 +11,7 @@ use Rattle.tl_capture.specs.Ranges.{span_beats}
 use Rattle.tl_capture.specs.Spans.{IsSpan}
 use Rattle.tl_capture.specs.Windows.{window_of}
 
--- the beats of a span of fragments, each on a link, one behind the other
+-- the beats of a span of fragments, each on a link, one after the other
 abbrev pub spanned : {V : Type 0} → (V → Frag) → ℕ → ℕ → List (ℕ × V) → List Placed
 spanned value from to [] = []
 spanned value from to (part ∷ parts) = span_beats from to (recorded part.0 (value part.1)) ++ spanned value from to parts

@@ -29,7 +29,7 @@ pub record IsCapture (f : Recorded) : Type 0 where
   pub order : f.first ≤ f.last
   pub beats : AreBeats f.first f.last f.beats
 
--- Each is a fragment's, and lies before those behind it: the ranges of one link are apart. So are its numbers.
+-- Each is a fragment's, and lies before those after it: the ranges of one link are apart. So are its numbers.
 pub record IsPresent (fs : List Recorded) : Type 0 where
   pub each : All IsCapture fs
   pub apart : IsStrictlySortedBy range_order fs

@@ -22,7 +22,7 @@ Key = ℕ × ℕ
 abbrev pub key_cmp : Key → Key → Ordering
 key_cmp x y = ordering_then (nat_cmp x.0 y.0) (nat_cmp x.1 y.1)
 
--- Each is a fragment's, and lies before those behind it.
+-- Each is a fragment's, and lies before those after it.
 pub record AreRanges (fs : List Recorded) : Type 0 where
   pub each : All IsCapture fs
   pub apart : IsStrictlySortedBy range_order fs

@@ -17,7 +17,7 @@ in_turn cs = in_order (all_left cs)
 abbrev pub under_top : List Cursor → List Cursor
 under_top cs = take (length cs - 1) cs
 
--- A cursor lies under another where its next beat lies behind that one's.
+-- A cursor lies under another where its next beat lies after that one's.
 abbrev pub stack_order : Cursor → Cursor → Ordering
 stack_order c d = position_order (here d) (here c)
 

@@ -43,7 +43,7 @@ pub record AreWindows (ps : List Placed) (windows : List ℕ) : Type 0 where
   pub rise : IsStrictlySortedBy nat_cmp windows
   pub members : (window : ℕ) → Contains windows window ↔ HasBeat ps window
 
--- the beats of windows, one behind the other
+-- the beats of windows, one after the other
 abbrev pub joined : List ℕ → List Placed → List Placed
 joined [] ps = []
 joined (window ∷ windows) ps = beats_in window ps ++ joined windows ps

@@ -53,7 +53,7 @@ impl<'a> Cursor<'a> {
         }
     }
 
-    /// What is left behind the next beat; None where that was the last.
+    /// What is left after the next beat; None where that was the last.
     pub(crate) fn moved(&self) -> Option<Cursor<'a>>
         ensures { MatchOption result (after self.now ≡ []) (λ c. beats_left c ≡ after self.now) }
     {

@@ -37,7 +37,7 @@ pub(crate) fn has_some(fragment: &Fragment, from: u64, to: u64) -> bool
     start < end
 }
 
-/// Puts the beats of a span of a fragment on this link behind others. AllocError where memory is refused.
+/// Puts the beats of a span of a fragment on this link after others. AllocError where memory is refused.
 pub(crate) fn push_beats(
     from: u64,
     to: u64,

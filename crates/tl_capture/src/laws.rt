@@ -3,7 +3,7 @@
 ghost use Rattle.tl_capture.specs.Windows.{WindowsAreWhole, LinksAreKept, ChannelsAreKept, OneLinkIsItsOwn};
 ghost use Rattle.tl_capture.specs.Touch.{WindowsAreTheirBeats, PutsAreLocal, TakesAreLocal, ClearsAreLocal};
 
-/// The beats of the windows that have one, one behind the other, are all beats.
+/// The beats of the windows that have one, one after the other, are all beats.
 pub fn windows_are_whole()
     ensures { WindowsAreWhole }
 {}

@@ -169,7 +169,7 @@ impl Ranges {
         false
     }
 
-    /// Puts the beats of a span of a link behind others. AllocError where memory is refused.
+    /// Puts the beats of a span of a link after others. AllocError where memory is refused.
     pub(crate) fn push_link(
         &self,
         from: u64,
@@ -186,7 +186,7 @@ impl Ranges {
         Ok(())
     }
 
-    /// Puts the fragments of a link that have a beat in a span behind others, shared and not copied. AllocError where memory is
+    /// Puts the fragments of a link that have a beat in a span after others, shared and not copied. AllocError where memory is
     /// refused.
     pub(crate) fn push_parts(
         &self,
@@ -206,7 +206,7 @@ impl Ranges {
         Ok(())
     }
 
-    /// Puts what the fragments of a link have in a span behind others. AllocError where memory is refused.
+    /// Puts what the fragments of a link have in a span after others. AllocError where memory is refused.
     pub(crate) fn push_cursors<'a>(
         &'a self,
         from: u64,
@@ -244,7 +244,7 @@ impl Ranges {
         Some(left)
     }
 
-    /// Puts the windows in which a fragment of a link has a beat behind others. AllocError where memory is refused.
+    /// Puts the windows in which a fragment of a link has a beat after others. AllocError where memory is refused.
     pub(crate) fn push_windows(&self, link: u16, windows: &mut Vec<u64>) -> Result<(), AllocError>
         ensures { OnOk result (windows.new.items ≡ windows.old.items ++ windows_of_all (of_link link self.now)) }
     {

@@ -10,7 +10,7 @@ use crate::span::window_of;
 use std::alloc::{AllocError, Global};
 use tl_beats::{Beat, Fragment};
 
-/// Puts the windows in which one of these beats, which rise, lies behind others. AllocError where memory is refused.
+/// Puts the windows in which one of these beats, which rise, lies after others. AllocError where memory is refused.
 pub(crate) fn push_windows(beats: &[Beat], windows: &mut Vec<u64>) -> Result<(), AllocError>
     ensures { OnOk result (windows.new.items ≡ windows.old.items ++ windows_from 0 beats.now) }
 {

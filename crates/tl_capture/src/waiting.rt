@@ -80,7 +80,7 @@ fn drop_top<'a>(cursors: &mut Vec<Cursor<'a>>)
     cursors.pop();
 }
 
-/// Goes on behind the next beat of the top, which is read.
+/// Goes on after the next beat of the top, which is read.
 pub(crate) fn go_on<'a>(cursors: &mut Vec<Cursor<'a>>, top: Cursor<'a>)
     requires ready { AreReady cursors.old.items }
     requires top { cursors.old.items ≡ under_top cursors.old.items ++ top ∷ [] }

@@ -102,7 +102,7 @@ fn cursors_in<'a>(
     Ok(cursors)
 }
 
-/// The beats of a span of these fragments, one behind the other.
+/// The beats of a span of these fragments, one after the other.
 fn copied(alloc: Global, from: u64, to: u64, parts: &[Part]) -> Result<Vec<Placed>, AllocError>
     requires { from ≤ to }
     ensures { IfOk result (λ beats. beats.items ≡ spanned arc_value from to parts.now) }

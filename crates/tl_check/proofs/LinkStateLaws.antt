@@ -43,7 +43,7 @@ head_is_judged decl exponent areas s p (Some o) format flows f g plain =
     ap (λ x. x ++ flows) f ∙ ap (λ x. first ++ x) g ∙ sym (append-nil (first ++ second))
     ∙ ap (λ x. first ++ second ++ x) (sym (no_permission decl.strict exponent s.past.client o p.beat message.request plain))
 
--- Its rows, put behind others one list after the other.
+-- Its rows, put after others one list after the other.
 pub head_rows : (decl : LinkDecl) (exponent : ℕ) (areas : List Area) (s : LinkSnapshot) (p : Placed) (format flows : List Rule) (r0 r1 r2 : List Row) → s.burst p.beat.chan ≡ None
     → format ≡ format_rules exponent areas decl p.beat (message_of decl p.beat) → flows ≡ rules_in s.past.flow p.beat (message_of decl p.beat)
     → option_map_or is_plain (message_of decl p.beat) true ≡ true → r1 ≡ r0 ++ map (row_of p) format → r2 ≡ r1 ++ map (row_of p) flows

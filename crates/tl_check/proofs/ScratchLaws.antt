@@ -67,7 +67,7 @@ module _ (c : Capture) (cs : List Capture) (old found new : List Row) (put : new
   pub next_capture : (All : Type 0) → ((Contains old row ⊎ FindsIn (c ∷ cs) row) ↔ All) → ((Contains new row ⊎ FindsIn cs row) ↔ All)
   next_capture All known = (still All known.0, λ a. also (known.1 a))
 
--- Before the first, and behind the last.
+-- Before the first, and after the last.
 pub first_capture : (cs : List Capture) (row : Row) → (Contains [] row ⊎ FindsIn cs row) ↔ FindsIn cs row
 first_capture cs row = (λ h. elim h [ inl none ↦ absurd (contains_none row none) | inr found ↦ found ], λ found. inr found)
 

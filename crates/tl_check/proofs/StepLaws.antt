@@ -80,7 +80,7 @@ put_both : (p : Placed) (xs ys : List Rule) (r0 r1 r2 : List Row) → r1 ≡ r0 
 put_both p xs ys r0 r1 r2 one two =
     two ∙ ap (λ rows. rows ++ map (row_of p) ys) one ∙ append_assoc r0 (map (row_of p) xs) (map (row_of p) ys) ∙ ap (λ rows. r0 ++ rows) (sym (map-append (row_of p) xs ys))
 
--- Its rows, put behind others one list after the other.
+-- Its rows, put after others one list after the other.
 pub head_rows : (m : Manager) (state : SpanState) (p : Placed) (format flows clients : List Rule) (r0 r1 r2 r3 : List Row) → burst_at state p.link p.beat.chan ≡ None
     → format ++ flows ++ clients ≡ judged_head m (shown state) p (message_of (m.links p.link) p.beat)
     → r1 ≡ r0 ++ map (row_of p) format → r2 ≡ r1 ++ map (row_of p) flows → r3 ≡ r2 ++ map (row_of p) clients → r3 ≡ r0 ++ map (row_of p) (judged_rules m (shown state) p)

@@ -19,7 +19,7 @@ use Rattle.tl_check.specs.declared.once.OnceFault.TheVariants as once
 abbrev pub adds : List Frag → List AnEdit
 adds fs = map add fs
 
--- The first refusal of edits that come one after the other, behind so many others.
+-- The first refusal of edits that come one after the other, after so many others.
 abbrev pub refusal_from : ℕ → InputData → List AnEdit → Option EditFault
 refusal_from edits now [] = None
 refusal_from edits now (e ∷ es) = option_map_or (λ why. Some why) (refusal edits now e) (refusal_from (edits + 1) (changed now e) es)

@@ -21,7 +21,7 @@ abbrev pub monitor_text : Option ℕ → List ℕ
 monitor_text None = []
 monitor_text (Some monitor) = codes " " ++ decimal monitor
 
--- the pieces, one behind the other
+-- the pieces, one after the other
 abbrev pub joined : List (List ℕ) → List ℕ
 joined [] = []
 joined (piece ∷ pieces) = piece ++ joined pieces

@@ -52,7 +52,7 @@ from_rise manager number (link ∷ decls) = elim (link.manager == manager) as (�
 pub clients_rise : ClientsRise
 clients_rise manager decls = from_rise manager 0 decls
 
--- A link that stands behind another is another.
+-- A link that stands after another is another.
 other_behind : (numbers : List ℕ) (k place link : ℕ) → IsStrictlySortedBy nat_cmp numbers → k < place → place < length numbers → get_or numbers place link ≡ link
     → (get_or numbers k link == link) ≡ false
 other_behind numbers k place link rises less within here =

@@ -77,7 +77,7 @@ fn copied(alloc: Global, states: &[ClientState]) -> Result<Vec<ClientState>, All
     Ok(copy)
 }
 
-/// Puts rules behind others, where there is room for them.
+/// Puts rules after others, where there is room for them.
 fn append(rules: &mut RuleList, more: &[Rule])
     requires { length rules.old + length more.now ≤ 10 }
     ensures { rules.new ≡ rules.old ++ more.now }

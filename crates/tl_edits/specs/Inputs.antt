@@ -78,7 +78,7 @@ cause now (attach monitor w) = on_link now (link_of w) (λ link. if was_attached
 cause now (retune monitor limit) = option_map_or limit_refusal (watch_at monitor now.monitors) (Some fault.NoMonitor)
 cause now (detach monitor) = if is_some (watch_at monitor now.monitors) then None else Some fault.NoMonitor
 
--- Why an edit is refused behind so many others: by what stands, then where no more edits are accepted.
+-- Why an edit is refused after so many others: by what stands, then where no more edits are accepted.
 abbrev pub refusal : ℕ → InputData → AnEdit → Option EditFault
 refusal edits now e = option_map_or (λ why. Some why) (cause now e) (if nat_le most_edits edits then Some fault.LogFull else None)
 

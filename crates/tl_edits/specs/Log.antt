@@ -12,12 +12,12 @@ changed_by now (e ∷ es) = changed_by (changed now e) es
 abbrev pub inputs_after : Topology → List AnEdit → InputData
 inputs_after topo es = changed_by (blank topo) es
 
--- Each edit is accepted behind those before it, so many of which were before the first of these.
+-- Each edit is accepted after those before it, so many of which were before the first of these.
 abbrev pub AcceptedFrom : ℕ → InputData → List AnEdit → Type 0
 AcceptedFrom edits now [] = Unit {0}
 AcceptedFrom edits now (e ∷ es) = (refusal edits now e ≡ None) × AcceptedFrom (edits + 1) (changed now e) es
 
--- A log as plain data: its topology and its edits, each of which was accepted behind those before it.
+-- A log as plain data: its topology and its edits, each of which was accepted after those before it.
 pub record LogData : Type 0 where
   pub topo : Topology
   pub edits : List AnEdit

@@ -60,7 +60,7 @@ impl Log {
     pub fn inputs(&self) -> &Inputs
         ensures exact { result.now ≡ inputs_after self.now.topo self.now.edits }
         ensures topo { result.now.topo ≡ self.now.topo }
-        // Each edit was accepted behind those before it.
+        // Each edit was accepted after those before it.
         ensures kept { IsLog self.now }
     {
         &self.inputs

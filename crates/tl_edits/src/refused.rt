@@ -15,7 +15,7 @@ use tl_topology::{Name, Region};
 const MOST_EDITS: usize = 65_536;
 
 impl Inputs {
-    /// Why an edit behind so many others is refused, if it is: the first cause.
+    /// Why an edit after so many others is refused, if it is: the first cause.
     pub(crate) fn refusal(&self, edits: usize, edit: &Edit) -> Option<EditFault>
         ensures { result ≡ refusal edits self.now (plain edit.now) }
     {

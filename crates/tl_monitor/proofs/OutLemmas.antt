@@ -38,7 +38,7 @@ none_out m [] h = refl
 none_out m ((n, Here held) ∷ es) h = past_here m (n, Here held) es refl (none_out m es h)
 none_out m ((n, Out away) ∷ es) h = absurd (let never : Some n ≡ None = h in cc)
 
--- A number that is found behind another is above it.
+-- A number that is found after another is above it.
 behind : (k n : ℕ) (es : List (ℕ × Place)) (p : Place) → AllByRecursion (λ y. nat_cmp k y ≡ Less) (keys_of es) → lookup (is_at (nat_cmp n)) es ≡ Some p → nat_cmp k n ≡ Less
 behind k n [] p all h = cc
 behind k n (e ∷ es) p all h = go (behind k n es p all.1) (is_at (nat_cmp n) e.0) refl h

@@ -1,4 +1,4 @@
--- What a function of places finds at a number, behind a place that comes, goes or changes.
+-- What a function of places finds at a number, after a place that comes, goes or changes.
 use Rattle.std.proofs.Common.{◌≡◌, ℕ, true, false, cond, Bool, Option, Some, None, refl, sym, ap, subst, ◌∙◌}
 use Rattle.std.specs.Option.{option_and_then, IsSome}
 use Rattle.std.specs.Ordering.{nat_cmp}

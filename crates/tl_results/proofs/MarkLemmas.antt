@@ -69,7 +69,7 @@ module _ {S R : Type 0} (same : S → S → Type 0) (os : List (ℕ × S)) where
         | false ↦ (m.0, marked_live k t (left e) es m.1)
       ]
 
-  -- ---- the pieces behind a key, where something else comes to stand before them
+  -- ---- the pieces after a key, where something else comes to stand before them
 
   module _ (k : PieceKey) (l m : Option (ℕ × Option S)) (was : IsClear k l) (is : IsClear k m) where
     other : (e : PieceKey × Slot S R) → k.owner < e.0.owner → IsExact same os l e.0 e.1 → IsExact same os m e.0 e.1
@@ -127,7 +127,7 @@ module _ {S R : Type 0} (same : S → S → Type 0) (os : List (ℕ × S)) where
   pub judged_none : (es : List (PieceKey × Slot S R)) → IsMarkedBut same os None es → IsMarked same os None es
   judged_none es b = subst (IsMarked same os None) (sym b.all) (marked_append None b.front b.back b.marked b.behind)
 
-  -- ---- after a change, all marks but that of the piece behind
+  -- ---- after a change, all marks but that of the piece after
 
   pub blank_mark : (k : PieceKey) (l : Option (ℕ × Option S)) → is_some (opening_of k.owner os) ≡ true → IsExact {R = R} same os l k blank
   blank_mark k l owner = record { owner = owner; mark = (λ h. cc, λ h. absurd h) }

@@ -1,4 +1,4 @@
--- The first piece that is wanted gets its result, and the next that is wanted stands behind it.
+-- The first piece that is wanted gets its result, and the next that is wanted stands after it.
 use Rattle.std.proofs.Common.{◌≡◌, ℕ, ◌≤◌, ◌==◌, true, false, not, ◌&&◌, cond, List, [], ◌∷◌, refl, sym, ap, ◌∙◌, subst, arith, Less, Greater, Option, Some, None, inl, inr}
 use Rattle.std.proofs.lemmas.Bool.Decides.{nat_tests}
 use Rattle.std.specs.Prelude.{◌⊎◌, ⊤}

@@ -20,7 +20,7 @@ left_after None es = 0
 left_after (Some k) es = suc (length (after k es))
 
 module _ {S R : Type 0} (o : ℕ) where
-  -- the front is done, and the next is the first of the owner behind it
+  -- the front is done, and the next is the first of the owner after it
   pub record IsDoneTo (old now : Board S R) (next : Option PieceKey) : Type 0 where
     pub front : List (PieceKey × Piece S R)
     pub back : List (PieceKey × Piece S R)

@@ -13,7 +13,7 @@ use Rattle.tl_results.specs.declared.key.PieceKey.{PieceKey}
 abbrev pub key_cmp : PieceKey → PieceKey → Ordering
 key_cmp x y = ordering_then (nat_cmp x.owner y.owner) (nat_cmp x.window y.window)
 
--- the second key is the first one, or stands behind it
+-- the second key is the first one, or stands after it
 abbrev pub IsNotBefore : PieceKey → PieceKey → Type 0
 IsNotBefore from k = is_le (key_cmp from k) ≡ true
 
@@ -27,7 +27,7 @@ module _ {V : Type 0} where
   change k f [] = []
   change k f (e ∷ es) = cond (is_at (key_cmp k) e.0) ((e.0, f e.1) ∷ es) (e ∷ change k f es)
 
-  -- the entries before the key, those behind it, and those from it on
+  -- the entries before the key, those after it, and those from it on
   abbrev pub before : PieceKey → List (PieceKey × V) → List (PieceKey × V)
   before k es = entries_between key_cmp Unbounded (Excluded k) es
 

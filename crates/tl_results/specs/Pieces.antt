@@ -85,7 +85,7 @@ module _ {S R : Type 0} where
   exit_of None = None
   exit_of (Some r) = Some r.exit
 
-  -- what a piece leaves to the one behind it in the list
+  -- what a piece leaves to the one after it in the list
   abbrev pub left_by : PieceKey → Piece S R → Option (ℕ × Option S)
   left_by k p = Some (k.owner, exit_of p.result)
 

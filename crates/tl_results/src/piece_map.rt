@@ -26,7 +26,7 @@ use tl_state::Same;
 /// Owners with their opening states, and the pieces of each: its windows that hold beats, with their results and their live
 /// tickets. A piece is wanted if it has no result, or if the exit before it is there and isn't its own entry: the exit of its
 /// owner's window just before, or the opening state where there is none. Which pieces are wanted is kept: each change judges the
-/// piece behind it, and compares states only there. A call costs a few steps down a tree, but where it says what more.
+/// piece after it, and compares states only there. A call costs a few steps down a tree, but where it says what more.
 #[derive(Drop)]
 pub struct PieceMap<S: Same, R> {
     openings: Openings<S>,
@@ -131,7 +131,7 @@ impl<S: Same + Drop, R: Drop> PieceMap<S, R> {
         self.slots.first_of_owner(owner)
     }
 
-    /// The key of the piece behind the key that is of its owner.
+    /// The key of the piece after the key that is of its owner.
     pub fn next_of(&self, key: PieceKey) -> Option<PieceKey>
         ensures key { result ≡ first_key (owned_by key.owner (after key self.now.pieces)) }
         ensures order { Rises self.now.pieces }

@@ -157,7 +157,7 @@ impl<S, R> Slots<S, R> {
         }
     }
 
-    /// The key of the slot behind the key, if it is of its owner.
+    /// The key of the slot after the key, if it is of its owner.
     pub(crate) fn next_of_owner(&self, key: PieceKey) -> Option<PieceKey>
         ensures key { result ≡ if_owned key.owner (first_key (after key self.now)) }
         ensures order { Rises self.now }

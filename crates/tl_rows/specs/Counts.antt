@@ -16,7 +16,7 @@ use Rattle.tl_rows.specs.declared.counts.OpenCounts.{OpenCounts}
 use Rattle.tl_rows.specs.declared.origin.Origin.{Origin}
 use Rattle.tl_rows.specs.Origins.{origins_on, placed}
 
--- How many of the beats are heads, behind others, the newest of these first.
+-- How many of the beats are heads, after others, the newest of these first.
 abbrev pub heads_after : Links → List Placed → List Placed → ℕ
 heads_after links before [] = 0
 heads_after links before (p ∷ beats) = one_if (at_head links before p) + heads_after links (p ∷ before) beats

@@ -55,11 +55,11 @@ abbrev pub is_remark : List ℕ → Bool
 is_remark [] = true
 is_remark (b ∷ bytes) = b == 35
 
--- a word that a reason stands behind
+-- a word that a reason stands after
 unfoldable pub reasoned_at : List ℕ → Option (List ℕ)
 reasoned_at words = word_at words >>= λ last. if length last.1 == 0 then None else Some last.0
 
--- its four words, where a reason stands behind them
+-- its four words, where a reason stands after them
 unfoldable pub columns_at : List ℕ → Option (List ℕ × List ℕ × List ℕ × List ℕ)
 columns_at line = do
   broken ← word_at line
@@ -83,7 +83,7 @@ line_waiver topo line n = if is_remark line then Ok None else (waiver_at topo li
 
 -- ---- lines
 
--- those of the lines from line n on, behind others; the last piece of a text is behind its last newline, and no line
+-- those of the lines from line n on, after others; the last piece of a text is after its last newline, and no line
 unfoldable pub waivers_from : Topology → List Waiver → ℕ → List (List ℕ) → Result (List Waiver) WaiverFault
 waivers_from topo done n [] = Ok done
 waivers_from topo done n (line ∷ []) = Ok done

@@ -63,7 +63,7 @@ param_texts _ = []
 abbrev pub param_text_of : Op → ℕ → Option (List ℕ)
 param_text_of o param = slice_get (param_texts o) param
 
--- The pieces, one behind the other.
+-- The pieces, one after the other.
 abbrev pub joined : List (List ℕ) → List ℕ
 joined [] = []
 joined (piece ∷ []) = piece

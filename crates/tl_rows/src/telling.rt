@@ -36,7 +36,7 @@ pub struct Telling {
     pub told: Vec<Told>,
     /// How many of its beats are heads.
     pub heads: usize,
-    /// How much is open behind them.
+    /// How much is open after them.
     pub open: OpenCounts,
 }
 
@@ -58,7 +58,7 @@ fn cycles_of(alloc: Global, rows: &[Row]) -> Result<BTreeSet<u64>, AllocError>
     Ok(cycles)
 }
 
-/// Puts those of the rows that are of the next beat behind others, each with its reason.
+/// Puts those of the rows that are of the next beat after others, each with its reason.
 fn tell_beat(
     state: &ManagerOrigins,
     topo: &Topo,
@@ -88,7 +88,7 @@ fn tell_beat(
 
 /// The rows of a manager's beats, beat by beat, each with what makes it so. The manager's blocks have 2 to the exponent bytes,
 /// its clients are the links with these numbers, and these are all its beats in the order of positions. Rows of no beat of them
-/// are passed over. Beside them how many of the beats are heads, and how much is open behind the last. AllocError where memory
+/// are passed over. Beside them how many of the beats are heads, and how much is open after the last. AllocError where memory
 /// is refused.
 pub fn tell(
     alloc: Global,

@@ -64,7 +64,7 @@ fn cycles_of(first: &[u8], last: &[u8]) -> Option<Cycles>
     }
 }
 
-/// A word that a reason stands behind.
+/// A word that a reason stands after.
 #[tactic(auto, unfolding(crate::specs::Waivers::reasoned_at))]
 fn reasoned(words: &[u8]) -> Option<&[u8]>
     ensures { option_copied result ≡ reasoned_at words.now }
@@ -73,7 +73,7 @@ fn reasoned(words: &[u8]) -> Option<&[u8]>
     if reason.is_empty() { None } else { Some(last) }
 }
 
-/// The four words of a line; None where it has fewer, or no reason behind them.
+/// The four words of a line; None where it has fewer, or no reason after them.
 #[tactic(auto, unfolding(crate::specs::Waivers::columns_at))]
 fn columns_of(line: &[u8]) -> Option<Columns<'_>>
     ensures { option_map (λ x. (x.0.now, x.1.now, x.2.now, x.3.now)) result ≡ columns_at line.now }
@@ -120,7 +120,7 @@ fn line_waiver(topo: &Topo, line: &[u8], number: u64) -> Result<Option<Waiver>, 
     Ok(Some(waiver_of(topo, line, number)?))
 }
 
-/// Puts a waiver behind others, if there is one.
+/// Puts a waiver after others, if there is one.
 fn push_found(waivers: &mut Vec<Waiver>, found: Option<Waiver>) -> Result<(), AllocError>
     ensures { OnOk result (waivers.new.items ≡ waivers.old.items ++ option_to_list found) }
 {
@@ -132,7 +132,7 @@ fn push_found(waivers: &mut Vec<Waiver>, found: Option<Waiver>) -> Result<(), Al
 
 /// The waivers of a text, a line for each: RULE LINK FROM TO and a reason, with one space between them; the rule in any case, and
 /// `*` for any rule or link. FROM and TO are cycles, both of them waived too. Empty lines, and those that begin with `#`, are passed
-/// over, and so is what stands behind the last newline. A refusal names the first faulty line and, in that line, the first cause in
+/// over, and so is what stands after the last newline. A refusal names the first faulty line and, in that line, the first cause in
 /// the order of words, rule, link, cycles; Memory where memory is refused.
 pub fn read_waivers(alloc: Global, topo: &Topo, text: &[u8]) -> Result<Vec<Waiver>, WaiverFault>
     ensures { Gives is_memory (λ waivers. waivers.items) result (waivers_in topo.now (lines_of text.now)) }

@@ -38,7 +38,7 @@ Known = Option (List ℕ)
 abbrev Read : Type 0
 Read = Result (Option (Command × ℕ)) ScriptFault
 
--- ---- commands one behind the other
+-- ---- commands one after the other
 
 by_reading : (bytes : List ℕ) (read : Read) → command_in bytes ≡ read → commands_of bytes ≡ script_by read (λ taken. commands_of (drop taken bytes))
 by_reading bytes read e = first_command_then_others bytes ∙ ap (λ (r : Read). script_by r (λ taken. commands_of (drop taken bytes))) e

@@ -37,7 +37,7 @@ given_ok (Some y) found x e = cc
 same_Ok : {A : Type 0} (x y : A) → ◌≡◌ {A = Result A ScriptFault} (Ok x) (Ok y) → x ≡ y
 same_Ok x y e = cc
 
--- ---- the bytes behind a line
+-- ---- the bytes after a line
 
 record Carries (number behind text : List ℕ) : Type 0 where
   spelled : number ≡ numeral 10 (length text)

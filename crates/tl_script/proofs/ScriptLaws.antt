@@ -1,4 +1,4 @@
--- All commands of a script, one behind the other.
+-- All commands of a script, one after the other.
 use Rattle.std.proofs.Common.{◌≡◌, ℕ, zero, suc, ◌≤◌, List, [], ◌∷◌, ◌++◌, append_assoc, append-nil, length, length-drop, drop, Option, Some, None, Result, Ok, Err, refl, sym, ap, ◌∙◌, subst, arith}
 use Rattle.std.specs.List.{AllByRecursion}
 use Rattle.std.proofs.lemmas.List.Concat.{flat_map-cons}
@@ -65,7 +65,7 @@ at_command bytes c taken e = first_command_then_others bytes ∙ ap (λ (r : Rea
 at_fault : (bytes : List ℕ) (found : ScriptFault) → command_in bytes ≡ Err found → commands_of bytes ≡ record { commands = []; fault = Some found }
 at_fault bytes found e = first_command_then_others bytes ∙ ap (λ (r : Read). script_by r (λ n. commands_of (drop n bytes))) e
 
--- ---- spellings behind one another
+-- ---- spellings after one another
 
 left_is : (rest : List ℕ) (found : Option ScriptFault) → IsLeft rest found → commands_of rest ≡ record { commands = []; fault = found }
 unfolding commands_within

@@ -18,7 +18,7 @@ abbrev pub ReadsAreSpelled : Type 0
 ReadsAreSpelled = (bytes : List ℕ) (c : Command) (taken : ℕ) → command_in bytes ≡ Ok (Some (c, taken))
     → IsCommand c × (taken ≡ length (command_text c)) × ((rest : List ℕ) × (bytes ≡ command_text c ++ rest))
 
--- Two commands with one spelling are the same, and none goes on behind another.
+-- Two commands with one spelling are the same, and none goes on after another.
 abbrev pub SpellingsTellCommandsApart : Type 0
 SpellingsTellCommandsApart = (c d : Command) (rest : List ℕ) → IsCommand c → IsCommand d → command_text d ≡ command_text c ++ rest → (c ≡ d) × (rest ≡ [])
 
@@ -26,22 +26,22 @@ SpellingsTellCommandsApart = (c d : Command) (rest : List ℕ) → IsCommand c �
 abbrev pub FirstCommandThenOthers : Type 0
 FirstCommandThenOthers = (bytes : List ℕ) → commands_of bytes ≡ script_by (command_in bytes) (λ taken. commands_of (drop taken bytes))
 
--- what is left of a script behind its last command: nothing, or what is refused with the fault
+-- what is left of a script after its last command: nothing, or what is refused with the fault
 abbrev pub IsLeft : List ℕ → Option ScriptFault → Type 0
 IsLeft rest None = rest ≡ []
 IsLeft rest (Some found) = command_in rest ≡ Err found
 
--- The spellings of commands, one behind the other and before nothing or a refused rest, are a script of these commands.
+-- The spellings of commands, one after the other and before nothing or a refused rest, are a script of these commands.
 abbrev pub CommandsAreRead : Type 0
 CommandsAreRead = (commands : List Command) (rest : List ℕ) (found : Option ScriptFault) → AllByRecursion IsCommand commands → IsLeft rest found
     → commands_of (script_text commands ++ rest) ≡ record { commands = commands; fault = found }
 
--- Each script is the spellings of its commands, and behind them what is refused with its fault, or nothing.
+-- Each script is the spellings of its commands, and after them what is refused with its fault, or nothing.
 abbrev pub ScriptsAreCommands : Type 0
 ScriptsAreCommands = (bytes : List ℕ) → AllByRecursion IsCommand (commands_of bytes).commands
     × ((rest : List ℕ) × (bytes ≡ script_text (commands_of bytes).commands ++ rest) × IsLeft rest (commands_of bytes).fault)
 
--- A fault is that of the command behind those before it, counted from 1.
+-- A fault is that of the command after those before it, counted from 1.
 abbrev pub FaultsAreNumbered : Type 0
 FaultsAreNumbered = (commands : List Command) (rest : List ℕ) (found : ScriptFault) → AllByRecursion IsCommand commands → command_in rest ≡ Err found
     → fault_of (commands_of (script_text commands ++ rest)) ≡ Some (length commands + 1, found)

@@ -123,7 +123,7 @@ retune_at words = do
   limit ← number_at 10 (2 ^ 32 - 1) number.1
   Some (command.Retune n limit)
 
--- ---- the first word, and those behind it
+-- ---- the first word, and those after it
 
 -- a command that no bytes follow
 unfoldable pub order_at : List ℕ → List ℕ → Option Command

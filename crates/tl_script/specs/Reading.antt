@@ -11,7 +11,7 @@ use Rattle.tl_script.specs.declared.fault.ScriptFault.TheVariants as fault
 use Rattle.tl_script.specs.Commands.{bytes_of}
 use Rattle.tl_script.specs.Lines.{order_at}
 
--- the bytes behind a line, as many as a word says, which are at most 8,388,608
+-- the bytes after a line, as many as a word says, which are at most 8,388,608
 abbrev pub carried_at : List ℕ → List ℕ → Result (List ℕ) ScriptFault
 carried_at number behind = or_fault (number_at 10 8388608 number) fault.BadCommand >>> λ count.
     if nat_lt (length behind) count then Err fault.Truncated else Ok (take count behind)

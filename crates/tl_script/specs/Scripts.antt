@@ -6,7 +6,7 @@ use Rattle.tl_script.specs.declared.fault.ScriptFault.{ScriptFault}
 use Rattle.tl_script.specs.Commands.{monitor_of}
 use Rattle.tl_script.specs.Reading.{command_in}
 
--- The commands of a script in order, and the fault of the one behind them, if the script does not end there.
+-- The commands of a script in order, and the fault of the one after them, if the script does not end there.
 pub record Script : Type 0 where
   pub commands : List Command
   pub fault : Option ScriptFault
@@ -15,7 +15,7 @@ pub record Script : Type 0 where
 abbrev pub onto_script : Command → Script → Script
 onto_script c script = record { commands = c ∷ script.commands; fault = script.fault }
 
--- what a first reading makes of the readings behind it
+-- what a first reading makes of the readings after it
 abbrev pub script_by : Result (Option (Command × ℕ)) ScriptFault → (ℕ → Script) → Script
 script_by (Ok None) behind = record { commands = []; fault = None }
 script_by (Ok (Some read)) behind = onto_script read.0 (behind read.1)

@@ -43,7 +43,7 @@ line_of command.Publish = codes "publish"
 abbrev pub command_text : Command → List ℕ
 command_text c = ended (line_of c) ++ bytes_of c
 
--- one command behind the other
+-- one command after the other
 abbrev pub script_text : List Command → List ℕ
 script_text commands = flat_map command_text commands
 

@@ -15,7 +15,7 @@ pub fn reads_are_spelled()
     ensures { ReadsAreSpelled }
 {}
 
-/// Two commands with one spelling are the same, and no spelling goes on behind another.
+/// Two commands with one spelling are the same, and no spelling goes on after another.
 pub fn spellings_tell_commands_apart()
     ensures { SpellingsTellCommandsApart }
 {}
@@ -26,19 +26,19 @@ pub fn first_command_then_others()
     ensures { FirstCommandThenOthers }
 {}
 
-/// The spellings of commands, one behind the other, are a script of these commands; what is refused behind them ends it with
+/// The spellings of commands, one after the other, are a script of these commands; what is refused after them ends it with
 /// that fault.
 #[tactic(auto, using(crate::proofs::ScriptLaws::commands_are_read))]
 pub fn commands_are_read()
     ensures { CommandsAreRead }
 {}
 
-/// Each script is the spellings of its commands, and behind them what is refused with its fault, or nothing.
+/// Each script is the spellings of its commands, and after them what is refused with its fault, or nothing.
 pub fn scripts_are_commands()
     ensures { ScriptsAreCommands }
 {}
 
-/// A fault is that of the command behind those before it, counted from 1.
+/// A fault is that of the command after those before it, counted from 1.
 #[tactic(auto, using(crate::proofs::ScriptLaws::faults_are_numbered))]
 pub fn faults_are_numbered()
     ensures { FaultsAreNumbered }

@@ -52,7 +52,7 @@ fn class_of(chan: &[u8], opcode: &[u8]) -> Option<Class>
     Some(Class { chan, opcode })
 }
 
-/// The class and limit behind the link.
+/// The class and limit after the link.
 #[tactic(auto, unfolding(crate::specs::Lines::budget_at))]
 fn budget_of(link: Name, words: &[u8]) -> Option<Watch>
     ensures { result ≡ budget_at link words.now }
@@ -64,7 +64,7 @@ fn budget_of(link: Name, words: &[u8]) -> Option<Watch>
     Some(Watch::Budget { link, class, limit })
 }
 
-/// The two classes behind the link.
+/// The two classes after the link.
 #[tactic(auto, unfolding(crate::specs::Lines::after_at))]
 fn after_of(link: Name, words: &[u8]) -> Option<Watch>
     ensures { result ≡ after_at link words.now }
@@ -81,7 +81,7 @@ fn after_of(link: Name, words: &[u8]) -> Option<Watch>
     })
 }
 
-/// The watch behind the number of a monitor.
+/// The watch after the number of a monitor.
 #[tactic(auto, unfolding(crate::specs::Lines::watch_at))]
 fn watch_of(words: &[u8]) -> Option<Watch>
     ensures { result ≡ watch_at words.now }
@@ -189,7 +189,7 @@ fn retune_of<'a>(words: &[u8]) -> Option<Command<'a>>
     Some(Command::Retune { number, limit })
 }
 
-/// The command of a line that no bytes follow, by its first word and the words behind it.
+/// The command of a line that no bytes follow, by its first word and the words after it.
 #[tactic(auto, unfolding(crate::specs::Lines::order_at))]
 pub(crate) fn order_of<'a>(kind: &[u8], words: &[u8]) -> Option<Command<'a>>
     ensures { result ≡ order_at kind.now words.now }

@@ -17,7 +17,7 @@ use tl_text::{decimal, line, word};
 /// The most bytes of a fragment's text.
 const MOST_BYTES: u64 = 8_388_608;
 
-/// The bytes behind a line, as many as its last word says.
+/// The bytes after a line, as many as its last word says.
 fn carried<'a>(number: &[u8], behind: &'a [u8]) -> Result<Text<'a>, ScriptFault>
     ensures { result ≡ carried_at number.now behind.now }
 {

@@ -18,7 +18,7 @@ module _ {K V : Type 0} {cmp : K → K → Ordering} (total : IsTotalOrder cmp) 
   first_value : (e : K × V) (es : List (K × V)) → value_at cmp (e ∷ es) e.0 ≡ Some e.1
   first_value e es = value_here cmp e.0 e es (tied_itself total e.0)
 
-  -- behind the first entry its key has no value
+  -- after the first entry its key has no value
   past_first : (key : K) (e : K × V) (es : List (K × V)) → Rises cmp (e ∷ es) → is_eq (cmp key e.0) ≡ true → value_at cmp es key ≡ None
   past_first key e es s here = lookup-none (is_at (cmp key)) es (none_past_head (eq_by_cmp_equiv total) key e es (IsDistinct-from_sorted cmp (keys_of (e ∷ es)) s) here)
 

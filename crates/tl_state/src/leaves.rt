@@ -87,7 +87,7 @@ pub(crate) fn replace<K: Copy, V: Copy>(
     put_leaf(alloc, leaves, at, made)
 }
 
-/// Puts an entry behind all others. At want of memory nothing has changed.
+/// Puts an entry after all others. At want of memory nothing has changed.
 pub(crate) fn put_last<K: Copy, V: Copy>(
     alloc: Global,
     leaves: &mut Vec<Arc<Vec<(K, V)>>>,

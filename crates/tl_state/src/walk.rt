@@ -7,7 +7,7 @@ use std::sync::Arc;
 pub struct Entries<'a, K: Copy, V: Copy> {
     // What is left of the leaf that the walk is in.
     entries: &'a [(K, V)],
-    // The leaves behind it.
+    // The leaves after it.
     leaves: &'a [Arc<Vec<(K, V)>>],
 }
 

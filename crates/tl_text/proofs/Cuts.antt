@@ -8,7 +8,7 @@ use Rattle.std.proofs.lemmas.Option.{none-some, same_Some}
 use Rattle.memchr.specs.Find.{IsFirstByte, is_byte}
 use Rattle.tl_text.specs.Words.{cut, before_stop, word_at, lines_of, first_line, IsBehind}
 
--- a line and those behind it
+-- a line and those after it
 abbrev pub Line : Type 0
 Line = List ℕ × List (List ℕ)
 
@@ -159,12 +159,12 @@ first_by view before (Some rest) (Some x) e = rw (same_Some _ _ e) (more before 
 pub line_first : {X : Type 0} (view : X → List ℕ × List ℕ) (bytes : List ℕ) (found : Option X) → option_map view found ≡ before_stop 10 bytes → option_map (λ x. ((view x).0, lines_of (view x).1)) found ≡ first_line (lines_of bytes)
 line_first view bytes found e = rw (lines_cut bytes) (first_by view (cut 10 bytes).0 (cut 10 bytes).1 found e)
 
--- ---- what stands behind
+-- ---- what stands after
 
 pub behind_all : (bytes : List ℕ) → IsBehind bytes bytes
 behind_all bytes = ([], refl)
 
--- and behind one line more
+-- and after one line more
 pub behind_line : (bytes rest line after : List ℕ) → IsBehind bytes rest → rest ≡ line ++ 10 ∷ after → IsBehind bytes after
 behind_line bytes rest line after behind e =
     let one : bytes ≡ behind.0 ++ (line ++ 10 ∷ after) = behind.1 ∙ ap (λ (l : List ℕ). behind.0 ++ l) e in

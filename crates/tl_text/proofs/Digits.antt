@@ -36,7 +36,7 @@ onto_enough base k (suc j) n acc two lt =
     let P : ℕ → Type 0 = λ m. digits_onto m base false n acc ≡ digits_onto (suc k) base false n acc in
     subst P (sym z) (onto_more base (j + k) n acc two wide ∙ subst P (sym y) (onto_enough base k j n acc two lt))
 
--- what stands behind the digits is put behind them
+-- what stands after the digits is put after them
 onto_behind : (base k n : ℕ) (acc rest : List ℕ) → digits_onto k base false n (acc ++ rest) ≡ digits_onto k base false n acc ++ rest
 onto_behind base zero n acc rest = refl
 onto_behind base (suc k) n acc rest = elim (eqb (n / base) 0) as (λ t. cond t (digit_glyph false (n % base) ∷ (acc ++ rest)) (digits_onto k base false (n / base) (digit_glyph false (n % base) ∷ (acc ++ rest))) ≡ cond t (digit_glyph false (n % base) ∷ acc) (digits_onto k base false (n / base) (digit_glyph false (n % base) ∷ acc)) ++ rest) [
@@ -71,7 +71,7 @@ onto_step base k n two more lt =
     let same = onto_more base k (n / base) [] two (fewer base (suc k) n two lt) in
     one ∙ onto_behind base (suc k) (n / base) [] (digit_glyph false (n % base) ∷ []) ∙ ap (λ (l : List ℕ). l ++ digit_glyph false (n % base) ∷ []) (sym same)
 
--- the last digit behind the others
+-- the last digit after the others
 pub numeral_step : (base n : ℕ) → 2 ≤ base → base ≤ n → n < 2 ^ 64 → numeral base n ≡ numeral base (n / base) ++ digit_glyph false (n % base) ∷ []
 unfolding digits
 numeral_step base n two more fits = onto_step base 62 n two more (omega (arith, pow-le-pow_left two 64))

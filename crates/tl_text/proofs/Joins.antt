@@ -17,7 +17,7 @@ some_front zero words pos lt = absurd (omega arith)
 joined_from : (front : List Word) (w : Word) (ws : List Word) (last : Word) → front ≡ w ∷ ws → join_with_byte 32 (map word_text (front ++ last ∷ [])) ≡ join_with_byte 32 (map word_text front) ++ 32 ∷ word_text last
 joined_from front w ws last e = rw e (join_more w ws last)
 
--- the first word, or one more behind a space
+-- the first word, or one more after a space
 pub joined_next : (i : ℕ) (words : List Word) (d : Word) (old new : List ℕ) → i < length words → old ≡ join_with_byte 32 (map word_text (take i words))
     → (i ≡ 0 → new ≡ old ++ word_text (get_or words i d)) → (0 < i → new ≡ old ++ 32 ∷ word_text (get_or words i d)) → new ≡ join_with_byte 32 (map word_text (take (i + 1) words))
 joined_next zero [] d old new lt is first behind = absurd (omega arith)

@@ -70,7 +70,7 @@ number_step base most word f y P two fits e k =
     let t = number_takes base most word n.0 two fits n.1 in
     k n.0 t.0 t.1 n.2
 
--- a number with a space behind it
+-- a number with a space after it
 pub field_step : {B : Type 0} (base most : ℕ) (line : List ℕ) (f : List ℕ × List ℕ → ℕ → Option B) (y : B) (P : Type 0) → 2 ≤ base → most < 2 ^ 64
     → (word_at line >>= λ w. number_at base most w.0 >>= λ n. f w n) ≡ Some y
     → ((word rest : List ℕ) (n : ℕ) → line ≡ numeral base n ++ 32 ∷ rest → n ≤ most → f (word, rest) n ≡ Some y → P) → P
@@ -84,7 +84,7 @@ bit_step word f y P e k =
     let b = bind_some (bit_at word) f y e in
     k b.0 (bit_takes word b.0 b.1) b.2
 
--- a bit with a space behind it
+-- a bit with a space after it
 pub bit_field_step : {B : Type 0} (line : List ℕ) (f : List ℕ × List ℕ → Bool → Option B) (y : B) (P : Type 0)
     → (word_at line >>= λ w. bit_at w.0 >>= λ b. f w b) ≡ Some y
     → ((word rest : List ℕ) (b : Bool) → line ≡ bit b ++ 32 ∷ rest → f (word, rest) b ≡ Some y → P) → P
@@ -137,7 +137,7 @@ by_cut (line, Some rest) all e = (line, lines_of rest, e)
 pub some_line : (bytes : List ℕ) → (line : List ℕ) × (lines : List (List ℕ)) × (lines_of bytes ≡ line ∷ lines)
 some_line bytes = by_cut (cut 10 bytes) (lines_of bytes) (lines_cut bytes)
 
--- ---- lines behind one another
+-- ---- lines after one another
 
 pub name_line : (name : List ℕ) → is_name name ≡ true → is_free 10 name ≡ true
 name_line name e = name_free 10 name (omega arith) e

@@ -21,7 +21,7 @@ wrote_more old mid new d n bytes p q =
     let rest : take (length bytes - d) (drop d bytes) ≡ drop d bytes = take_all (length bytes - d) (drop d bytes) (omega (arith, length-drop d bytes)) in
     then old mid new (take d bytes) (take n (drop d bytes)) (take (d + n) bytes) p (rw (← rest) q) (sym (take-add d n bytes))
 
--- ---- one text behind another, between states of a sink
+-- ---- one text after another, between states of a sink
 
 module _ {S : Type 0} (contents : S → Option (List ℕ)) (count : S → ℕ) where
   abbrev pub Sent : S → S → List ℕ → Type 0
@@ -36,7 +36,7 @@ module _ {S : Type 0} (contents : S → Option (List ℕ)) (count : S → ℕ) w
   pub more : (a b : List ℕ) (s t u : S) → Sent s t a → Sent t u b → Sent s u (a ++ b)
   more a b s t u front rest = (rest.0 ∙ front.0, then (contents s) (contents t) (contents u) a b (a ++ b) front.1 rest.1 refl)
 
-  -- the writing failed in the part a, behind the front
+  -- the writing failed in the part a, after the front
   pub fell : {E : Type 0} (front a rest text : List ℕ) (s t u : S) (r : Result (Unit {0}) E) → IsErr r → text ≡ front ++ (a ++ rest) → Sent s t front → Fell t u a → Writes text (contents s) (contents u) (count s) (count u) r
   fell front a rest text s t u (Ok done) is e sent failed = absurd cc
   fell front a rest text s t u (Err fault) is e sent failed =

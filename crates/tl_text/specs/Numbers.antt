@@ -13,7 +13,7 @@ digit base b = do
   d ← if nat_lt b 48 then None else (if nat_lt b 58 then Some (b - 48) else (if nat_lt b 97 then None else (if nat_lt b 103 then Some (b - 97 + 10) else None)))
   if nat_lt d base then Some d else None
 
--- the number that bytes spell behind the digits of n
+-- the number that bytes spell after the digits of n
 unfoldable pub value_after : ℕ → ℕ → List ℕ → Option ℕ
 value_after base n [] = Some n
 value_after base n (b ∷ bytes) = digit base b >>= λ d. value_after base (n * base + d) bytes

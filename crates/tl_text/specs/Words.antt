@@ -16,7 +16,7 @@ cut stop (b ∷ bytes) = if b == stop then ([], Some bytes) else (b ∷ (cut sto
 abbrev pub before_stop : ℕ → List ℕ → Option (List ℕ × List ℕ)
 before_stop stop bytes = option_map (λ rest. ((cut stop bytes).0, rest)) (cut stop bytes).1
 
--- a word, and what stands after the one space (32) behind it
+-- a word, and what stands after the one space (32) after it
 unfoldable pub word_at : List ℕ → Option (List ℕ × List ℕ)
 word_at line = before_stop 32 line
 
@@ -28,7 +28,7 @@ line_at bytes = before_stop 10 bytes
 abbrev pub lines_of : List ℕ → List (List ℕ)
 lines_of bytes = slice_split (λ b. b == 10) bytes
 
--- the first line and the pieces behind it, where it is ended
+-- the first line and the pieces after it, where it is ended
 abbrev pub first_line : List (List ℕ) → Option (List ℕ × List (List ℕ))
 first_line [] = None
 first_line (line ∷ []) = None

@@ -36,7 +36,7 @@ fn cut(bytes: &[u8], place: Option<usize>) -> Option<(&[u8], &[u8])>
     }
 }
 
-/// The first word of a line and what follows the one space behind it, or None where the line has no space. The word
+/// The first word of a line and what follows the one space after it, or None where the line has no space. The word
 /// can be empty: no spelling of anything is, so two spaces, or one at either end, are found there.
 #[tactic(auto, unfolding(crate::specs::Words::word_at))]
 pub fn word(line: &[u8]) -> Option<(&[u8], &[u8])>

@@ -10,7 +10,7 @@ ghost use Rattle.tl_text.specs.Written.{Writes};
 use crate::output::{ByteOut, WriteFault, write_all};
 use arrayvec::ArrayVec;
 
-/// Room for nine words of at most 20 bytes, with the byte behind each.
+/// Room for nine words of at most 20 bytes, with the byte after each.
 const ROOM: usize = 192;
 
 type Line = ArrayVec<u8, ROOM>;
@@ -69,7 +69,7 @@ fn put_word(line: &mut Line, word: Word)
     }
 }
 
-/// Puts a word at the end of the line, behind a space unless it is the first.
+/// Puts a word at the end of the line, after a space unless it is the first.
 fn put_next(line: &mut Line, index: usize, word: Word)
     requires { array_vec_len line.old + 21 ≤ 192 }
     ensures first { index ≡ 0 → line.new.items ≡ line.old.items ++ word_text word }

@@ -11,7 +11,7 @@ use Rattle.indexmap.specs.IndexMap.{insert_entry}
 is_some_within : (n m : ℕ) → is_some (cond (ltb n m) (Some n) None) ≡ ltb n m
 is_some_within n m = elim (ltb n m) as (λ t. is_some (cond t (Some n) None) ≡ t) [ true ↦ refl | false ↦ refl ]
 
--- what passes no test up to the end passes none here and none behind
+-- what passes no test up to the end passes none here and none after
 passes_none : (t : Bool) (n m : ℕ) → ltb (cond (not t) (1 + n) 0) (suc m) ≡ false → (t ≡ false) × (ltb n m ≡ false)
 passes_none true n m h = absurd (false≢true (sym h ∙ lt-ltb 0 (suc m) (omega arith)))
 passes_none false n m h = (refl, le-ltb n m (omega (arith, ltb-false (1 + n) (suc m) h)))
@@ -33,7 +33,7 @@ differs_at first name value [] at all e = absurd (none-some _ e)
 differs_at {V} first name value (x ∷ es) zero all e = subst (λ (p : List ℕ × V). bytes_eq first p.0 ≡ false) (same_Some _ _ e) all.0
 differs_at first name value (x ∷ es) (suc at) all e = differs_at first name value es at all.1 e
 
--- the entries up to one, and that one put behind them
+-- the entries up to one, and that one put after them
 pub insert_next : {V : Type 0} (es : List (List ℕ × V)) (at : ℕ) (name : List ℕ) (value : V) → IsDistinct bytes_eq (map (λ (p : List ℕ × V). p.0) es) → slice_get es at ≡ Some (name, value)
     → insert_entry bytes_eq (take at es) name value ≡ take (suc at) es
 unfolding IsDistinct

@@ -25,7 +25,7 @@ use Rattle.tl_topology.specs.Text.{Declaration, a_manager, a_link, version_text,
 pub same_text : (a b : List ℕ) → bytes_eq a b ≡ true → a ≡ b
 same_text a b e = (bytes_eq-Decides a b).0 e
 
--- a word with a space behind it has one
+-- a word with a space after it has one
 no_space : (word rest : List ℕ) → is_free 32 (word ++ 32 ∷ rest) ≡ true → ⊥
 no_space [] rest e = absurd (false≢true e)
 no_space (b ∷ word) rest e = no_space word rest (and_parts _ _ e).1
@@ -135,7 +135,7 @@ manager_again m is =
 
 -- ---- a link
 
--- width and largest size, and the words behind them
+-- width and largest size, and the words after them
 abbrev Sizes : Type 0
 Sizes = ℕ × ℕ × List ℕ
 
@@ -173,7 +173,7 @@ sizes_step words f y P e k =
 
 -- ---- how many sources, and whether it is strict
 
--- the words with the mark behind them, or without
+-- the words with the mark after them, or without
 abbrev marked_text : List ℕ → Bool → List ℕ
 marked_text rest strict = cond strict (rest ␣ codes "strict") rest
 
@@ -199,7 +199,7 @@ unfolding mark_at
 mark_takes version.One words = record { spelled = refl; strict = refl }
 mark_takes version.Two words = marked_word (word_at words) words refl
 
--- a number is no word with others behind it
+-- a number is no word with others after it
 unmarked : (found : Option (List ℕ × List ℕ)) (words : List ℕ) → word_at words ≡ found → is_free 32 words ≡ true → found ≡ None
 unmarked None words e free = refl
 unmarked (Some parts) words e free = absurd (no_space parts.0 parts.1 (ap (is_free 32) (sym (word_takes words parts.0 parts.1 e)) ∙ free))

@@ -91,7 +91,7 @@ end_is_no_declaration version d spelled = at_end version (bytes_eq (declaration_
 pub text_is_no_end : (version : Version) (d : Declaration) → IsSpelled version d → declaration_text d ≡ codes "end" → ⊥
 text_is_no_end version d spelled same = none-some d (sym (end_declares_nothing version) ∙ ap (declaration_at version) (sym same) ∙ declaration_again version d spelled)
 
--- ---- the lines behind the first
+-- ---- the lines after the first
 
 record Declares (version : Version) (topo made : Topology) (lines rest : Lines) : Type 0 where
   declarations : List Declaration
@@ -143,7 +143,7 @@ from_again version topo n (d ∷ []) next rest lawful = passes version topo n d 
 from_again version topo n (d ∷ c ∷ ds) next rest lawful =
     passes version topo n d (declaration_text c) (map declaration_text ds ++ codes "end" ∷ next ∷ rest) lawful.0 ∙ from_again version (with_declaration topo d) (n + 1) (c ∷ ds) next rest lawful.1
 
--- ---- faults behind the first line
+-- ---- faults after the first line
 
 record Faulty (version : Version) (topo : Topology) (n : ℕ) (lines : Lines) (found : TopoFault) : Type 0 where
   declarations : List Declaration
@@ -178,7 +178,7 @@ more_lines next lines e = absurd cc
 spells_none : (version : Version) (line : List ℕ) → declaration_at version line ≡ None → (d : Declaration) → IsSpelled version d → line ≡ declaration_text d → ⊥
 spells_none version line none d spelled text = none-some d (sym none ∙ ap (declaration_at version) text ∙ declaration_again version d spelled)
 
--- a line that spells nothing, or a declaration that breaks a rule, or one that is lawful and a fault behind it
+-- a line that spells nothing, or a declaration that breaks a rule, or one that is lawful and a fault after it
 judged_from : (version : Version) (read : Option Declaration) (topo : Topology) (n : ℕ) (line next : List ℕ) (lines : Lines) (found : TopoFault) → declaration_at version line ≡ read → (line ≡ codes "end" → ⊥)
     → ((more : Topology) → topology_from version more (n + 1) (next ∷ lines) ≡ Err found → Faulty version more (n + 1) (next ∷ lines) found)
     → ((judged : Result Topology TopoFault) → (d : Declaration) → read ≡ Some d → meant topo d n ≡ judged → (judged >>> λ more. topology_from version more (n + 1) (next ∷ lines)) ≡ Err found → Faulty version topo n (line ∷ next ∷ lines) found)

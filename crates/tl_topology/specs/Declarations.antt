@@ -1,4 +1,4 @@
--- What each declaration must keep behind those before it, and the topology that declarations make.
+-- What each declaration must keep after those before it, and the topology that declarations make.
 use Rattle.std.specs.Prelude.{◌≡◌, ℕ, ◌&&◌, Bool, true, not, List, [], ◌∷◌, ◌++◌, length, is_some, unwrap_or, nat_lt, nat_le}
 use Rattle.std.specs.List.{list_all}
 use Rattle.tl_topology.specs.declared.LinkDecl.{LinkDecl}
@@ -23,7 +23,7 @@ is_block bytes = is_some (exponent_of bytes) && nat_le 8 bytes
 abbrev pub manager_of : Topology → LinkLine → ℕ × ℕ
 manager_of topo link = unwrap_or (manager_named topo link.manager) (0, 0)
 
--- The rules of a manager behind a topology, in the order in which their faults are named.
+-- The rules of a manager after a topology, in the order in which their faults are named.
 abbrev pub manager_rules : Topology → ManagerLine → List Rule
 manager_rules topo manager =
     (not (is_named topo manager.name), λ line. fault.NameTwice line)
@@ -62,12 +62,12 @@ unfoldable pub with_declaration : Topology → Declaration → Topology
 with_declaration topo (a_manager manager) = record { managers = topo.managers ++ (manager.name, unwrap_or (exponent_of manager.block) 0) ∷ []; links = topo.links }
 with_declaration topo (a_link link) = record { managers = topo.managers; links = topo.links ++ (link.name, link_made topo link) ∷ [] }
 
--- with all of them, one behind the other
+-- with all of them, one after the other
 abbrev pub with_all : Topology → List Declaration → Topology
 with_all topo [] = topo
 with_all topo (declaration ∷ later) = with_all (with_declaration topo declaration) later
 
--- each is lawful behind those before it
+-- each is lawful after those before it
 abbrev pub AreLawful : Version → Topology → List Declaration → Type 0
 AreLawful version topo [] = Unit {0}
 AreLawful version topo (declaration ∷ later) = IsLawful version topo declaration × AreLawful version (with_declaration topo declaration) later

@@ -12,7 +12,7 @@ abbrev pub first_broken : List Rule → ℕ → Option TopoFault
 first_broken [] line = None
 first_broken (rule ∷ rules) line = if rule.0 then first_broken rules line else Some (rule.1 line)
 
--- The line `here` stands behind the declarations of a topology and before other lines, and is neither `end` nor a lawful
+-- The line `here` stands after the declarations of a topology and before other lines, and is neither `end` nor a lawful
 -- declaration: it isn't ended by a newline, or spells nothing, or what it spells breaks a rule.
 pub data IsFaultAt (version : Version) (topo : Topology) (number : ℕ) (here : List ℕ) (behind : List (List ℕ)) (found : TopoFault) : Type 0 where
   not_ended : behind ≡ [] → found ≡ fault.BadLine number → IsFaultAt version topo number here behind found
@@ -21,7 +21,7 @@ pub data IsFaultAt (version : Version) (topo : Topology) (number : ℕ) (here : 
   breaks_a_rule : ¬ (behind ≡ []) → (declaration : Declaration) → IsSpelled version declaration → here ≡ declaration_text declaration
       → first_broken (rules_of topo declaration) number ≡ Some found → IsFaultAt version topo number here behind found
 
--- The first line isn't `topo 1` or `topo 2` with a newline, or the fault is that of the line behind such a line and lawful
+-- The first line isn't `topo 1` or `topo 2` with a newline, or the fault is that of the line after such a line and lawful
 -- declarations.
 pub data IsFirstFault (lines : List (List ℕ)) (found : TopoFault) : Type 0 where
   at_first : ((version : Version) (next : List ℕ) (behind : List (List ℕ)) → ¬ (lines ≡ version_text version ∷ next ∷ behind)) → found ≡ fault.BadLine 1

@@ -7,7 +7,7 @@ use Rattle.tl_topology.specs.declared.name.Name.TheInside.{Inside}
 abbrev pub name_text : Inside → List ℕ
 name_text n = take n.len n.bytes
 
--- 16 bytes: a name, and zeros behind it
+-- 16 bytes: a name, and zeros after it
 pub record IsPadded (n : Inside) : Type 0 where
   pub short : n.len ≤ 16
   pub padded : n.bytes ≡ take n.len n.bytes ++ replicate (16 - n.len) 0

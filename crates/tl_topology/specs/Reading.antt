@@ -26,7 +26,7 @@ version_at line = if bytes_eq line (codes "topo 1") then Some version.One else (
 unfoldable pub level_at : List ℕ → Option Level
 level_at word = if bytes_eq word (codes "ul") then Some level.Ul else (if bytes_eq word (codes "uh") then Some level.Uh else (if bytes_eq word (codes "c") then Some level.C else None))
 
--- what stands behind the word `manager`: its name and its block in bytes
+-- what stands after the word `manager`: its name and its block in bytes
 unfoldable pub manager_at : List ℕ → Option ManagerLine
 manager_at words = do
   name ← word_at words
@@ -34,7 +34,7 @@ manager_at words = do
   block ← number_at 10 65536 name.1
   Some (record { name = n; block = block })
 
--- width and size of a link, and what stands behind them
+-- width and size of a link, and what stands after them
 unfoldable pub sizes_at : List ℕ → Option (ℕ × ℕ × List ℕ)
 sizes_at words = do
   width ← word_at words
@@ -53,7 +53,7 @@ unfoldable pub sources_at : Version → List ℕ → Option (ℕ × Bool)
 sources_at version words = number_at 10 65536 (mark_at version words).0 >>= λ sources.
     if sources == 0 then None else Some (sources, (mark_at version words).1)
 
--- what stands behind the word `link`
+-- what stands after the word `link`
 unfoldable pub link_at : Version → List ℕ → Option LinkLine
 link_at version words = do
   name ← word_at words
@@ -66,7 +66,7 @@ link_at version words = do
   sources ← sources_at version sizes.2
   Some (record { name = n; manager = m; level = l; width = sizes.0; max_size = sizes.1; sources = sources.0; strict = sources.1 })
 
--- ---- the meaning of one line, number n, behind those before it
+-- ---- the meaning of one line, number n, after those before it
 
 unfoldable pub with_manager : Topology → ManagerLine → ℕ → Result Topology TopoFault
 with_manager topo manager n =
@@ -105,14 +105,14 @@ declared version topo line n = or_fault (word_at line) (fault.BadLine n) >>> λ 
 
 -- ---- lines
 
--- the declarations from line n on, and the lines behind the end
+-- the declarations from line n on, and the lines after the end
 unfoldable pub topology_from : Version → Topology → ℕ → List (List ℕ) → Result (Topology × List (List ℕ)) TopoFault
 topology_from version topo n [] = Err (fault.BadLine n)
 topology_from version topo n (line ∷ []) = Err (fault.BadLine n)
 topology_from version topo n (line ∷ next ∷ lines) = if bytes_eq line (codes "end") then Ok (topo, next ∷ lines)
     else (declared version topo line n >>> λ more. topology_from version more (n + 1) (next ∷ lines))
 
--- a topology, and the lines behind it
+-- a topology, and the lines after it
 unfoldable pub topology_in : List (List ℕ) → Result (Topology × List (List ℕ)) TopoFault
 topology_in [] = Err (fault.BadLine 1)
 topology_in (line ∷ []) = Err (fault.BadLine 1)

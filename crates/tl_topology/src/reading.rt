@@ -84,7 +84,7 @@ fn manager_of(words: &[u8]) -> Option<ManagerLine>
     Some(ManagerLine { name, block })
 }
 
-/// Width and largest size, and the words behind them.
+/// Width and largest size, and the words after them.
 #[tactic(auto, unfolding(crate::specs::Reading::sizes_at))]
 fn sizes_of(words: &[u8]) -> Option<(u32, u32, &[u8])>
     ensures { option_map (λ x. (x.0, x.1, x.2.now)) result ≡ sizes_at words.now }
@@ -202,7 +202,7 @@ fn topology_of(alloc: Global, bytes: &[u8]) -> Result<(Topo, &[u8]), TopoFault>
 /// faulty line and, in that line, the first cause in the order of spelling, name, manager, width or block, size, level of a
 /// strict link, number of links or managers, memory.
 pub fn read_topo(alloc: Global, bytes: &[u8]) -> Result<(Topo, usize), TopoFault>
-    // It is what reading the lines gives, and the bytes behind those used are the lines that reading leaves.
+    // It is what reading the lines gives, and the bytes after those used are the lines that reading leaves.
     ensures exact { Gives is_memory (λ x. (x.0, lines_of (drop x.1 bytes.now))) result (topology_in (lines_of bytes.now)) }
     ensures used { IfOk result (λ x. x.1 ≤ length bytes.now) }
     // What is read is the text of lawful declarations at the front, as the topology that they make.

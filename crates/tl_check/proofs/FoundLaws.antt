@@ -5,7 +5,7 @@ use Rattle.std.specs.List.{Contains}
 use Rattle.std.proofs.lemmas.List.Elements.{Contains-append_left, Contains-append_right, Contains-append_cases}
 use Rattle.tl_beats.specs.declared.Row.{Row}
 use Rattle.tl_definitions.specs.Report.{Capture, Finds, FindsIn}
-use Rattle.tl_definitions.proofs.Lists.{contains_none, contains_here, contains_there, contains_cases}
+use Rattle.tl_definitions.proofs.Lists.{contains_here, contains_there, contains_cases}
 use Rattle.tl_check.specs.Found.{AreFound}
 use Rattle.tl_check.proofs.ScratchLaws.{finds_alone}
 
@@ -36,7 +36,3 @@ module _ (c : Capture) (cs : List Capture) (old found new : List Row) (put : new
 
   pub next_found : (All : Type 0) → ((Contains old row ⊎ FindsIn (c ∷ cs) row) ↔ All) → ((Contains new row ⊎ FindsIn cs row) ↔ All)
   next_found All known = (still All known.0, λ a. also (known.1 a))
-
--- Nothing is found without captures.
-pub none_found : AreFound [] []
-none_found row = ((λ h. absurd (contains_none row h)), (λ found. absurd (contains_none found.0 found.1)))

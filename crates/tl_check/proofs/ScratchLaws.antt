@@ -10,27 +10,15 @@ use Rattle.std.proofs.lemmas.List.Elements.{Contains-append_left, Contains-appen
 use Rattle.std.proofs.lemmas.Option.{slice_get-get_or, slice_get_past}
 use Rattle.tl_topology.specs.Regions.{Area, areas_of}
 use Rattle.tl_topology.specs.Topology.{Topology}
-use Rattle.tl_beats.specs.declared.Placed.{Placed}
 use Rattle.tl_beats.specs.declared.Row.{Row}
 use Rattle.tl_beats.specs.declared.watch.Watch.{Watch}
 use Rattle.tl_definitions.proofs.Lists.{contains_none, contains_here, contains_there, contains_cases}
-use Rattle.tl_definitions.proofs.PassLaws.{first_passes_are_reports}
 use Rattle.tl_definitions.specs.Captures.{captures_from}
-use Rattle.tl_definitions.specs.Judging.{snapshot}
 use Rattle.tl_definitions.specs.Positions.{Recorded}
-use Rattle.tl_definitions.specs.Report.{Capture, of_manager, Finds, FindsIn, IsReport}
-use Rattle.tl_definitions.specs.Rules.{Manager}
-use Rattle.tl_check.specs.Jobs.{Judges}
-use Rattle.tl_check.specs.States.{shown}
-use Rattle.tl_check.specs.declared.state.SpanState.{SpanState}
+use Rattle.tl_definitions.specs.Report.{Capture, Finds, FindsIn, IsReport}
 use Rattle.tl_check.proofs.CaptureLaws.{capture_with}
 use Rattle.tl_check.specs.Captured.{areas_at, watch_capture, watch_captures}
 use Rattle.tl_check.specs.Found.{AreFound}
-
--- A window of these beats from the beginning has their report.
-pub judged_report : (m : Manager) (beats : List Placed) (entry exit : SpanState) (rows : List Row) → shown entry ≡ snapshot m [] → Judges m entry beats exit rows → IsReport (of_manager m beats ∷ []) rows
-judged_report m beats entry exit rows opening judges =
-    first_passes_are_reports m (record { entry = shown entry; beats = beats; exit = shown exit; rows = rows }) judges.1 opening
 
 -- What one capture finds, and what the others do.
 finds_cases : (c : Capture) (cs : List Capture) (row : Row) → FindsIn (c ∷ cs) row → Finds c row ⊎ FindsIn cs row

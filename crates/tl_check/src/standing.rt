@@ -1,36 +1,16 @@
 //! The report of what edits leave.
 
-ghost use Rattle.std.specs.Prelude.{◌≡◌, ◌≤◌, ◌<◌, ℕ, [], IfOk, OnOk, length, take};
+ghost use Rattle.std.specs.Prelude.{◌≡◌, ◌≤◌, ◌<◌, ℕ, IfOk, OnOk, length, take};
 ghost use Rattle.std.specs.List.{All};
 ghost use Rattle.std.specs.Result.{IsErrOf};
 ghost use Rattle.tl_definitions.specs.Report.{IsReport};
 ghost use Rattle.tl_edits.specs.Log.{inputs_after};
-ghost use Rattle.tl_check.specs.Captured.{captures_after, captures_with};
+ghost use Rattle.tl_check.specs.Captured.{captures_after};
 
 use crate::checking::check_all;
-use crate::managers::managers_rows;
-use crate::sorted::sort_rows;
 use std::alloc::{AllocError, Global};
 use tl_beats::Row;
-use tl_capture::Present;
 use tl_edits::{Inputs, Log, PastFault};
-use tl_topology::{RegionMap, Topo};
-
-/// The report of fragments that are present on the links of a topology, with the regions of its managers, by number, and without
-/// monitors. AllocError where memory is refused.
-fn check_links(
-    alloc: Global,
-    topo: &Topo,
-    present: &Present,
-    regions: &[RegionMap],
-) -> Result<Vec<Row>, AllocError>
-    ensures report { IfOk result (λ rows. IsReport (captures_with topo.now present.now regions.now []) rows.items) }
-    ensures links { IfOk result (λ rows. All (λ row. row.link < length topo.now.links) rows.items) }
-{
-    let _ = present.is_empty();
-    let rows = managers_rows(alloc, topo, present, regions)?;
-    Ok(sort_rows(rows))
-}
 
 /// The report of what stands, made from the beginning: of its fragments, with its regions and the monitors that are attached.
 /// AllocError where memory is refused.
@@ -39,17 +19,13 @@ pub fn scratch(alloc: Global, inputs: &Inputs) -> Result<Vec<Row>, AllocError>
     ensures links { IfOk result (λ rows. All (λ row. row.link < length inputs.now.topo.links) rows.items) }
 {
     let watches = inputs.watches(alloc)?;
-    if watches.is_empty() {
-        check_links(alloc, inputs.topo(), inputs.present(), inputs.regions())
-    } else {
-        check_all(
-            alloc,
-            inputs.topo(),
-            inputs.present(),
-            inputs.regions(),
-            &watches,
-        )
-    }
+    check_all(
+        alloc,
+        inputs.topo(),
+        inputs.present(),
+        inputs.regions(),
+        &watches,
+    )
 }
 
 /// The report of what the first so many edits of a log leave, made from the beginning. NoSuchEdit where fewer were accepted;

@@ -3,7 +3,7 @@ _tlcheck() {
     local here=${COMP_WORDS[COMP_CWORD]} words=
     case $COMP_CWORD:${COMP_WORDS[1]} in
     1:*) words='once run audit stream explain help --help --version' ;;
-    *:once) words='--show --explain-faults --summary --deny --format --rule --link --from --to --waive --help' ;;
+    *:once) words='--workers --show --explain-faults --summary --deny --format --rule --link --from --to --waive --help' ;;
     *:run) words='--workers --show --explain-faults --summary --deny --help' ;;
     *:audit) words='--show --explain-faults --summary --deny --format --rule --link --from --to --waive --help' ;;
     *:stream) words='--setup --show --explain-faults --help' ;;

@@ -1,4 +1,4 @@
-// Writes lawful beats of some caches on one manager, as fragments one behind the other, for rows/measure_stream:
+// Writes lawful beats of some caches on one manager, as fragments one after the other, for rows/measure_stream:
 //
 //   measure_stream BEATS CLIENTS PLANTED
 //

@@ -10,15 +10,15 @@ fn swapped_advice(is: Role, wanted: Role) -> Option<Advice> {
     let advice = match (wanted, is) {
         (Role::Topology, Role::Fragment) => Advice::new(
             "a fragment, where the topology belongs",
-            "the topology as the first path, fragments behind it",
+            "the topology as the first path, fragments after it",
         ),
         (Role::Topology, Role::Script) => Advice::new(
             "a script, where the topology belongs",
-            "the topology as the first path, the script behind it",
+            "the topology as the first path, the script after it",
         ),
         (Role::Fragment, Role::Topology) => Advice::new(
             "a second topology, where a fragment belongs",
-            "one topology as the first path, fragments behind it",
+            "one topology as the first path, fragments after it",
         ),
         (Role::Fragment, Role::Script) => Advice::new(
             "a script, where a fragment belongs",
@@ -26,7 +26,7 @@ fn swapped_advice(is: Role, wanted: Role) -> Option<Advice> {
         ),
         (Role::Script, Role::Topology) => Advice::new(
             "a second topology, where the script belongs",
-            "one topology as the first path, the script behind it",
+            "one topology as the first path, the script after it",
         ),
         (Role::Script, Role::Fragment) => Advice::new(
             "a fragment, where the script belongs",
@@ -110,7 +110,7 @@ fn space_advice(line: &[u8]) -> Option<Advice> {
     } else if line.starts_with(b" ".as_slice()) {
         Some(Advice::new("a space before the first field", "no space there"))
     } else if line.ends_with(b" ".as_slice()) {
-        Some(Advice::new("a space behind the last field", "no space there"))
+        Some(Advice::new("a space after the last field", "no space there"))
     } else if has_double_space(line) {
         Some(Advice::new("two spaces in a row", "one space between two fields"))
     } else {

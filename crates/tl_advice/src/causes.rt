@@ -153,7 +153,7 @@ fn write_line_cause<W: fmt::Write>(f: &mut fmt::Formatter<W>, cause: &Cause<'_>)
             let announced = Quoted(announced);
             write!(
                 f,
-                "  found: {behind} bytes behind this line, not {announced}\n  wanted: as BYTES the size of the fragment (wc -c tells it)\n"
+                "  found: {behind} bytes after this line, not {announced}\n  wanted: as BYTES the size of the fragment (wc -c tells it)\n"
             )
         }
         _ => Ok(()),

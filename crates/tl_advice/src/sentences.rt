@@ -37,7 +37,7 @@ fn cut_cause<'a>(own: &[u8]) -> Cause<'a> {
             "'end' and a newline as the last line",
         )
     } else if own == b"end".as_slice() {
-        plain("no newline behind the last line", "a newline there")
+        plain("no newline after the last line", "a newline there")
     } else {
         plain(
             "the end of the file within this line",
@@ -60,7 +60,7 @@ fn cut_fragment_cause<'a>(own: &[u8], home: Home) -> Cause<'a> {
 /// Why a text goes on after its line end.
 fn surplus_cause<'a>(home: Home) -> Cause<'a> {
     match home {
-        Home::File => plain("more text behind the line 'end'", "nothing behind it"),
+        Home::File => plain("more text after the line 'end'", "nothing after it"),
         Home::Script => plain(
             "BYTES that go past the fragment's line 'end'",
             "as BYTES the size of the fragment (wc -c tells it)",
@@ -297,7 +297,7 @@ fn command_cause(own: &[u8], is_behind_fragment: bool) -> Cause<'_> {
     let form = form_of_command(own);
     if is_behind_fragment && form.is_none() {
         return plain(
-            "no command, right behind a fragment",
+            "no command, right after a fragment",
             "a command; check BYTES of the one before (wc -c tells it)",
         );
     }
@@ -318,7 +318,7 @@ fn order_cause<'a>(own: &[u8]) -> Cause<'a> {
     match field_at(own, 0) {
         b"attach" => plain(
             "a monitor that is neither budget nor after",
-            "budget or after, behind NUMBER",
+            "budget or after, after NUMBER",
         ),
         _ => plain("a FIRST that is above LAST", "a FIRST of at most LAST"),
     }
@@ -332,8 +332,8 @@ fn cut_command_cause(rest: &[u8]) -> Cause<'_> {
             behind: behind.len(),
         },
         None => plain(
-            "no newline behind the last line",
-            "a newline behind each command",
+            "no newline after the last line",
+            "a newline after each command",
         ),
     }
 }

@@ -24,9 +24,6 @@ use tl_text::{ByteIn, ByteOut, read_text, write_all};
 /// The most bytes of standard input.
 const MOST_INPUT: u64 = 67_108_864;
 
-/// The most threads that check windows beside the first.
-const MOST_WORKERS: u8 = 16;
-
 const NO_ROWS: u8 = 0;
 
 const SOME_ROWS: u8 = 1;
@@ -466,12 +463,8 @@ fn do_command<
         Command::Run {
             topology,
             script,
-            workers,
             how,
-        } => {
-            let workers = (*workers).min(MOST_WORKERS);
-            run_of_files(rt, *topology, *script, workers, screen.how(*how), out)
-        }
+        } => run_of_files(rt, *topology, *script, screen.how(*how), out),
         Command::Audit {
             topology,
             script,

@@ -165,18 +165,20 @@ pub(crate) fn ending_told(
     }
 }
 
+/// The most threads that check windows beside the first.
+const MOST_WORKERS: u8 = 16;
+
 /// The run of a script that is denied or not.
 fn run_denied<R: Threads + Wait + Sync + AllocGlobal, O: ByteOut>(
     rt: &R,
     run: ScriptRun<'_>,
     how: How,
-    workers: u8,
     out: &mut O,
 ) -> Result<Ending, Fault>
-    requires workers { workers ≤ 16 }
     requires out { O.failure_count out.old < 2 ^ 63 }
 {
     let mut last = None;
+    let workers = how.workers.min(MOST_WORKERS);
     let outcome = run_of_script(rt, run, workers, &mut last, out)?;
     ending_told(rt.alloc(), run, how, outcome, last.as_ref())
 }
@@ -186,11 +188,9 @@ fn run_on<R: Files + Threads + Wait + Sync + AllocGlobal, O: ByteOut>(
     rt: &R,
     topo: &Topo,
     script: &str,
-    workers: u8,
     how: How,
     out: &mut O,
 ) -> Result<Ending, Fault>
-    requires workers { workers ≤ 16 }
     requires out { O.failure_count out.old < 2 ^ 63 }
 {
     let text = script_of(rt, script)?;
@@ -199,7 +199,7 @@ fn run_on<R: Files + Threads + Wait + Sync + AllocGlobal, O: ByteOut>(
         text: &text,
         show: how.show,
     };
-    run_denied(rt, run, how, workers, out)
+    run_denied(rt, run, how, out)
 }
 
 /// The run of a file's script on a file's topology.
@@ -207,15 +207,13 @@ pub(crate) fn run_of_files<R: Files + Threads + Wait + Sync + AllocGlobal, O: By
     rt: &R,
     topology: &str,
     script: &str,
-    workers: u8,
     how: How,
     out: &mut O,
 ) -> Result<Ending, Fault>
-    requires workers { workers ≤ 16 }
     requires out { O.failure_count out.old < 2 ^ 63 }
 {
     let topo = topology_of(rt, topology)?;
-    run_on(rt, &topo, script, workers, how, out)
+    run_on(rt, &topo, script, how, out)
 }
 
 /// The run of a script after its topology's text.

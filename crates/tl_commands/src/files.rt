@@ -7,6 +7,7 @@ use crate::paths::files_of;
 use std::alloc::Global;
 use std::rt::Files;
 use std::sync::Arc;
+use std::thread::{Threads, map_chunks};
 use std::{fs, io};
 use tl_advice::Role;
 use tl_beats::{Fragment, read_fragment};
@@ -50,40 +51,72 @@ fn fragment_of<R: Files + AllocGlobal>(rt: &R, path: &str) -> Result<Fragment, F
     Ok(fragment)
 }
 
-/// Puts the fragment that a file's whole text is after those of the files before it.
-fn push_fragment<R: Files + AllocGlobal>(
-    rt: &R,
-    path: &str,
-    fragments: &mut Vec<Arc<Fragment>>,
-) -> Result<(), Fault> {
-    let fragment = Arc::new(rt.alloc(), fragment_of(rt, path)?)?;
-    fragments.push(fragment)?;
-    Ok(())
-}
-
-/// Puts the fragments of files after those of the files before them.
-fn push_fragments<R: Files + AllocGlobal>(
+/// The fragments of files, each read and parsed before the next is opened.
+fn fragments_in<R: Files + AllocGlobal>(
     rt: &R,
     files: &[String],
-    fragments: &mut Vec<Arc<Fragment>>,
-) -> Result<(), Fault> {
-    for path in files {
-        push_fragment(rt, path.as_str(), fragments)?;
-    }
-    Ok(())
-}
-
-/// The fragments of the files that words stand for, each read and parsed before the next is opened.
-pub(crate) fn fragments_of<R: Files + AllocGlobal + Clone + Drop>(
-    rt: &R,
-    words: &[&str],
 ) -> Result<Vec<Arc<Fragment>>, Fault> {
     let mut fragments = Vec::new(rt.alloc());
-    for word in words {
-        let files = files_of(rt, *word)?;
-        push_fragments(rt, &files, &mut fragments)?;
+    for path in files {
+        let fragment = Arc::new(rt.alloc(), fragment_of(rt, path.as_str())?)?;
+        fragments.push(fragment)?;
     }
     Ok(fragments)
+}
+
+/// The same by so many threads beside this one, each with its share of the files. The fault is that of the first file that has one.
+fn fragments_beside<R: Files + Threads + Sync + AllocGlobal>(
+    rt: &R,
+    files: &[String],
+    workers: u8,
+) -> Result<Vec<Arc<Fragment>>, Fault> {
+    let share = files.len().div_ceil(usize::from(workers) + 1).max(1);
+    let parts = map_chunks(
+        rt,
+        rt.alloc(),
+        files,
+        share,
+        &|_, part| { fragments_in(rt, part) },
+    )?;
+    let mut all = Vec::new(rt.alloc());
+    for part in parts {
+        all.append(&mut part?)?;
+    }
+    Ok(all)
+}
+
+/// The files that words stand for, up to the first word whose files can't be had, and why they can't.
+fn listed<R: Files + AllocGlobal + Clone + Drop>(
+    rt: &R,
+    words: &[&str],
+) -> Result<(Vec<String>, Option<Fault>), Fault> {
+    let mut all = Vec::new(rt.alloc());
+    for word in words {
+        match files_of(rt, *word) {
+            Ok(mut files) => all.append(&mut files)?,
+            Err(fault) => return Ok((all, Some(fault))),
+        }
+    }
+    Ok((all, None))
+}
+
+/// The fragments of the files that words stand for, read by so many threads beside this one. The fault is that of the first file or
+/// word that has one.
+pub(crate) fn fragments_of<R: Files + Threads + Sync + AllocGlobal + Clone + Drop>(
+    rt: &R,
+    words: &[&str],
+    workers: u8,
+) -> Result<Vec<Arc<Fragment>>, Fault> {
+    let (files, fault) = listed(rt, words)?;
+    let fragments = if workers == 0 {
+        fragments_in(rt, &files)?
+    } else {
+        fragments_beside(rt, &files, workers)?
+    };
+    match fault {
+        Some(fault) => Err(fault),
+        None => Ok(fragments),
+    }
 }
 
 /// The script that a file is; its commands are not looked at. FILE where it can't be opened or read.

@@ -8,6 +8,7 @@ use crate::files::{fragments_of, script_of, topology_of};
 use crate::picking::{Trouble, Written, order_of, write_audit, write_once};
 use std::rt::Files;
 use std::sync::Arc;
+use std::thread::Threads;
 use tl_beats::Fragment;
 use tl_check::{run_once, run_once_as};
 use tl_options::{How, View};
@@ -131,7 +132,7 @@ fn once_denied<R: Files + AllocGlobal, O: ByteOut>(
 }
 
 /// The report of the fragments of files on a topology; words stand for their files.
-fn once_on<R: Files + AllocGlobal + Clone + Drop, O: ByteOut>(
+fn once_on<R: Files + Threads + Sync + AllocGlobal + Clone + Drop, O: ByteOut>(
     rt: &R,
     topo: &Topo,
     fragments: &[&str],
@@ -141,14 +142,15 @@ fn once_on<R: Files + AllocGlobal + Clone + Drop, O: ByteOut>(
 ) -> Result<Ending, Fault>
     requires { O.failure_count out.old < 2 ^ 63 }
 {
-    let fragments = fragments_of(rt, fragments)?;
+    let fragments = fragments_of(rt, fragments, how.workers)?;
     once_denied(rt, topo, &fragments, how, view, out)
 }
 
 /// Writes the report of the fragments of files on a file's topology. A word stands for its file, `-` for standard input, a folder for
-/// its files, and `@LIST` for the files that the lines of LIST name. The fault of the first file that has one, that of the first fragment
-/// that is refused after those before it, want of memory, or a write that fails.
-pub fn once_of_files<R: Files + AllocGlobal + Clone + Drop, O: ByteOut>(
+/// its files, and `@LIST` for the files that the lines of LIST name. With workers, so many threads read files beside this one. The fault
+/// of the first file that has one, that of the first fragment that is refused after those before it, want of memory, or a write that
+/// fails.
+pub fn once_of_files<R: Files + Threads + Sync + AllocGlobal + Clone + Drop, O: ByteOut>(
     rt: &R,
     topology: &str,
     fragments: &[&str],

@@ -78,7 +78,7 @@ Rows: dma0 1 3 S4. Run: rows/cases/reply_of_half_the_size.
   request.
 - Look at: the request, and how many beats came back.
 - Echoes: the reply's own size says how many beats it has. A burst sent with a smaller size is
-  several replies, each but the first an S2; with a larger size it takes the beats behind it,
+  several replies, each but the first an S2; with a larger size it takes the beats after it,
   U1.
 ";
 

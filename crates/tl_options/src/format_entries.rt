@@ -77,7 +77,7 @@ Rows: dma0 1 2 F4. Run: rows/cases/get_above_the_largest_size.
 - Designs: a fragmenter is missing between a wide client and a narrow manager.
 - Look at: MAXSIZE in the topology, which is an exponent: 3 is 8 bytes.
 - Echoes: the reply of the same size is a row too. A data message has as many beats as its size
-  asks, so a shorter one takes the beats behind it: U1.
+  asks, so a shorter one takes the beats after it: U1.
 ";
 
 pub(crate) const F5: &str = "\
@@ -227,5 +227,5 @@ Rows: cpu0 1 3 U1. Run: rows/cases/address_that_counts_in_a_burst.
 - Echoes: a lost beat makes the burst take the first beat behind it. This one is the U1, and it
   is not read as what it is: a Grant gives nothing (P1, P2 later, S9 at its GrantAck), a reply
   leaves its request open (S1), a ReleaseAck its Release (P8, S6). If that was a burst, it is
-  short of a beat in turn, and each burst behind it.
+  short of a beat in turn, and each burst after it.
 ";

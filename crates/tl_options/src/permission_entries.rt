@@ -262,8 +262,8 @@ pub(crate) const X1: &str = "\
 X1: a monitor flags the beat
 
 A watch that the user attached flags the beat. The row has the monitor's number as a fifth word.
-A budget flags each beat of its class behind the first LIMIT of them; an after each beat of its
-second class behind one of its first. Later beats of a burst count too.
+A budget flags each beat of its class after the first LIMIT of them; an after each beat of its
+second class after one of its first. Later beats of a burst count too.
 
 No fragment shows it by itself, since monitors are attached by scripts. The smallest script is
 

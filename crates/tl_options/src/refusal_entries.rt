@@ -10,12 +10,12 @@ the last is `end`, and each other is one of
     link NAME MANAGER LEVEL WIDTH MAXSIZE SOURCES
     link NAME MANAGER LEVEL WIDTH MAXSIZE SOURCES strict
 
-The last form is one behind `topo 2` alone.
+The last form is one after `topo 2` alone.
 
 - Causes: two spaces, a space at an end, a tab, a carriage return, an empty line, a comment; a
   name that is not a lower-case letter and up to 15 lower-case letters, digits or _; a number in
   hexadecimal, with leading zeros or above 65536; SOURCES 0; another LEVEL than ul, uh or c; no
-  line `end`, no newline behind it, or bytes behind that.
+  line `end`, no newline after it, or bytes after that.
 - Do: write the line again by the form; cat -A shows tabs and carriage returns.
 ";
 
@@ -128,7 +128,7 @@ A line of a fragment is no beat; the number is the line, the header being 1. A b
 - Causes: an address or a mask in upper case (FF), with 0x, or with leading zeros; another
   number in hexadecimal; an opcode or a param above 7, a size above 15, a source or a sink above
   65535; denied or corrupt that is not 0 or 1; a field too many or too few; two spaces, a space
-  at an end, a tab, a carriage return, an empty line, a comment; anything behind the line
+  at an end, a tab, a carriage return, an empty line, a comment; anything after the line
   `end`, as where an add has too many bytes.
 - Do: compare the line with the form of its channel, field by field; cat -A shows tabs and
   carriage returns.
@@ -159,7 +159,7 @@ pub(crate) const TRUNCATED: &str = "\
 15: Truncated
 
 The text of a fragment ends before the newline of this line; the number is the line. It goes
-before every other fault of the line, but for what stands behind the line `end`, which is 12.
+before every other fault of the line, but for what stands after the line `end`, which is 12.
 
 - Causes: the recorder was stopped before it wrote `end`; the last newline is missing; the file is
   empty (15 1); an add of a script has too few bytes.

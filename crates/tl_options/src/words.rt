@@ -28,6 +28,8 @@ pub struct How {
     pub deny: Deny,
     /// Whether what was checked and found is told at the end.
     pub summary: bool,
+    /// How many threads work beside the first, 0 to 16.
+    pub workers: u8,
 }
 
 /// What is streamed, and how.
@@ -59,7 +61,6 @@ pub enum Command<'a> {
     Run {
         topology: &'a str,
         script: &'a str,
-        workers: u8,
         how: How,
     },
     /// What the first edits of a script leave, from files.
@@ -112,7 +113,7 @@ impl Command<'_> {
 /// The greatest number of an edit that words may name.
 const MOST_EDIT: u64 = (1 << 63) - 1;
 
-/// The most threads that check windows beside the first.
+/// The most threads that work beside the first.
 const MOST_WORKERS: u64 = 16;
 
 fn topology<'a>(alloc: Global) -> Arg<'a> {
@@ -135,7 +136,7 @@ fn show<'a>(alloc: Global) -> Arg<'a> {
     flag(
         alloc,
         "show",
-        "Puts behind each row its beat in words and the earlier beat that makes it so",
+        "Puts after each row its beat in words and the earlier beat that makes it so",
     )
 }
 
@@ -203,18 +204,16 @@ fn once<'a>(alloc: Global) -> Draft<'a> {
     let about = "Checks the fragments of a capture together and writes the report";
     let once = described(alloc, "once", about, ONCE_EXAMPLE)
         .arg(topology(alloc))
-        .arg(fragments(alloc));
+        .arg(fragments(alloc))
+        .arg(workers(
+            alloc,
+            "How many threads read files beside the first, 0 to 16; 0 without this option",
+        ));
     with_view(alloc, with_how(alloc, once))
 }
 
-fn workers<'a>(alloc: Global) -> Arg<'a> {
-    setting(
-        alloc,
-        "workers",
-        "N",
-        "How many threads check windows beside the first, 0 to 16; 0 without this option, and with - for the script",
-    )
-    .value_parser(ValueParser::unsigned(0, MOST_WORKERS))
+fn workers<'a>(alloc: Global, help: &'a str) -> Arg<'a> {
+    setting(alloc, "workers", "N", help).value_parser(ValueParser::unsigned(0, MOST_WORKERS))
 }
 
 fn run_script<'a>(alloc: Global) -> Arg<'a> {
@@ -231,7 +230,10 @@ fn run<'a>(alloc: Global) -> Draft<'a> {
     let run = described(alloc, "run", about, RUN_EXAMPLE)
         .arg(topology(alloc))
         .arg(run_script(alloc))
-        .arg(workers(alloc));
+        .arg(workers(
+            alloc,
+            "How many threads check windows beside the first, 0 to 16; 0 without this option, and with - for the script",
+        ));
     with_how(alloc, run)
 }
 
@@ -330,7 +332,7 @@ of at most 1,048,576 bytes, each FRAGMENT a fragment text of at most 8,388,608 b
 tlcheck run TOPO SCRIPT runs a script of at most 67,108,864 bytes: edits of fragments, regions and monitors, and \
 reports between them; with - for SCRIPT commands are carried out as they come. tlcheck audit TOPO SCRIPT EDIT checks anew what its first EDIT accepted edits leave.\n\
 tlcheck stream TOPO [FILE..] checks fragments as they come: of each link with rising numbers and ranges, as long as they come.\n\
-Without words tlcheck reads a topology and a script right behind it from standard input, at most 67,108,864 bytes, \
+Without words tlcheck reads a topology and a script right after it from standard input, at most 67,108,864 bytes, \
 and does as run.\n\n\
 Exit status: 0 no rule is broken, 1 the last report has rows, 2 a fault, told on standard error as `tlcheck: CODE` \
 or `tlcheck: CODE NUMBER`, or a script that stops, told as its last line on standard output; \
@@ -346,7 +348,7 @@ fn is_denied(found: &ArgMatches<'_>, what: &str) -> bool {
 }
 
 /// How the words want a command to be done.
-fn how_asked(found: &ArgMatches<'_>) -> How {
+fn how_asked(found: &ArgMatches<'_>, workers: u8) -> How {
     How {
         show: found.get_flag("show"),
         explain_faults: found.get_flag("explain-faults"),
@@ -355,6 +357,7 @@ fn how_asked(found: &ArgMatches<'_>) -> How {
             empty: is_denied(found, "empty"),
         },
         summary: found.get_flag("summary"),
+        workers,
     }
 }
 
@@ -395,18 +398,24 @@ fn once_asked<'a>(
     Ok(Command::Once {
         topology: found.get_str("TOPO").unwrap_or(""),
         fragments,
-        how: how_asked(found),
+        how: how_asked(found, workers_of(found)),
         view,
     })
 }
 
+/// The number of workers that words name.
+fn workers_of(found: &ArgMatches<'_>) -> u8 {
+    let workers = found.get_one("workers").unwrap_or(0);
+    u8::try_from(workers).unwrap_or(0)
+}
+
 /// The number of workers that the words of `run` name; above 0 it is refused for a script from standard input.
 fn workers_asked(program: &mut clap::Command<'_>, found: &ArgMatches<'_>) -> Result<u8, Error> {
-    let workers = found.get_one("workers").unwrap_or(0);
+    let workers = workers_of(found);
     if workers > 0 && found.get_str("SCRIPT") == Some("-") {
         return Err(refusal(program, "--workers wants the script in a file")?);
     }
-    Ok(u8::try_from(workers).unwrap_or(0))
+    Ok(workers)
 }
 
 /// What the words of `run` ask for.
@@ -417,8 +426,7 @@ fn run_asked<'a>(
     Ok(Command::Run {
         topology: found.get_str("TOPO").unwrap_or(""),
         script: found.get_str("SCRIPT").unwrap_or(""),
-        workers: workers_asked(program, found)?,
-        how: how_asked(found),
+        how: how_asked(found, workers_asked(program, found)?),
     })
 }
 
@@ -433,7 +441,7 @@ fn audit_asked<'a>(
         topology: found.get_str("TOPO").unwrap_or(""),
         script: found.get_str("SCRIPT").unwrap_or(""),
         edit: found.get_one("EDIT").unwrap_or(0),
-        how: how_asked(found),
+        how: how_asked(found, 0),
         view,
     })
 }

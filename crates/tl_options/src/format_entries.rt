@@ -224,7 +224,7 @@ Rows: cpu0 1 3 U1. Run: rows/cases/address_that_counts_in_a_burst.
   a beat was lost or doubled, by the design or by the recorder.
 - Look at: the head of this burst, 2^size / WIDTH beats in all, and WIDTH in the topology. Count
   them.
-- Echoes: a lost beat makes the burst take the first beat behind it. This one is the U1, and it
+- Echoes: a lost beat makes the burst take the first beat after it. This one is the U1, and it
   is not read as what it is: a Grant gives nothing (P1, P2 later, S9 at its GrantAck), a reply
   leaves its request open (S1), a ReleaseAck its Release (P8, S6). If that was a burst, it is
   short of a beat in turn, and each burst after it.

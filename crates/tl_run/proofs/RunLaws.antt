@@ -14,10 +14,7 @@ use Rattle.tl_script.specs.Scripts.{Script, commands_of, fault_of}
 use Rattle.tl_script.proofs.ReadCommands.{IsRead, none_read, one_read, all_read, fault_read, first_are, few_are}
 use Rattle.tl_beats.specs.declared.watch.Watch.{Watch}
 use Rattle.tl_script.specs.Asked.{asked, attached_by, watches_of}
-use Rattle.tl_edits.specs.Edits.{AnEdit}
-use Rattle.tl_script.specs.Audits.{IsStopAt}
 use Rattle.tl_run.specs.Output.{Progress, start, IsStep, IsOutput, TakesBox, LacksBox}
-use Rattle.tl_script.specs.Accepted.{accepted, edits_with}
 use Rattle.tl_script.specs.Text.{IsCommand}
 use Rattle.tl_script.proofs.CommandTexts.{reads_are_spelled}
 use Rattle.tl_script.specs.declared.fault.ScriptFault.TheVariants as fault

@@ -1,6 +1,5 @@
 -- What the run of a script writes, command by command.
-use Rattle.std.specs.Prelude.{ℕ, ◌≡◌, ◌+◌, Bool, true, false, List, [], ◌∷◌, ◌++◌, length, codes, Option, Some, None, Result, Ok, Err, nat_lt}
-use Rattle.std.specs.Fmt.{decimal}
+use Rattle.std.specs.Prelude.{ℕ, ◌≡◌, ◌+◌, Bool, true, false, List, [], ◌∷◌, ◌++◌, length, Option, Some, None, Result, Ok, Err, nat_lt}
 use Rattle.std.specs.Option.{option_map_or}
 use Rattle.tl_topology.specs.Topology.{Topology}
 use Rattle.tl_beats.specs.Faults as fragment
@@ -12,7 +11,7 @@ use Rattle.tl_edits.specs.Inputs.{refusal}
 use Rattle.tl_edits.specs.Log.{inputs_after}
 use Rattle.tl_edits.specs.declared.fault.EditFault.{EditFault}
 use Rattle.tl_check.specs.Captured.{captures_after}
-use Rattle.tl_check.specs.Output.{ReportData, joined, newline, report_bytes}
+use Rattle.tl_check.specs.Output.{ReportData, report_bytes}
 use Rattle.tl_script.specs.declared.command.Command.{Command}
 use Rattle.tl_desk.specs.Core.{Core, AreLinked, log_of, latest_of, most_versions}
 use Rattle.tl_edits.specs.declared.fault.EditFault.TheVariants as edit_fault

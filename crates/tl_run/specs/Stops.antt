@@ -9,7 +9,6 @@ use Rattle.tl_beats.specs.declared.watch.Watch.{Watch}
 use Rattle.tl_check.specs.Notes.{Tells, IsPut}
 use Rattle.tl_script.specs.Scripts.{Script, commands_of, fault_of}
 use Rattle.tl_script.specs.declared.command.Command.{Command}
-use Rattle.tl_script.specs.declared.fault.ScriptFault.{ScriptFault}
 use Rattle.tl_script.specs.declared.fault.ScriptFault.TheVariants as fault
 use Rattle.tl_run.specs.declared.lines.LineFault.{LineFault}
 use Rattle.tl_run.specs.declared.lines.LineFault.TheVariants as line

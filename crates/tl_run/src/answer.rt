@@ -1,7 +1,6 @@
 //! What comes of a command, and its lines.
 
 ghost use Rattle.std.specs.Prelude.{◌≡◌, IfOk, string_bytes};
-ghost use Rattle.tl_script.specs.Replies.{edit_text, refused_text};
 ghost use Rattle.tl_run.specs.Output.{text_of, IsLinked, IsAnswerTo};
 
 use std::alloc::{AllocError, Global};

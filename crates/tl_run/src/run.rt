@@ -1,6 +1,6 @@
 //! The run of a script.
 
-ghost use Rattle.std.specs.Prelude.{Bool, ◌≡◌, ◌↔◌, ◌+◌, ◌<◌, ◌≤◌, ◌^◌, ◌++◌, ℕ, List, Option, Some, IfOk, OnOk, OnErr, length, drop, string_bytes, [], IfSome};
+ghost use Rattle.std.specs.Prelude.{Bool, ◌≡◌, ◌+◌, ◌<◌, ◌≤◌, ◌^◌, ◌++◌, ℕ, List, Option, Some, IfOk, OnOk, OnErr, length, drop, string_bytes, [], IfSome};
 ghost use Rattle.std.specs.Result.{IsErrOf};
 ghost use Rattle.tl_topology.specs.Topology.{Topology};
 ghost use Rattle.tl_beats.specs.declared.watch.Watch.{Watch as AnyWatch};
@@ -18,7 +18,7 @@ use crate::session::Session;
 use std::alloc::Global;
 use tl_monitor::Monitor;
 use tl_script::{Command, Outcome, Stop, StopCause, read_command};
-use tl_text::{ByteIn, ByteOut, TextFault, WriteFault, read_text};
+use tl_text::{ByteOut, WriteFault};
 use tl_topology::Topo;
 
 /// The lines of one command, before which so many bytes of the script are left, put after those that are gathered. Memory and

@@ -1,5 +1,5 @@
 -- What the state of a manager shows, and what it stands for.
-use Rattle.std.specs.Prelude.{ℕ, Bool, ◌≡◌, ◌==◌, ◌++◌, ◌<◌, List, [], length, Option, Some, filter, slice_index_or, if◌then◌else◌}
+use Rattle.std.specs.Prelude.{ℕ, Bool, true, ◌≡◌, ◌==◌, ◌++◌, ◌<◌, List, [], length, Option, Some, filter, slice_index_or, if◌then◌else◌}
 use Rattle.std.specs.List.{slice_get}
 use Rattle.std.specs.Option.{option_map_or}
 use Rattle.tl_tables.specs.declared.Op.{Op}
@@ -7,13 +7,18 @@ use Rattle.tl_tables.specs.declared.Rule.{Rule}
 use Rattle.tl_beats.specs.declared.Beat.{Beat}
 use Rattle.tl_beats.specs.declared.Placed.{Placed}
 use Rattle.tl_beats.specs.declared.Request.{Request}
+use Rattle.tl_topology.specs.declared.LinkDecl.{LinkDecl}
+use Rattle.tl_definitions.specs.Heads.{message_of}
+use Rattle.tl_definitions.specs.Messages.{at_head, messages_on}
 use Rattle.tl_definitions.specs.Past.{ClientPast, LinkPast, past_of, pasts_of}
-use Rattle.tl_definitions.specs.Rules.{Manager, breaks_permission, permission_order, breaks_manager, manager_order}
+use Rattle.tl_definitions.specs.Rules.{Manager, breaks_permission, permission_order, breaks_manager, manager_order, format_rules}
+use Rattle.tl_definitions.specs.Breaks.{rules_at}
 use Rattle.tl_definitions.specs.Judging.{message_in, past_with}
+use Rattle.tl_link_rules.specs.Flow.{flow_rules, answered}
 use Rattle.tl_client_rules.specs.declared.client.ClientState.{ClientState}
 use Rattle.tl_client_rules.specs.Bounds.{IsSettled}
 use Rattle.tl_client_rules.specs.Client as client_state
-use Rattle.tl_client_rules.specs.Client.{ClientView, client_view, head_with}
+use Rattle.tl_client_rules.specs.Client.{ClientView, answered_in, client_view, head_with}
 use Rattle.tl_client_rules.specs.Clients.{place_of}
 use Rattle.tl_client_rules.specs.declared.manager.ManagerState.{ManagerState}
 
@@ -69,6 +74,29 @@ rules_in clients exponent strict pasts link head found =
 -- The pasts after a head.
 abbrev pub pasts_with : ℕ → ℕ → (ℕ → LinkPast) → Beat → Option Op → ℕ → LinkPast
 pasts_with exponent link pasts head found = λ n. if link == n then past_with exponent (pasts n) head found else pasts n
+
+-- The same of the next head of a link with this declaration.
+abbrev pub head_rules_in : List ℕ → ℕ → (ℕ → LinkPast) → ℕ → LinkDecl → Beat → List Rule
+head_rules_in clients exponent pasts link decl head = rules_in clients exponent decl.strict pasts link head (message_of decl head)
+
+abbrev pub pasts_after : ℕ → (ℕ → LinkPast) → ℕ → LinkDecl → Beat → ℕ → LinkPast
+pasts_after exponent pasts link decl head = pasts_with exponent link pasts head (message_of decl head)
+
+-- This holds of whatever pasts of the links the state shows by which the head answers this request.
+abbrev pub ForShown : ManagerState → ℕ → LinkDecl → Beat → Option Request → (List ℕ → ℕ → (ℕ → LinkPast) → Type 0) → Type 0
+ForShown state link decl head request Holds = (clients : List ℕ) (exponent : ℕ) (pasts : ℕ → LinkPast) → Shows clients exponent state pasts
+    → request ≡ answered_in (pasts link) head (message_of decl head) → Holds clients exponent pasts
+
+-- This holds of the head after whatever beats of the manager the state stands for after which it answers this request.
+abbrev pub AfterBeats : ManagerState → ℕ → LinkDecl → Beat → Option Request → (Manager → List Placed → Placed → Type 0) → Type 0
+AfterBeats state link decl head request Holds = (m : Manager) (before : List Placed) (fragment line : ℕ) → let p : Placed = record { link = link; fragment = fragment; line = line; beat = head } in
+    m.links link ≡ decl → at_head m.links before p ≡ true → StandsFor m state before
+    → request ≡ answered (messages_on m.links link before) head (message_of decl head) → Holds m before p
+
+-- All rules that a head breaks end with these: before them stand the format and the flow rules.
+abbrev pub EndWith : LinkDecl → Beat → List Rule → Manager → List Placed → Placed → Type 0
+EndWith decl head rules m before p =
+    rules_at m before p ≡ format_rules m.exponent m.regions decl head (message_of decl head) ++ flow_rules (messages_on m.links p.link before) head (message_of decl head) ++ rules
 
 -- The manager rules alone, by what a state shows.
 abbrev pub manager_rules : ManagerState → ℕ → Beat → Option Request → Option Op → List Rule

@@ -6,18 +6,13 @@ ghost use Rattle.std.specs.Option.{option_copied};
 ghost use Rattle.std.specs.List.{AllByRecursion, list_any};
 ghost use Rattle.tl_tables.specs.Kinds.{conflicts};
 ghost use Rattle.tl_topology.specs.Regions.{Area};
-ghost use Rattle.tl_beats.specs.declared.Placed.{Placed};
 ghost use Rattle.tl_definitions.specs.Positions.{clients_of};
 ghost use Rattle.tl_definitions.specs.Managers.{declared_links, manager_at};
 ghost use Rattle.tl_definitions.specs.Heads.{message_of};
-ghost use Rattle.tl_definitions.specs.Messages.{at_head, messages_on};
-ghost use Rattle.tl_definitions.specs.Past.{LinkPast};
-ghost use Rattle.tl_definitions.specs.Rules.{Manager, breaks_manager, manager_order, conflicts_with_other, format_rules};
-ghost use Rattle.tl_definitions.specs.Breaks.{rules_at};
-ghost use Rattle.tl_link_rules.specs.Flow.{flow_rules, answered};
+ghost use Rattle.tl_definitions.specs.Rules.{Manager, breaks_manager, manager_order, conflicts_with_other};
 ghost use Rattle.tl_state.specs.SameItems.{SameItems};
 ghost use Rattle.tl_client_rules.specs.Client as client_state;
-ghost use Rattle.tl_client_rules.specs.Client.{head_with, answered_in, SameClient};
+ghost use Rattle.tl_client_rules.specs.Client.{head_with, SameClient};
 ghost use Rattle.tl_client_rules.specs.Bounds.{IsSettled};
 ghost use Rattle.tl_client_rules.specs.declared.client.ClientState.{ClientState};
 ghost use Rattle.tl_client_rules.specs.Manager.{SameManager, AreSettled};
@@ -100,7 +95,7 @@ fn settle_all(states: &mut Vec<ClientState>) -> Result<(), AllocError>
 
 impl ManagerState {
     ghost use Rattle.tl_client_rules.specs.Clients.{place_of};
-    ghost use Rattle.tl_client_rules.specs.Manager.{Shows, StandsFor, HasPlace, shown, client_there, client_at, past_at, rules_in, manager_rules, pasts_with};
+    ghost use Rattle.tl_client_rules.specs.Manager.{Shows, StandsFor, ForShown, AfterBeats, EndWith, HasPlace, shown, client_there, client_at, past_at, head_rules_in, manager_rules, pasts_after};
 
     /// The state of the manager with this number, before all messages. Of a number that the topology lacks, it has no clients.
     /// AllocError where memory is refused.
@@ -289,23 +284,16 @@ impl ManagerState {
     ) -> Result<RuleList, AllocError>
         requires link { HasPlace (shown self.old) link }
         // Whatever pasts of the links the state shows, the head is judged by those.
-        ensures judged { (clients : List ℕ) (exponent : ℕ) (pasts : ℕ → LinkPast) → Shows clients exponent self.old pasts
-            → option_copied request.entry ≡ answered_in (pasts link) head.now (message_of decl.now head.now)
-            → IfOk result (λ rules. rules ≡ rules_in clients exponent decl.now.strict pasts link head.now (message_of decl.now head.now)) }
-        ensures next { (clients : List ℕ) (exponent : ℕ) (pasts : ℕ → LinkPast) → Shows clients exponent self.old pasts
-            → option_copied request.entry ≡ answered_in (pasts link) head.now (message_of decl.now head.now)
-            → OnOk result (Shows clients exponent self.new (pasts_with exponent link pasts head.now (message_of decl.now head.now))) }
+        ensures judged { ForShown self.old link decl.now head.now (option_copied request.entry)
+            (λ clients exponent pasts. IfOk result (λ rules. rules ≡ head_rules_in clients exponent pasts link decl.now head.now)) }
+        ensures next { ForShown self.old link decl.now head.now (option_copied request.entry)
+            (λ clients exponent pasts. OnOk result (Shows clients exponent self.new (pasts_after exponent pasts link decl.now head.now))) }
         // Where it stands for the beats of its manager so far, these are the last of the rules that the head breaks after
         // those, and it then stands for them and the head.
-        ensures broken { (m : Manager) (before : List Placed) (fragment line : ℕ) → let p : Placed = record { link = link; fragment = fragment; line = line; beat = head.now } in
-            m.links link ≡ decl.now → at_head m.links before p ≡ true → StandsFor m self.old before
-            → option_copied request.entry ≡ answered (messages_on m.links link before) head.now (message_of decl.now head.now)
-            → IfOk result (λ rules. rules_at m before p ≡ format_rules m.exponent m.regions decl.now head.now (message_of decl.now head.now)
-            ++ flow_rules (messages_on m.links link before) head.now (message_of decl.now head.now) ++ rules) }
-        ensures stands { (m : Manager) (before : List Placed) (fragment line : ℕ) → let p : Placed = record { link = link; fragment = fragment; line = line; beat = head.now } in
-            m.links link ≡ decl.now → at_head m.links before p ≡ true → StandsFor m self.old before
-            → option_copied request.entry ≡ answered (messages_on m.links link before) head.now (message_of decl.now head.now)
-            → OnOk result (StandsFor m self.new (p ∷ before)) }
+        ensures broken { AfterBeats self.old link decl.now head.now (option_copied request.entry)
+            (λ m before p. IfOk result (λ rules. EndWith decl.now head.now rules m before p)) }
+        ensures stands { AfterBeats self.old link decl.now head.now (option_copied request.entry)
+            (λ m before p. OnOk result (StandsFor m self.new (p ∷ before))) }
         ensures count { (shown self.new).count ≡ (shown self.old).count }
         ensures err { OnErr result (shown self.new ≡ shown self.old) }
     {
@@ -322,12 +310,10 @@ impl ManagerState {
         request: Option<&Request>,
     ) -> Result<RuleList, AllocError>
         requires link { HasPlace (shown self.old) link }
-        ensures judged { (clients : List ℕ) (exponent : ℕ) (pasts : ℕ → LinkPast) → Shows clients exponent self.old pasts
-            → option_copied request.entry ≡ answered_in (pasts link) head.now (message_of decl.now head.now)
-            → IfOk result (λ rules. rules ≡ rules_in clients exponent decl.now.strict pasts link head.now (message_of decl.now head.now)) }
-        ensures next { (clients : List ℕ) (exponent : ℕ) (pasts : ℕ → LinkPast) → Shows clients exponent self.old pasts
-            → option_copied request.entry ≡ answered_in (pasts link) head.now (message_of decl.now head.now)
-            → OnOk result (Shows clients exponent self.new (pasts_with exponent link pasts head.now (message_of decl.now head.now))) }
+        ensures judged { ForShown self.old link decl.now head.now (option_copied request.entry)
+            (λ clients exponent pasts. IfOk result (λ rules. rules ≡ head_rules_in clients exponent pasts link decl.now head.now)) }
+        ensures next { ForShown self.old link decl.now head.now (option_copied request.entry)
+            (λ clients exponent pasts. OnOk result (Shows clients exponent self.new (pasts_after exponent pasts link decl.now head.now))) }
         ensures count { (shown self.new).count ≡ (shown self.old).count }
         ensures err { OnErr result (shown self.new ≡ shown self.old) }
     {

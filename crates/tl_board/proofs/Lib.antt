@@ -14,9 +14,9 @@ pub mod TicketLemmas
 mod MonitorLemmas
 mod PassLemmas
 mod RowLemmas
-mod TouchLemmas
+mod TouchedWatchLemmas
 pub mod AfterLemmas
 mod KeyLemmas
 mod OwnerLemmas
-mod TaskLemmas
+mod WatchTaskLemmas
 mod OutsideLemmas

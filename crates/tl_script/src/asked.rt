@@ -42,7 +42,7 @@ pub fn fragment_of(
 }
 
 /// What a command asks for. AllocError where memory is refused.
-#[tactic(auto, unfolding(crate::specs::Commands::asked, crate::specs::Text::IsCommand))]
+#[tactic(auto, unfolding(crate::specs::Asked::asked, crate::specs::Text::IsCommand))]
 pub fn asked_by(alloc: Global, command: &Command<'_>) -> Result<Asked, AllocError>
     requires { IsCommand command.now }
     ensures { IfOk result (λ found. asking found ≡ asked command.now) }

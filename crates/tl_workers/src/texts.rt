@@ -59,7 +59,7 @@ impl<'s> ReadText<'s> {
     }
 
     /// What a command asks for, if it brings this text. None too where memory is refused.
-    #[tactic(auto, unfolding(tl_run::specs::Commands::asked))]
+    #[tactic(auto, unfolding(tl_script::specs::Asked::asked))]
     fn asked(&self, command: &Command<'_>) -> Option<Asked>
         ensures { IfSome result (λ found. asking found ≡ asked command.now) }
     {

@@ -1,5 +1,6 @@
-//! Tests of a desk: how often it calls its monitors, windows that go out and come back, lists of steps, when a monitor is dropped, and
-//! calls that are refused memory and made again.
+//! Tests of a desk, alone and in a hall: how often it calls its monitors, windows that go out and come back, lists of steps, when a
+//! monitor is dropped, calls that are refused memory and made again; what one thread tells another, workers at once and alone, and
+//! windows that come back late or to another hall.
 #![tactic(auto)]
 
 #[cfg(test)]
@@ -13,7 +14,15 @@ mod checks;
 #[cfg(test)]
 mod counting;
 #[cfg(test)]
+mod gates;
+#[cfg(test)]
+mod hall_bench;
+#[cfg(test)]
+mod hall_refusals;
+#[cfg(test)]
 mod logs;
+#[cfg(test)]
+mod lost;
 #[cfg(test)]
 mod plays;
 #[cfg(test)]
@@ -28,3 +37,5 @@ mod shelf;
 mod texts;
 #[cfg(test)]
 mod tickets;
+#[cfg(test)]
+mod workers;

@@ -13,9 +13,8 @@ use tl_advice::report_summary;
 use tl_beats::{Fragment, Row};
 use tl_check::{all_added, scratch};
 use tl_edits::Inputs;
+use tl_formats::{Format, Pick, Title, Waiver, WaiverFault, print_rows, read_waivers};
 use tl_options::{How, View};
-use tl_rows::{Format, Pick, Waiver, WaiverFault, read_waivers};
-use tl_show::{Title, print_rows};
 use tl_text::{ByteOut, CountedReader, TextFault, read_text, write_all};
 use tl_topology::{Name, Topo};
 

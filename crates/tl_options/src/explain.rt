@@ -2,7 +2,7 @@
 
 use crate::{flow_entries, format_entries, permission_entries, refusal_entries};
 use std::alloc::{AllocError, Global};
-use tl_rows::{RULES, rule_named};
+use tl_formats::{RULES, rule_named};
 use tl_tables::Rule;
 use tl_text::decimal;
 

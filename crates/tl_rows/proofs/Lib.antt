@@ -1,6 +1,4 @@
 pub mod Texts
-pub mod Lines
-pub mod Kept
 pub mod OpenerLaws
 pub mod FirstLaws
 pub mod StepLaws

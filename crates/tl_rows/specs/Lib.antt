@@ -1,6 +1,4 @@
 pub mod Words
-pub mod Picks
-pub mod Waivers
 pub mod Origins
 pub mod Reasons
 pub mod Openers

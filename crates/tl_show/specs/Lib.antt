@@ -1,3 +1,2 @@
 pub mod Lines
 pub mod Shown
-pub mod Printed

@@ -1,0 +1,21 @@
+//! Which rows are written, and how: filters and waivers, JSON, JUnit.
+#![tactic(auto)]
+
+mod beat;
+mod format;
+mod json;
+mod junit;
+mod output;
+mod pick;
+mod rule_names;
+mod waiver_fault;
+mod waivers;
+
+pub use format::Format;
+pub use json::json_text;
+pub use junit::junit_text;
+pub use output::{Printed, Title, print_rows};
+pub use pick::{Cycles, Pick, Waiver};
+pub use rule_names::{RULES, rule_named};
+pub use waiver_fault::WaiverFault;
+pub use waivers::read_waivers;

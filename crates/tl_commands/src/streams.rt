@@ -12,11 +12,10 @@ use std::alloc::{AllocError, Global};
 use std::rt::Files;
 use std::sync::Arc;
 use tl_beats::Watch;
-use tl_check::Plain;
 use tl_options::StreamOptions;
-use tl_show::Shown;
+use tl_show::ShownStream;
 use tl_stream::{
-    RowForm, Source, Stream, StreamStop, TellFault, Teller, stream_end, stream_input,
+    PlainRows, RowForm, Source, Stream, StreamStop, TellFault, Teller, stream_end, stream_input,
     stream_sources,
 };
 use tl_text::{ByteIn, ByteOut, CountedReader, write_all};
@@ -50,7 +49,7 @@ fn teller_of<'f, F: RowForm>(
     alloc: Global,
     stream: Stream,
     watches: &[(u32, Watch)],
-    form: &'f F,
+    form: &'f mut F,
 ) -> Result<Teller<'f, F>, AllocError> {
     let mut teller = Teller::new(alloc, stream, form)?;
     for (number, watch) in watches {
@@ -161,12 +160,15 @@ pub fn stream_of_files<R: Files + AllocGlobal + Clone + Drop, I: ByteIn, O: Byte
         refused: refused.as_str(),
         told: settlements.as_str(),
     };
-    let stream = Stream::new(alloc, topo, regions)?;
     if options.show {
-        let teller = teller_of(alloc, stream, &watches, &Shown)?;
+        let mut form = ShownStream::new(alloc, &topo)?;
+        let stream = Stream::new(alloc, topo, regions)?;
+        let teller = teller_of(alloc, stream, &watches, &mut form)?;
         stream_in_form(rt, teller, streams, input, out, err)
     } else {
-        let teller = teller_of(alloc, stream, &watches, &Plain)?;
+        let stream = Stream::new(alloc, topo, regions)?;
+        let mut form = PlainRows;
+        let teller = teller_of(alloc, stream, &watches, &mut form)?;
         stream_in_form(rt, teller, streams, input, out, err)
     }
 }

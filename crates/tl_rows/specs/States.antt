@@ -1,5 +1,5 @@
 -- What the state of a manager stands for.
-use Rattle.std.specs.Prelude.{ℕ, ◌≡◌, List, [], Option, Some, None, slice_get}
+use Rattle.std.specs.Prelude.{ℕ, ◌≡◌, List, [], Option, Some, None, length, slice_get}
 use Rattle.std.specs.Option.{option_map_or}
 use Rattle.tl_topology.specs.Topology.{Topology}
 use Rattle.tl_beats.specs.declared.Placed.{Placed}
@@ -34,6 +34,10 @@ manager_with topo exponent clients = record { links = links_of (declared_links t
 pub record StandsFor (m : Manager) (state : ManagerOrigins) (before : List Placed) : Type 0 where
   pub exponent : state.exponent ≡ m.exponent
   pub each : (link : ℕ) → IsLink m.exponent m.links link (slice_get state.links.items link) before
+
+-- how many links the topology has that a state is of
+abbrev pub links_in : ManagerOrigins → ℕ
+links_in state = length state.links.items
 
 -- A link without beats.
 abbrev pub IsOpening : LinkOrigins → Type 0

@@ -15,6 +15,7 @@ mod telling;
 
 pub use beat_words::{beat_text, bytes_text};
 pub use counts::{OpenCounts, Opened};
+pub use manager::ManagerOrigins;
 pub use names::{chan_text, op_text, param_text};
 pub use origin::Origin;
 pub use reason::Reason;

@@ -7,7 +7,7 @@ ghost use Rattle.tl_beats.specs.Beats.{IsWellFormed};
 ghost use Rattle.tl_beats.specs.declared.Placed.{Placed as AnyPlaced};
 ghost use Rattle.tl_definitions.specs.Messages.{at_head};
 ghost use Rattle.tl_rows.specs.Reasons.{reason_at, head_reason, bound_by, first_some};
-ghost use Rattle.tl_rows.specs.States.{StandsFor, IsOpening, trail_at, sought_at, manager_with};
+ghost use Rattle.tl_rows.specs.States.{StandsFor, IsOpening, trail_at, sought_at, manager_with, links_in};
 
 use crate::link::LinkOrigins;
 use crate::origin::Origin;
@@ -18,9 +18,10 @@ use tl_client_rules::{block_of, claim, granted_block};
 use tl_tables::{Op, Perm, Rule, op_of};
 use tl_topology::Topo;
 
-/// What the beats of a manager leave that a reason can name.
+/// What the beats of a manager leave that a reason can name: all that is open on its links, and for each block the last message that
+/// set what a client may hold of it.
 #[derive(Drop)]
-pub(crate) struct ManagerOrigins {
+pub struct ManagerOrigins {
     /// A block has 2 to this power bytes.
     exponent: u8,
     /// One for each link of the topology, by number.
@@ -74,18 +75,21 @@ fn opening_links(alloc: Global, count: usize) -> Result<Vec<LinkOrigins>, AllocE
 
 impl ManagerOrigins {
     /// That of a manager without beats, whose blocks have 2 to the exponent bytes. AllocError where memory is refused.
-    pub(crate) fn new(
-        alloc: Global,
-        topo: &Topo,
-        exponent: u8,
-    ) -> Result<ManagerOrigins, AllocError>
+    pub fn new(alloc: Global, topo: &Topo, exponent: u8) -> Result<ManagerOrigins, AllocError>
         ensures stands { (clients : List ℕ) → IfOk result (λ state. StandsFor (manager_with topo.now exponent clients) state []) }
-        ensures count { IfOk result (λ state. length state.links.items ≡ length topo.now.links) }
+        ensures count { IfOk result (λ state. links_in state ≡ length topo.now.links) }
     {
         Ok(ManagerOrigins {
             exponent,
             links: opening_links(alloc, topo.link_count())?,
         })
+    }
+
+    /// How many links the topology has that it is of.
+    pub fn link_count(&self) -> usize
+        ensures { result ≡ links_in self.now }
+    {
+        self.links.len()
     }
 
     /// What last set the bound of a client on a block.
@@ -184,10 +188,10 @@ impl ManagerOrigins {
         }
     }
 
-    /// What makes the next beat of the manager break a rule.
-    pub(crate) fn reason(&self, topo: &Topo, clients: &[u16], place: &Placed, rule: Rule) -> Reason
+    /// What makes the next beat of the manager, whose clients are these, break a rule.
+    pub fn reason(&self, topo: &Topo, clients: &[u16], place: &Placed, rule: Rule) -> Reason
         requires beat { IsWellFormed place.now.beat }
-        requires link { place.now.link < length self.now.links.items }
+        requires link { place.now.link < links_in self.now }
         requires declared { place.now.link < length topo.now.links }
         ensures { (exponent : ℕ) (before : List AnyPlaced) → StandsFor (manager_with topo.now exponent clients.now) self.now before
             → result ≡ reason_at (manager_with topo.now exponent clients.now) before place.now rule }
@@ -216,13 +220,13 @@ impl ManagerOrigins {
     }
 
     /// What the next beat of the manager leaves. AllocError where memory is refused: then it may have part of the beat.
-    pub(crate) fn step(&mut self, topo: &Topo, place: &Placed) -> Result<(), AllocError>
+    pub fn step(&mut self, topo: &Topo, place: &Placed) -> Result<(), AllocError>
         requires beat { IsWellFormed place.now.beat }
-        requires link { place.now.link < length self.old.links.items }
+        requires link { place.now.link < links_in self.old }
         requires declared { place.now.link < length topo.now.links }
         ensures stands { (exponent : ℕ) (clients : List ℕ) (before : List AnyPlaced) → StandsFor (manager_with topo.now exponent clients) self.old before
             → OnOk result (StandsFor (manager_with topo.now exponent clients) self.new (place.now ∷ before)) }
-        ensures count { length self.new.links.items ≡ length self.old.links.items }
+        ensures count { links_in self.new ≡ links_in self.old }
     {
         let decl = topo.link(place.link).unwrap();
         let exponent = self.exponent;

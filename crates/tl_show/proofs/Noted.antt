@@ -410,7 +410,7 @@ expected_noted topo link rule.X1 p reason = noted_nil
 
 -- ---- rows with their lines
 
-told_noted : (topo : Topology) → AreNamed topo → (told : Told) → IsSoundTold topo told → IsNoted [] (told_lines_of topo told)
+pub told_noted : (topo : Topology) → AreNamed topo → (told : Told) → IsSoundTold topo told → IsNoted [] (told_lines_of topo told)
 unfolding told_lines_of
 told_noted topo names told sound =
     noted_more [] [] _ _ (beat_noted topo names told.place sound.0)

@@ -8,8 +8,10 @@ mod quote;
 mod shown;
 mod streaming;
 mod survey;
+mod trail;
 
 pub use form::{Shown, note};
 pub use quote::{first_line, line_at, lines_from, quoted};
 pub use shown::{shown_audit, shown_report, shown_row};
+pub use streaming::ShownStream;
 pub use survey::{Counts, Survey, survey_beats};

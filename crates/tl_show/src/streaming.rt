@@ -5,15 +5,18 @@ ghost use Rattle.std.specs.List.{All};
 ghost use Rattle.tl_beats.specs.Beats.{IsWellFormed};
 ghost use Rattle.tl_check.specs.Notes.{is_unbroken, IsNoted};
 ghost use Rattle.tl_check.specs.Output.{row_text};
+ghost use Rattle.tl_show.specs.Lines.{IsStanding, IsNaming, IsSoundTold};
 
-use crate::form::{Shown, note};
-use crate::lines::bare_lines;
+use crate::form::note;
+use crate::lines::{bare_lines, told_lines};
 use crate::quote::{line_at, quoted};
+use crate::trail::Trail;
 use std::alloc::{AllocError, Global};
 use tl_beats::{FragmentFault, Placed, Row};
 use tl_capture::Present;
 use tl_check::row_text;
-use tl_stream::RowForm;
+use tl_rows::{Reason, Told};
+use tl_stream::{Completed, RowForm};
 use tl_topology::Topo;
 
 /// The beat of a row among the fragments that are kept, if it is there.
@@ -31,8 +34,8 @@ fn beat_of(kept: &Present, row: &Row) -> Option<Placed>
     })
 }
 
-/// The lines of a row, if its beat is kept.
-fn notes_of(alloc: Global, topo: &Topo, kept: &Present, row: &Row) -> Result<String, AllocError>
+/// The lines of a row without its reason, if its beat is kept.
+fn bare_notes(alloc: Global, topo: &Topo, kept: &Present, row: &Row) -> Result<String, AllocError>
     requires { row.now.link < length topo.now.links }
     ensures { IfOk result (λ text. IsNoted [] (string_bytes text)) }
 {
@@ -43,14 +46,89 @@ fn notes_of(alloc: Global, topo: &Topo, kept: &Present, row: &Row) -> Result<Str
     }
 }
 
+/// Whether a beat is well-formed and on a link of the topology.
+fn stands(topo: &Topo, place: &Placed) -> bool
+    ensures { result ≡ true → IsStanding topo.now place.now }
+{
+    if usize::from(place.link) >= topo.link_count() {
+        return false;
+    }
+    place.beat.is_well_formed()
+}
+
+/// Whether the beat that a reason names, if any, is.
+fn is_naming(topo: &Topo, reason: &Reason) -> bool
+    ensures { result ≡ true → IsNaming topo.now reason.now }
+{
+    match reason {
+        Reason::ByItself | Reason::NoneBefore => true,
+        Reason::Head(place)
+        | Reason::Request(place)
+        | Reason::Release(place)
+        | Reason::Probe(place)
+        | Reason::Grant(place)
+        | Reason::Setter(place)
+        | Reason::Rival(place) => stands(topo, place),
+    }
+}
+
+/// What is told of a row, if this tells of it. Its beats came from fragments, so all of them stand; a trail promises no such thing.
+fn own_of<'a>(topo: &Topo, told: Option<&'a Told>, row: &Row) -> Option<&'a Told>
+    ensures { IfSome result (λ own. IsSoundTold topo.now own.now) }
+{
+    let own = told?;
+    if own.row != *row {
+        return None;
+    }
+    if !stands(topo, &own.place) {
+        return None;
+    }
+    if !is_naming(topo, &own.reason) {
+        return None;
+    }
+    Some(own)
+}
+
+/// The lines of a told row.
+fn told_notes(alloc: Global, topo: &Topo, told: &Told) -> Result<String, AllocError>
+    requires { IsSoundTold topo.now told.now }
+    ensures { IfOk result (λ text. IsNoted [] (string_bytes text)) }
+{
+    let _ = topo.link_count();
+    told_lines(alloc, topo, told)
+}
+
+/// The lines of a row: with its reason where it is told.
+fn notes_of(
+    alloc: Global,
+    topo: &Topo,
+    kept: &Present,
+    told: Option<&Told>,
+    row: &Row,
+) -> Result<String, AllocError>
+    requires { row.now.link < length topo.now.links }
+    ensures { IfOk result (λ text. IsNoted [] (string_bytes text)) }
+{
+    match own_of(topo, told, row) {
+        Some(own) => told_notes(alloc, topo, own),
+        None => bare_notes(alloc, topo, kept, row),
+    }
+}
+
 /// A row with its lines.
-fn row_with(alloc: Global, topo: &Topo, kept: &Present, row: &Row) -> Result<String, AllocError>
+fn row_with(
+    alloc: Global,
+    topo: &Topo,
+    kept: &Present,
+    told: Option<&Told>,
+    row: &Row,
+) -> Result<String, AllocError>
     requires { row.now.link < length topo.now.links }
     ensures { IfOk result (λ text. IsNoted (row_text topo.now row.now) (string_bytes text)) }
 {
     let _ = topo.link_count();
     let line = row_text(alloc, topo, row)?;
-    let notes = notes_of(alloc, topo, kept, row)?;
+    let notes = notes_of(alloc, topo, kept, told, row)?;
     format!(in alloc; "{line}{notes}")
 }
 
@@ -94,25 +172,62 @@ fn stop_text(alloc: Global, fault: FragmentFault, text: &[u8]) -> Result<String,
     format!(in alloc; "{own}{last}")
 }
 
-impl RowForm for Shown {
+/// The rows of a stream with what makes them so, between their lines. It remembers for that what the beats left that a reason can
+/// name: all that is open, and for each block the last message that set what a client may hold of it.
+#[derive(Drop)]
+pub struct ShownStream {
+    // One for each manager.
+    trails: Vec<Trail>,
+    // What is told of the first of the rows that are written next.
+    told: Vec<Told>,
+}
+
+impl ShownStream {
+    /// That of a stream of a topology of which no beat was seen. AllocError where memory is refused.
+    pub fn new(alloc: Global, topo: &Topo) -> Result<ShownStream, AllocError> {
+        let mut trails = Vec::new(alloc);
+        for manager in 0..topo.manager_count() {
+            trails.push(Trail::new(alloc, topo, manager as u16)?)?;
+        }
+        Ok(ShownStream {
+            trails,
+            told: Vec::new(alloc),
+        })
+    }
+}
+
+impl RowForm for ShownStream {
     ghost noted = { true };
 
     fn has_beats(&self) -> bool {
         true
     }
 
+    fn pass(
+        &mut self,
+        alloc: Global,
+        completed: &Completed<'_>,
+        rows: &[Row],
+    ) -> Result<(), AllocError> {
+        match self.trails.get_mut(usize::from(completed.manager)) {
+            Some(trail) => trail.follow(alloc, completed, rows, &mut self.told),
+            None => Ok(()),
+        }
+    }
+
     fn rows(
-        &self,
+        &mut self,
         alloc: Global,
         topo: &Topo,
         kept: &Present,
         rows: &[Row],
     ) -> Result<String, AllocError> {
         let mut text = String::new(alloc);
-        for row in rows {
-            let own = row_with(alloc, topo, kept, row)?;
+        for (index, row) in rows.iter().enumerate() {
+            let own = row_with(alloc, topo, kept, self.told.get(index), row)?;
             text.push_str(own.as_str())?;
         }
+        self.told.clear();
         Ok(text)
     }
 

@@ -8,8 +8,21 @@ ghost use Rattle.tl_check.specs.Output.{row_text};
 use std::alloc::{AllocError, Global};
 use tl_beats::{FragmentFault, Row};
 use tl_capture::Present;
-use tl_check::{Plain, listed};
+use tl_check::listed;
 use tl_topology::Topo;
+
+/// Beats of a manager that became complete.
+#[derive(Clone, Copy)]
+pub struct Completed<'a> {
+    /// The topology.
+    pub topo: &'a Topo,
+    /// The fragments that have them, and perhaps others.
+    pub kept: &'a Present,
+    /// The number of the manager.
+    pub manager: u16,
+    /// The last cycle that is complete on its links.
+    pub to: u64,
+}
 
 /// How the rows of a stream are written: their lines alone, or with notes.
 pub trait RowForm {
@@ -19,9 +32,18 @@ pub trait RowForm {
     /// Whether notes tell of the beats of rows, whose fragments are then kept until their rows are written.
     fn has_beats(&self) -> bool;
 
+    /// Takes note of beats that became complete, of which some break rules by these rows. Their text is asked for next. AllocError
+    /// where memory is refused.
+    fn pass(
+        &mut self,
+        alloc: Global,
+        completed: &Completed<'_>,
+        rows: &[Row],
+    ) -> Result<(), AllocError>;
+
     /// The text of rows of a topology that has their links. AllocError where memory is refused.
     fn rows(
-        &self,
+        &mut self,
         alloc: Global,
         topo: &Topo,
         kept: &Present,
@@ -35,15 +57,28 @@ pub trait RowForm {
         ensures { Tells noted [] (string_bytes result) };
 }
 
-impl RowForm for Plain {
+/// The lines of rows alone.
+#[derive(Clone, Copy)]
+pub struct PlainRows;
+
+impl RowForm for PlainRows {
     ghost noted = { false };
 
     fn has_beats(&self) -> bool {
         false
     }
 
+    fn pass(
+        &mut self,
+        _alloc: Global,
+        _completed: &Completed<'_>,
+        _rows: &[Row],
+    ) -> Result<(), AllocError> {
+        Ok(())
+    }
+
     fn rows(
-        &self,
+        &mut self,
         alloc: Global,
         topo: &Topo,
         _kept: &Present,

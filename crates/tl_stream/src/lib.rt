@@ -16,7 +16,7 @@ mod teller;
 pub use ahead::Ahead;
 pub use fault::StreamFault;
 pub use feed::Feed;
-pub use form::RowForm;
+pub use form::{Completed, PlainRows, RowForm};
 pub use inputs::{Source, StreamStop, stream_end, stream_input, stream_sources};
 pub use lookout::Lookout;
 pub use stream::Stream;

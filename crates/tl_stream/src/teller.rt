@@ -4,7 +4,7 @@ ghost use Rattle.std.specs.Prelude.{◌≡◌, ◌<◌, ◌^◌, IfOk, OnOk, len
 ghost use Rattle.std.specs.List.{All};
 
 use crate::fault::StreamFault;
-use crate::form::RowForm;
+use crate::form::{Completed, RowForm};
 use crate::lookout::{Lookout, placed};
 use crate::stream::Stream;
 use std::alloc::{AllocError, AllocFailed, Global};
@@ -87,7 +87,7 @@ impl From<WriteFault> for TellFault {
 #[derive(Drop)]
 pub struct Teller<'f, F: RowForm> {
     stream: Stream,
-    form: &'f F,
+    form: &'f mut F,
     count: StreamCount,
     lookouts: Vec<Lookout>,
     // The fragments whose rows may still come, where the form tells of their beats.
@@ -108,7 +108,7 @@ fn refused_text(alloc: Global, fault: StreamFault) -> Result<String, AllocError>
 /// Writes rows in a form.
 fn write_rows<F: RowForm, O: ByteOut>(
     alloc: Global,
-    form: &F,
+    form: &mut F,
     topo: &Topo,
     kept: &Present,
     rows: &[Row],
@@ -176,7 +176,7 @@ fn flagged(
 /// Writes rows that watches flag, each by itself.
 fn write_flagged<F: RowForm, O: ByteOut>(
     alloc: Global,
-    form: &F,
+    form: &mut F,
     topo: &Topo,
     kept: &Present,
     rows: &[Row],
@@ -189,6 +189,26 @@ fn write_flagged<F: RowForm, O: ByteOut>(
         if usize::from(row.link) < topo.link_count() {
             write_rows(alloc, form, topo, kept, &[*row], out)?;
         }
+    }
+    Ok(())
+}
+
+/// Has a form take note of all beats that are kept, manager by manager, of which these are the rows.
+fn pass_all<F: RowForm>(
+    alloc: Global,
+    form: &mut F,
+    topo: &Topo,
+    kept: &Present,
+    rows: &[Row],
+) -> Result<(), AllocError> {
+    for manager in 0..topo.manager_count() {
+        let completed = Completed {
+            topo,
+            kept,
+            manager: manager as u16,
+            to: u64::MAX,
+        };
+        form.pass(alloc, &completed, rows)?;
     }
     Ok(())
 }
@@ -213,7 +233,11 @@ fn tell_wait<E: ByteOut>(alloc: Global, topo: &Topo, silent: u16, err: &mut E)
 
 impl<'f, F: RowForm> Teller<'f, F> {
     /// A stream of which nothing was written, in this form. AllocError where memory is refused.
-    pub fn new(alloc: Global, stream: Stream, form: &'f F) -> Result<Teller<'f, F>, AllocError> {
+    pub fn new(
+        alloc: Global,
+        stream: Stream,
+        form: &'f mut F,
+    ) -> Result<Teller<'f, F>, AllocError> {
         let mut waits = Vec::new(alloc);
         for _ in 0..stream.topo().manager_count() {
             waits.push(0)?;
@@ -297,12 +321,22 @@ impl<'f, F: RowForm> Teller<'f, F> {
         if self.form.has_beats() {
             keep(&mut self.kept, link, fragment)?;
         }
+        let complete = self.stream.complete(link);
+        if let (Some(to), Some(decl)) = (complete, topo.link(link)) {
+            let completed = Completed {
+                topo,
+                kept: &self.kept,
+                manager: decl.manager,
+                to,
+            };
+            self.form.pass(alloc, &completed, rows)?;
+        }
         write_rows(alloc, self.form, topo, &self.kept, rows, out)?;
         write_flagged(alloc, self.form, topo, &self.kept, &found, out)?;
         self.count.count_fragment(fragment);
         self.count.count_rows(rows);
         self.count.count_rows(&found);
-        if let (Some(cycle), Some(decl)) = (self.stream.complete(link), topo.link(link)) {
+        if let (Some(cycle), Some(decl)) = (complete, topo.link(link)) {
             forget(&mut self.kept, topo, decl.manager, cycle);
         }
         Ok(())
@@ -341,6 +375,7 @@ impl<'f, F: RowForm> Teller<'f, F> {
         } = self;
         let topo = Arc::try_clone(stream.shared_topo())?;
         let rows = stream.end(alloc)?;
+        pass_all(alloc, form, &topo, &kept, &rows)?;
         write_rows(alloc, form, &topo, &kept, &rows, out)?;
         count.count_rows(&rows);
         Ok(count)

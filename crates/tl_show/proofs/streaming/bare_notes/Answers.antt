@@ -1,7 +1,7 @@
 use Rattle.std.proofs.Common.{◌≡◌, ◌<◌, length, sym, subst}
 use Rattle.tl_show.specs.Lines.{bare_lines_of}
 use Rattle.tl_show.proofs.Noted.{bare_noted, note_made}
-use Rattle.tl_show.proofs.streaming.notes_of.Goals as goal
+use Rattle.tl_show.proofs.streaming.bare_notes.Goals as goal
 
 pub returns-in-Some : goal.returns-in-Some
 returns-in-Some c =

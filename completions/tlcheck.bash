@@ -2,19 +2,20 @@
 _tlcheck() {
     local here=${COMP_WORDS[COMP_CWORD]} words=
     case $COMP_CWORD:${COMP_WORDS[1]} in
-    1:*) words='once run audit stream explain help --help --version' ;;
+    1:*) words='once run audit stream doctor explain help --help --version' ;;
     *:once) words='--workers --show --explain-faults --summary --deny --format --rule --link --from --to --waive --help' ;;
     *:run) words='--workers --show --explain-faults --summary --deny --help' ;;
     *:audit) words='--show --explain-faults --summary --deny --format --rule --link --from --to --waive --help' ;;
     *:stream) words='--setup --show --explain-faults --help' ;;
-    2:help) words='once run audit stream explain' ;;
+    *:doctor) words='--explain-faults --help' ;;
+    2:help) words='once run audit stream doctor explain' ;;
     2:explain) words="--help $("$1" explain 2> /dev/null | cut -d : -f 1)" ;;
     esac
     COMPREPLY=()
     if [[ $COMP_CWORD -gt 1 && ${COMP_WORDS[COMP_CWORD - 1]} == --deny ]]; then
         COMPREPLY=($(compgen -W 'refused empty' -- "$here"))
     elif [[ $COMP_CWORD -gt 1 && ${COMP_WORDS[COMP_CWORD - 1]} == --format ]]; then
-        COMPREPLY=($(compgen -W 'text json junit' -- "$here"))
+        COMPREPLY=($(compgen -W 'text json junit html' -- "$here"))
     elif [[ $COMP_CWORD -gt 1 && ${COMP_WORDS[COMP_CWORD - 1]} == --rule ]]; then
         COMPREPLY=($(compgen -W "$("$1" explain 2> /dev/null | sed -n 's/^\([A-Z][0-9]*\):.*/\1/p')" -- "$here"))
     elif [[ $COMP_CWORD -gt 1 && ${COMP_WORDS[COMP_CWORD - 1]} == --workers ]]; then

@@ -1,10 +1,14 @@
-//! Faults in sentences: where each is, what was found there, and what would be right; and the summary at the end of a run.
+//! Faults in sentences: where each is, what was found there, and what would be right; the summary at the end of a run;
+//! and what looks wrong in a topology or in how a capture was made.
 #![tactic(auto)]
 
 mod advice;
 mod causes;
+mod doctor;
 mod fields;
+mod fits;
 mod forms;
+mod fronts;
 mod kinds;
 mod links;
 mod places;
@@ -15,6 +19,7 @@ mod tallies;
 
 pub use advice::edit_cause;
 pub use causes::{Advice, Cause};
+pub use doctor::{Diagnosis, diagnose};
 pub use kinds::{Role, kind_of};
 pub use places::{Line, Look, More, Place, Sentence};
 pub use refusals::{Script, script_sentences};

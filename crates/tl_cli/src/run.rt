@@ -13,9 +13,9 @@ use std::sync::Wait;
 use std::thread::Threads;
 use tl_advice::{Look, More};
 use tl_commands::{
-    Denial, Ending, Fault, Past, Suspect, Written, audit_of_files, input_sentence, input_sentences,
-    once_of_files, once_sentence, report_of, run_sentences, script_sentence, stream_of_files,
-    stream_sentence,
+    Denial, Ending, Fault, Past, Suspect, Written, audit_of_files, doctor_of_files, input_sentence,
+    input_sentences, once_of_files, once_sentence, report_of, run_sentences, script_sentence,
+    stream_of_files, stream_sentence,
 };
 use tl_options::{Command, Told, not_utf8, read_words, titles};
 use tl_script::Outcome;
@@ -233,6 +233,11 @@ fn file_sentence<R: Files + AllocGlobal + Clone + Drop>(
 ) -> Result<Option<String>, Fault> {
     match command {
         Command::Once {
+            topology,
+            fragments,
+            ..
+        }
+        | Command::Doctor {
             topology,
             fragments,
             ..
@@ -482,6 +487,11 @@ fn do_command<
         Command::Stream { topology, options } => {
             stream_of_files(rt, *topology, options, input, out, err)
         }
+        Command::Doctor {
+            topology,
+            fragments,
+            ..
+        } => doctor_of_files(rt, *topology, fragments, out),
     };
     tell_ending(rt, err, ending, command, screen)
 }

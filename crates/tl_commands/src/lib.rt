@@ -3,6 +3,7 @@
 
 mod chain;
 mod denial;
+mod doctor;
 mod fault;
 mod files;
 mod pasts;
@@ -15,6 +16,7 @@ mod streams;
 mod telling;
 
 pub use denial::{Denial, denial_of_run, edits_in};
+pub use doctor::doctor_of_files;
 pub use fault::Fault;
 pub use files::{script_of, topology_of};
 pub use picking::Written;

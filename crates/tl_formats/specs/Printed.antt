@@ -19,3 +19,4 @@ IsPrinted format.Text topo head rows bytes = bytes ≡ text_under topo head rows
 IsPrinted format.Shown topo head rows bytes = Unit {0}
 IsPrinted format.Json topo head rows bytes = Unit {0}
 IsPrinted format.Junit topo head rows bytes = Unit {0}
+IsPrinted format.Html topo head rows bytes = Unit {0}

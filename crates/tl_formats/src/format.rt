@@ -11,4 +11,6 @@ pub enum Format {
     Json,
     /// As a JUnit report.
     Junit,
+    /// As a page for a browser.
+    Html,
 }

@@ -39,7 +39,7 @@ fn reason_word(reason: &Option<Reason>) -> &'static str {
 }
 
 /// The beat that a reason names, if any.
-fn place_of(reason: &Reason) -> Option<&Placed> {
+pub(crate) fn place_of(reason: &Reason) -> Option<&Placed> {
     match reason {
         Reason::ByItself | Reason::NoneBefore => None,
         Reason::Head(place)
@@ -138,7 +138,7 @@ fn row_members(alloc: Global, topo: &Topo, row: &Row) -> Result<String, AllocErr
 }
 
 /// The reason of a row, if it is told.
-fn reason_of(told: &[Told], row: &Row) -> Option<Reason> {
+pub(crate) fn reason_of(told: &[Told], row: &Row) -> Option<Reason> {
     let own = told.iter().find(|told| told.row == *row)?;
     Some(own.reason)
 }

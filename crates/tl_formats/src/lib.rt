@@ -3,15 +3,19 @@
 
 mod beat;
 mod format;
+mod html;
 mod json;
 mod junit;
 mod output;
+mod page;
+mod page_script;
 mod pick;
 mod rule_names;
 mod waiver_fault;
 mod waivers;
 
 pub use format::Format;
+pub use html::html_text;
 pub use json::json_text;
 pub use junit::junit_text;
 pub use output::{Printed, Title, print_rows};

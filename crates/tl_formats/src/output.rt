@@ -5,6 +5,7 @@ ghost use Rattle.std.specs.List.{All};
 ghost use Rattle.tl_formats.specs.Picks.{is_left};
 ghost use Rattle.tl_formats.specs.Printed.{text_under, IsPrinted};
 
+use crate::html::html_text;
 use crate::json::json_text;
 use crate::junit::junit_text;
 use crate::{Format, Pick};
@@ -98,6 +99,7 @@ fn text_of(
         Format::Shown => shown_text(alloc, title, topo, inputs.present(), rows),
         Format::Json => json_text(alloc, topo, inputs.present(), &rows),
         Format::Junit => junit_text(alloc, topo, inputs.present(), &rows, pick),
+        Format::Html => html_text(alloc, title, topo, inputs.present(), &rows),
     }
 }
 

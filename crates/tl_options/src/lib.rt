@@ -1,6 +1,7 @@
 //! The words of the command line, and the entries that `explain` writes.
 #![tactic(auto)]
 
+mod doctor;
 mod explain;
 mod flow_entries;
 mod format_entries;

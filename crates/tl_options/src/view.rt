@@ -35,14 +35,14 @@ impl View<'_> {
 }
 
 /// The formats of rows.
-const FORMATS: &[&str] = &["text", "json", "junit"];
+const FORMATS: &[&str] = &["text", "json", "junit", "html"];
 
 fn format_option<'a>(alloc: Global) -> Arg<'a> {
     setting(
         alloc,
         "format",
         "FORMAT",
-        "Writes rows as text, as JSON, a line for each (json), or as a JUnit report (junit); text without this option",
+        "Writes rows as text, as JSON, a line for each (json), as a JUnit report (junit) or as a page for a browser (html); text without this option",
     )
     .value_parser(FORMATS)
     .hide_possible_values(true)
@@ -105,6 +105,7 @@ fn format_asked(found: &ArgMatches<'_>) -> Format {
     match found.get_str("format").unwrap_or("").as_bytes() {
         b"json" => Format::Json,
         b"junit" => Format::Junit,
+        b"html" => Format::Html,
         _ if found.get_flag("show") => Format::Shown,
         _ => Format::Text,
     }

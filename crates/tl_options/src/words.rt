@@ -1,5 +1,6 @@
 //! The words of the command line.
 
+use crate::doctor::{doctor, doctor_asked};
 use crate::explain::entry_of;
 use crate::usage::{Draft, flag, setting, word};
 use crate::view::{View, refusal, view_asked, with_view};
@@ -76,6 +77,12 @@ pub enum Command<'a> {
         topology: &'a str,
         options: StreamOptions<'a>,
     },
+    /// What looks wrong in a topology or in how fragments were made, from files.
+    Doctor {
+        topology: &'a str,
+        fragments: Vec<&'a str>,
+        explain_faults: bool,
+    },
     /// The entry of a rule or of a refusal, or without one the first line of each.
     Explain {
         entry: Option<&'static str>,
@@ -89,7 +96,10 @@ impl Command<'_> {
             Command::Once { how, .. } | Command::Run { how, .. } | Command::Audit { how, .. } => {
                 Some(*how)
             }
-            Command::Input | Command::Stream { .. } | Command::Explain { .. } => None,
+            Command::Input
+            | Command::Stream { .. }
+            | Command::Doctor { .. }
+            | Command::Explain { .. } => None,
         }
     }
 
@@ -105,6 +115,7 @@ impl Command<'_> {
     pub fn explains_faults(&self) -> bool {
         match self {
             Command::Stream { options, .. } => options.explain_faults,
+            Command::Doctor { explain_faults, .. } => *explain_faults,
             _ => self.how().is_some_and(|how| how.explain_faults),
         }
     }
@@ -116,7 +127,7 @@ const MOST_EDIT: u64 = (1 << 63) - 1;
 /// The most threads that work beside the first.
 const MOST_WORKERS: u64 = 16;
 
-fn topology<'a>(alloc: Global) -> Arg<'a> {
+pub(crate) fn topology<'a>(alloc: Global) -> Arg<'a> {
     word(
         alloc,
         "TOPO",
@@ -140,7 +151,7 @@ fn show<'a>(alloc: Global) -> Arg<'a> {
     )
 }
 
-fn explain_faults<'a>(alloc: Global) -> Arg<'a> {
+pub(crate) fn explain_faults<'a>(alloc: Global) -> Arg<'a> {
     flag(
         alloc,
         "explain-faults",
@@ -181,7 +192,12 @@ fn with_how<'a>(alloc: Global, command: Draft<'a>) -> Draft<'a> {
 }
 
 /// A command with these words in its help.
-fn described<'a>(alloc: Global, name: &'a str, about: &'a str, example: &'a str) -> Draft<'a> {
+pub(crate) fn described<'a>(
+    alloc: Global,
+    name: &'a str,
+    about: &'a str,
+    example: &'a str,
+) -> Draft<'a> {
     Draft::new(
         clap::Command::new(alloc, name)
             .about(about)
@@ -189,7 +205,7 @@ fn described<'a>(alloc: Global, name: &'a str, about: &'a str, example: &'a str)
     )
 }
 
-fn fragments<'a>(alloc: Global) -> Arg<'a> {
+pub(crate) fn fragments<'a>(alloc: Global) -> Arg<'a> {
     word(
         alloc,
         "FRAGMENT",
@@ -307,6 +323,7 @@ fn program<'a>(alloc: Global) -> Result<clap::Command<'a>, AllocError> {
         .subcommand(run(alloc))
         .subcommand(audit(alloc))
         .subcommand(stream(alloc))
+        .subcommand(doctor(alloc))
         .subcommand(explain(alloc))
         .finish()
 }
@@ -332,6 +349,7 @@ of at most 1,048,576 bytes, each FRAGMENT a fragment text of at most 8,388,608 b
 tlcheck run TOPO SCRIPT runs a script of at most 67,108,864 bytes: edits of fragments, regions and monitors, and \
 reports between them; with - for SCRIPT commands are carried out as they come. tlcheck audit TOPO SCRIPT EDIT checks anew what its first EDIT accepted edits leave.\n\
 tlcheck stream TOPO [FILE..] checks fragments as they come: of each link with rising numbers and ranges, as long as they come.\n\
+tlcheck doctor TOPO FRAGMENT.. says what looks wrong in a topology or in how the capture was made: status 1 where something does.\n\
 Without words tlcheck reads a topology and a script right after it from standard input, at most 67,108,864 bytes, \
 and does as run.\n\n\
 Exit status: 0 no rule is broken, 1 the last report has rows, 2 a fault, told on standard error as `tlcheck: CODE` \
@@ -362,7 +380,7 @@ fn how_asked(found: &ArgMatches<'_>, workers: u8) -> How {
 }
 
 /// The paths that words name.
-fn paths_asked<'a>(
+pub(crate) fn paths_asked<'a>(
     alloc: Global,
     found: &ArgMatches<'a>,
     name: &str,
@@ -484,6 +502,8 @@ fn command_named<'a>(
         audit_asked(alloc, program, found)
     } else if name == "stream" {
         stream_asked(alloc, found)
+    } else if name == "doctor" {
+        doctor_asked(alloc, found)
     } else if name == "explain" {
         explain_asked(alloc, program, found)
     } else {

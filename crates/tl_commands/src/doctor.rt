@@ -8,6 +8,7 @@ use crate::reports::{Ending, report_of};
 use std::alloc::Global;
 use std::rt::Files;
 use std::sync::Arc;
+use std::thread::Threads;
 use tl_advice::diagnose;
 use tl_beats::Fragment;
 use tl_check::all_added;
@@ -39,7 +40,7 @@ fn doctor_of<O: ByteOut>(
 }
 
 /// Writes what looks wrong in the fragments of files on a topology.
-fn doctor_on<R: Files + AllocGlobal + Clone + Drop, O: ByteOut>(
+fn doctor_on<R: Files + Threads + Sync + AllocGlobal + Clone + Drop, O: ByteOut>(
     rt: &R,
     topo: &Topo,
     words: &[&str],
@@ -47,13 +48,13 @@ fn doctor_on<R: Files + AllocGlobal + Clone + Drop, O: ByteOut>(
 ) -> Result<Ending, Fault>
     requires { O.failure_count out.old < 2 ^ 63 }
 {
-    let fragments = fragments_of(rt, words)?;
+    let fragments = fragments_of(rt, words, 0)?;
     doctor_of(rt.alloc(), topo, &fragments, out)
 }
 
 /// Writes what looks wrong in a file's topology, or in how the fragments of files were made, a line for each thing, which the ending
 /// counts as rows. Words stand for files as for `once_of_files`, and the faults are the same.
-pub fn doctor_of_files<R: Files + AllocGlobal + Clone + Drop, O: ByteOut>(
+pub fn doctor_of_files<R: Files + Threads + Sync + AllocGlobal + Clone + Drop, O: ByteOut>(
     rt: &R,
     topology: &str,
     words: &[&str],

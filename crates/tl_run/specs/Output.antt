@@ -17,6 +17,8 @@ use Rattle.tl_desk.specs.Core.{Core, AreLinked, log_of, latest_of, most_versions
 use Rattle.tl_edits.specs.declared.fault.EditFault.TheVariants as edit_fault
 use Rattle.tl_run.specs.declared.answer.Answer.{Answer}
 use Rattle.tl_run.specs.declared.answer.Answer.TheVariants as answer
+use Rattle.tl_script.specs.Accepted.{accepted}
+use Rattle.tl_script.specs.Replies.{edit_text, refused_text}
 use Rattle.tl_script.specs.Asked.{Asking, an_edit, no_fragment, a_report, asked, attached_by}
 
 -- What a run has come to: the edits that were accepted, how many reports were published, and the rows of the last one.

@@ -1,0 +1,12 @@
+pub mod Sure
+pub mod Bursts
+pub mod Members
+pub mod Steps
+pub mod Firsts
+pub mod Judged
+pub mod Lengths
+pub mod Rising
+pub mod MidwayLaws
+pub mod LeadIns
+pub mod ToldLaws
+pub mod RowLaws

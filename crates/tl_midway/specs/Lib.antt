@@ -1,0 +1,6 @@
+pub mod Readings
+pub mod Known
+pub mod Printed
+pub mod Lawful
+pub mod Laws
+pub mod Rows

@@ -164,7 +164,7 @@ pub(crate) fn sources_sentence(
 
 /// Whether the beat is of a message of one block.
 fn is_block_beat(level: Level, beat: &Beat) -> bool {
-    op_of(level, beat.chan, beat.opcode).is_some_and(is_of_block) && has_source(beat)
+    op_of(level, beat.chan, beat.opcode).is_some_and(|op| is_of_block(op)) && has_source(beat)
 }
 
 /// The size of all messages of one block, if they have one.

@@ -10,3 +10,4 @@ pub mod MidwayLaws
 pub mod LeadIns
 pub mod ToldLaws
 pub mod RowLaws
+pub mod KnownKeys

@@ -1,9 +1,12 @@
 -- The laws of captures that begin in the middle of a run.
-use Rattle.std.specs.Prelude.{◌≡◌, ◌⊎◌, true, false, List, ◌∷◌, ◌++◌, reverse}
+use Rattle.std.specs.Prelude.{◌≡◌, ℕ, ◌⊎◌, true, false, List, ◌∷◌, ◌++◌, map, reverse, Option, Some}
 use Rattle.std.specs.List.{Contains}
 use Rattle.std.specs.List.Sorted.{IsStrictlySortedBy}
+use Rattle.tl_tables.specs.declared.Chan.TheVariants as chan
 use Rattle.tl_tables.specs.declared.Rule.TheVariants as rule
+use Rattle.tl_beats.specs.declared.Beat.{Beat}
 use Rattle.tl_beats.specs.declared.Placed.{Placed}
+use Rattle.tl_beats.specs.declared.Request.{Request}
 use Rattle.tl_beats.specs.declared.Row.{Row}
 use Rattle.tl_definitions.specs.Heads.{before_on}
 use Rattle.tl_definitions.specs.Rules.{Manager}
@@ -11,7 +14,7 @@ use Rattle.tl_definitions.specs.Breaks.{Breaks, rules_at, rows_in}
 use Rattle.tl_definitions.specs.Judging.{snapshot}
 use Rattle.tl_definitions.specs.Report.{by_number}
 use Rattle.tl_midway.specs.Readings.{in_lead_in, readings_after}
-use Rattle.tl_midway.specs.Known.{Beginning, known_snapshot}
+use Rattle.tl_midway.specs.Known.{known, Beginning, known_pasts, known_snapshot}
 use Rattle.tl_midway.specs.Printed.{printed_rules, printed_rows}
 use Rattle.tl_midway.specs.Lawful.{IsLawful, LeavesAtMost, any_past, told_bursts, at_heads, Allows}
 
@@ -63,3 +66,12 @@ ToldRowsAreCertain = (m : Manager) (past beats : List Placed) → IsLawful m pas
 -- The printed rules of a beat stand in the order of reports, each once.
 abbrev pub PrintedRulesRise : Type 0
 PrintedRulesRise = (m : Manager) (start : Beginning) (before : List Placed) (p : Placed) → IsStrictlySortedBy by_number (printed_rules m start before p)
+
+-- A key that is known to be open was opened by a beat of the capture: a request by one of channel A with that source, a Release
+-- by one of channel C, and a Grant by one of channel D with that sink. So no key but those of such beats need be looked at for
+-- an Acquire, a Release or a Grant that is open on a block.
+abbrev pub KnownKeysAreOfTheCapture : Type 0
+KnownKeysAreOfTheCapture = (m : Manager) (start : Beginning) (before : List Placed) (link key : ℕ) →
+    ((request : Request) → (known_pasts m start before link).flow.source key ≡ known (Some request) → Contains (map (λ (b : Beat). b.source) (before_on link chan.A before)) key)
+    × ((request : Request) → (known_pasts m start before link).flow.release key ≡ known (Some request) → Contains (map (λ (b : Beat). b.source) (before_on link chan.C before)) key)
+    × ((block : Option ℕ) → (known_pasts m start before link).client.granted key ≡ known (Some block) → Contains (map (λ (b : Beat). b.sink) (before_on link chan.D before)) key)

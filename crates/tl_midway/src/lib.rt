@@ -4,7 +4,7 @@
 
 pub mod rows;
 
-ghost use Rattle.tl_midway.specs.Laws.{LawfulPastsLeaveAtMost, KnownSnapshotsAllow, PrintedRowsAreCertain, AnyPastHasPrintedRows, PastsOfWholeMessagesHavePrintedRows, PrintedRowsAreOfThePlainReport, ToldRowsAreCertain, PrintedRulesRise};
+ghost use Rattle.tl_midway.specs.Laws.{LawfulPastsLeaveAtMost, KnownSnapshotsAllow, PrintedRowsAreCertain, AnyPastHasPrintedRows, PastsOfWholeMessagesHavePrintedRows, PrintedRowsAreOfThePlainReport, ToldRowsAreCertain, PrintedRulesRise, KnownKeysAreOfTheCapture};
 
 /// A past without a row of its own leaves at most the largest message of a link unfinished, but for its first beat.
 #[tactic(auto, using(crate::proofs::Lengths::lawful_pasts_leave_at_most))]
@@ -51,4 +51,9 @@ pub fn told_rows_are_certain()
 #[tactic(auto, using(crate::proofs::Rising::printed_rules_rise))]
 pub fn printed_rules_rise()
     ensures { PrintedRulesRise }
+{}
+
+/// A key that is known to be open was opened by a beat of the capture.
+pub fn known_keys_are_of_the_capture()
+    ensures { KnownKeysAreOfTheCapture }
 {}

@@ -10,10 +10,13 @@ use std::sync::Arc;
 use std::thread::{Threads, map_chunks};
 use std::{fs, io};
 use tl_advice::Role;
-use tl_beats::{Fragment, read_fragment};
+use tl_beats::{Fragment, FragmentFault, parse_whole_fragment, read_fragment};
 use tl_script::read_script;
 use tl_text::{CountedReader, TextFault, read_text};
 use tl_topology::{Topo, TopoFault, read_topo};
+
+/// How many bytes of fragments are read before they are parsed, where several threads do that.
+const MOST_HELD: usize = 16_777_216;
 
 /// The topology that a file's whole text is; bytes after its last line are BadLine of the next. FILE where it can't be opened or read.
 pub fn topology_of<R: Files + AllocGlobal>(rt: &R, path: &str) -> Result<Topo, Fault> {
@@ -64,23 +67,94 @@ fn fragments_in<R: Files + AllocGlobal>(
     Ok(fragments)
 }
 
-/// The same by so many threads beside this one, each with its share of the files. The fault is that of the first file that has one.
+/// The texts of some files, up to one that can't be read, and why it can't.
+#[derive(Drop)]
+struct Round {
+    texts: Vec<Vec<u8>>,
+    fault: Option<Fault>,
+}
+
+/// The text of a fragment's file.
+fn fragment_text<R: Files + AllocGlobal>(rt: &R, path: &str) -> Result<Vec<u8>, Fault> {
+    let Ok(file) = fs::open(rt, path) else {
+        return Err(Fault::FILE);
+    };
+    let most = Role::Fragment.most();
+    match read_text(rt.alloc(), &mut CountedReader::new(file), most) {
+        Ok(text) => Ok(text),
+        Err(fault) => Err(FragmentFault::from(fault).into()),
+    }
+}
+
+/// The texts of the first of these files, of one at least, until they have as many bytes as are read before any is parsed.
+fn next_round<R: Files + AllocGlobal>(rt: &R, files: &[String]) -> Result<Round, Fault> {
+    let mut texts: Vec<Vec<u8>> = Vec::new(rt.alloc());
+    let mut held: usize = 0;
+    for path in files {
+        if held >= MOST_HELD {
+            break;
+        }
+        match fragment_text(rt, path.as_str()) {
+            Ok(text) => {
+                held = held.saturating_add(text.len());
+                texts.push(text)?;
+            }
+            Err(fault) => {
+                return Ok(Round {
+                    texts,
+                    fault: Some(fault),
+                });
+            }
+        }
+    }
+    Ok(Round { texts, fault: None })
+}
+
+/// The fragments that texts are. The fault is that of the first that is none.
+fn parsed(alloc: Global, texts: &[Vec<u8>]) -> Result<Vec<Arc<Fragment>>, Fault> {
+    let mut fragments = Vec::new(alloc);
+    for text in texts {
+        let fragment = parse_whole_fragment(alloc, text)?;
+        fragments.push(Arc::new(alloc, fragment)?)?;
+    }
+    Ok(fragments)
+}
+
+/// The same by so many threads beside this one, each with an equal share of the texts.
+fn parsed_beside<R: Threads + Sync>(
+    rt: &R,
+    alloc: Global,
+    texts: &[Vec<u8>],
+    workers: u8,
+) -> Result<Vec<Arc<Fragment>>, Fault> {
+    let share = texts.len().div_ceil(usize::from(workers) + 1).max(1);
+    let parts = map_chunks(rt, alloc, texts, share, &|_, part| parsed(alloc, part))?;
+    let mut all = Vec::new(alloc);
+    for part in parts {
+        all.append(&mut part?)?;
+    }
+    Ok(all)
+}
+
+/// The fragments of files, parsed by so many threads beside this one, which reads them. The fault is that of the first file that has
+/// one.
 fn fragments_beside<R: Files + Threads + Sync + AllocGlobal>(
     rt: &R,
     files: &[String],
     workers: u8,
 ) -> Result<Vec<Arc<Fragment>>, Fault> {
-    let share = files.len().div_ceil(usize::from(workers) + 1).max(1);
-    let parts = map_chunks(
-        rt,
-        rt.alloc(),
-        files,
-        share,
-        &|_, part| { fragments_in(rt, part) },
-    )?;
     let mut all = Vec::new(rt.alloc());
-    for part in parts {
-        all.append(&mut part?)?;
+    let mut rest = files;
+    for _ in 0..files.len() {
+        let round = next_round(rt, rest)?;
+        rest = rest.get(round.texts.len()..).unwrap_or(&[]);
+        all.append(&mut parsed_beside(rt, rt.alloc(), &round.texts, workers)?)?;
+        if let Some(fault) = round.fault {
+            return Err(fault);
+        }
+        if rest.is_empty() {
+            break;
+        }
     }
     Ok(all)
 }

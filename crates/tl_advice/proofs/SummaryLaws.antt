@@ -4,7 +4,7 @@ use Rattle.std.specs.Prelude.{IfOk, String, string_bytes}
 use Rattle.tl_topology.specs.Topology.{Topology}
 use Rattle.tl_beats.specs.declared.Row.{Row}
 use Rattle.tl_definitions.specs.Positions.{Recorded}
-use Rattle.tl_formats.specs.Waivers.{all_rules}
+use Rattle.tl_tables.specs.Rules.{all_rules}
 use Rattle.tl_check.specs.Output.{ReportData}
 use Rattle.tl_rows.specs.Words.{joined}
 use Rattle.tl_advice.specs.declared.tallies.Tally.{Tally}

@@ -6,7 +6,7 @@ use Rattle.tl_tables.specs.Rules.{rule_text_of}
 use Rattle.tl_topology.specs.Topology.{Topology}
 use Rattle.tl_beats.specs.declared.Row.{Row}
 use Rattle.tl_definitions.specs.Positions.{Recorded}
-use Rattle.tl_formats.specs.Waivers.{all_rules}
+use Rattle.tl_tables.specs.Rules.{all_rules}
 use Rattle.tl_rows.specs.declared.counts.OpenCounts.{OpenCounts}
 use Rattle.tl_edits.specs.Edits.{AnEdit}
 use Rattle.tl_edits.specs.Log.{inputs_after}

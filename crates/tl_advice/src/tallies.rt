@@ -2,13 +2,12 @@
 
 ghost use Rattle.std.specs.Prelude.{◌≡◌, ◌++◌, count_by, IfOk, OnOk};
 ghost use Rattle.std.specs.Option.{option_to_list};
-ghost use Rattle.tl_formats.specs.Waivers.{all_rules};
+ghost use Rattle.tl_tables.specs.Rules.{all_rules};
 ghost use Rattle.tl_advice.specs.Tallies.{is_of, is_earlier, first_with, IsFirst, AreLinked, IsTallied, AreTallied};
 
 use std::alloc::{AllocError, Global};
 use tl_beats::Row;
-use tl_formats::RULES;
-use tl_tables::{Rule, rule_number};
+use tl_tables::{RULES, Rule, rule_number};
 use tl_topology::{Name, Topo};
 
 /// The rows of a rule.

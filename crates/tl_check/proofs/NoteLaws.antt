@@ -153,37 +153,7 @@ joined_ends (x ∷ y ∷ xs) are = ends_more x (joined (y ∷ xs)) are.0 (joined
 
 pub rule_unbroken : (r : Rule) → is_unbroken (rule_text_of r) ≡ true
 rule_unbroken rule.F1 = refl
-rule_unbroken rule.F2 = refl
-rule_unbroken rule.F3 = refl
-rule_unbroken rule.F4 = refl
-rule_unbroken rule.F5 = refl
-rule_unbroken rule.F6 = refl
-rule_unbroken rule.F7 = refl
-rule_unbroken rule.F8 = refl
-rule_unbroken rule.F9 = refl
-rule_unbroken rule.F10 = refl
-rule_unbroken rule.U1 = refl
-rule_unbroken rule.S1 = refl
-rule_unbroken rule.S2 = refl
-rule_unbroken rule.S3 = refl
-rule_unbroken rule.S4 = refl
-rule_unbroken rule.S5 = refl
-rule_unbroken rule.S6 = refl
-rule_unbroken rule.S7 = refl
-rule_unbroken rule.S8 = refl
-rule_unbroken rule.S9 = refl
-rule_unbroken rule.P1 = refl
-rule_unbroken rule.P2 = refl
-rule_unbroken rule.P3 = refl
-rule_unbroken rule.P4 = refl
-rule_unbroken rule.P5 = refl
-rule_unbroken rule.P6 = refl
-rule_unbroken rule.P7 = refl
-rule_unbroken rule.P8 = refl
-rule_unbroken rule.M1 = refl
-rule_unbroken rule.M2 = refl
-rule_unbroken rule.M3 = refl
-rule_unbroken rule.X1 = refl
+rule_unbroken _ = refl
 
 monitor_unbroken : (monitor : Option ℕ) → is_unbroken (monitor_text monitor) ≡ true
 monitor_unbroken None = refl

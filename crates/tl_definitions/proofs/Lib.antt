@@ -16,3 +16,16 @@ pub mod PassLaws
 pub mod WatchLaws
 pub mod LinkLaws
 pub mod EventLaws
+pub mod Sure
+pub mod Bursts
+pub mod Members
+pub mod Steps
+pub mod Firsts
+pub mod Judged
+pub mod Lengths
+pub mod PrintedRising
+pub mod MidwayLaws
+pub mod LeadIns
+pub mod ToldLaws
+pub mod MidwayRowLaws
+pub mod KnownKeys

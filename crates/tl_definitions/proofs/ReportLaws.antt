@@ -20,7 +20,7 @@ use Rattle.tl_beats.specs.declared.Row.{Row}
 use Rattle.tl_definitions.specs.Positions.{position_order}
 use Rattle.tl_definitions.specs.Rules.{Manager}
 use Rattle.tl_definitions.specs.Breaks.{rules_at, row_of, Breaks, rows_after, rows_in}
-use Rattle.tl_tables.specs.Rules.{rule_number}
+use Rattle.tl_tables.specs.Rules.{all_rules, rule_number}
 use Rattle.tl_definitions.specs.Report.{key_order, row_order, Capture, of_manager, of_monitor, captured, Finds, FindsIn, rows_of, all_rows, insert_row, sorted_rows, report_of, HasOnePlace, IsReport, RowsAreBreaks, OneReport, SortedRowsAreTheReport, ReportsAreComputed}
 use Rattle.tl_definitions.proofs.OrderLaws.{tie_first, tie_rest, both_tie, tied, one_chan}
 use Rattle.tl_definitions.proofs.RisingLaws.{row_with}
@@ -222,45 +222,15 @@ sorted_rows_are_the_report captures rows place rises same =
 
 -- Rows that tie are one row.
 -- The rules by their numbers; the first stands in for number 0.
-abbrev all_rules : List Rule
-all_rules = rule.F1 ∷ rule.F1 ∷ rule.F2 ∷ rule.F3 ∷ rule.F4 ∷ rule.F5 ∷ rule.F6 ∷ rule.F7 ∷ rule.F8 ∷ rule.F9 ∷ rule.F10 ∷ rule.U1 ∷ rule.S1 ∷ rule.S2 ∷ rule.S3 ∷ rule.S4 ∷ rule.S5 ∷ rule.S6 ∷ rule.S7 ∷ rule.S8 ∷ rule.S9 ∷ rule.P1 ∷ rule.P2 ∷ rule.P3 ∷ rule.P4 ∷ rule.P5 ∷ rule.P6 ∷ rule.P7 ∷ rule.P8 ∷ rule.M1 ∷ rule.M2 ∷ rule.M3 ∷ rule.X1 ∷ []
+abbrev numbered : List Rule
+numbered = rule.F1 ∷ all_rules
 
-rule_at : (r : Rule) → slice_get all_rules (rule_number r) ≡ Some r
+rule_at : (r : Rule) → slice_get numbered (rule_number r) ≡ Some r
 rule_at rule.F1 = refl
-rule_at rule.F2 = refl
-rule_at rule.F3 = refl
-rule_at rule.F4 = refl
-rule_at rule.F5 = refl
-rule_at rule.F6 = refl
-rule_at rule.F7 = refl
-rule_at rule.F8 = refl
-rule_at rule.F9 = refl
-rule_at rule.F10 = refl
-rule_at rule.U1 = refl
-rule_at rule.S1 = refl
-rule_at rule.S2 = refl
-rule_at rule.S3 = refl
-rule_at rule.S4 = refl
-rule_at rule.S5 = refl
-rule_at rule.S6 = refl
-rule_at rule.S7 = refl
-rule_at rule.S8 = refl
-rule_at rule.S9 = refl
-rule_at rule.P1 = refl
-rule_at rule.P2 = refl
-rule_at rule.P3 = refl
-rule_at rule.P4 = refl
-rule_at rule.P5 = refl
-rule_at rule.P6 = refl
-rule_at rule.P7 = refl
-rule_at rule.P8 = refl
-rule_at rule.M1 = refl
-rule_at rule.M2 = refl
-rule_at rule.M3 = refl
-rule_at rule.X1 = refl
+rule_at _ = refl
 
-one_rule : (x y : Rule) → rule_number x ≡ rule_number y → x ≡ y
-one_rule x y e = let same : Some x ≡ Some y = sym (rule_at x) ∙ ap (slice_get all_rules) e ∙ rule_at y in cc
+pub one_rule : (x y : Rule) → rule_number x ≡ rule_number y → x ≡ y
+one_rule x y e = let same : Some x ≡ Some y = sym (rule_at x) ∙ ap (slice_get numbered) e ∙ rule_at y in cc
 
 one_monitor : (x y : Option ℕ) → option_cmp nat_cmp x y ≡ Equal → x ≡ y
 one_monitor None None h = refl

@@ -15,7 +15,6 @@ use Rattle.tl_tables.specs.Messages.{chan_number}
 use Rattle.tl_beats.specs.declared.Placed.{Placed}
 use Rattle.tl_beats.specs.declared.Row.{Row}
 use Rattle.tl_definitions.specs.Positions.{position_order}
-use Rattle.tl_definitions.specs.Rules.{format_order}
 use Rattle.tl_definitions.specs.Breaks.{row_of}
 use Rattle.tl_definitions.specs.Report.{by_number, key_order, captured, RisingBeatsHaveOnePlace}
 use Rattle.tl_definitions.proofs.Lists.{contains_none, contains_here, contains_there, contains_cases, contains_kept, kept_from, mapped_from, all_of, all_by}
@@ -102,7 +101,3 @@ rows_rise p (r ∷ rules) s = (
       subst (λ z. key_order (row_of p r) z ≡ Less) found.2 (rows_of_one p r found.0 (all_of (λ x. by_number r x ≡ Less) rules s.0 found.0 found.1))),
   rows_rise p rules s.1,
 )
-
-pub format_order_rises : IsStrictlySortedBy by_number format_order
-unfolding IsStrictlySortedBy
-format_order_rises = ((refl, (refl, (refl, (refl, (refl, (refl, (refl, (refl, tt)))))))), ((refl, (refl, (refl, (refl, (refl, (refl, (refl, tt))))))), ((refl, (refl, (refl, (refl, (refl, (refl, tt)))))), ((refl, (refl, (refl, (refl, (refl, tt))))), ((refl, (refl, (refl, (refl, tt)))), ((refl, (refl, (refl, tt))), ((refl, (refl, tt)), ((refl, tt), (tt, tt)))))))))

@@ -19,3 +19,9 @@ pub mod WatchedRows
 pub mod Captures
 pub mod LinkPasses
 pub mod Events
+pub mod Readings
+pub mod Known
+pub mod Printed
+pub mod Lawful
+pub mod MidwayLaws
+pub mod MidwayRows

@@ -6,6 +6,8 @@ pub mod coherence;
 pub mod judging;
 pub mod laws;
 pub mod links;
+pub mod midway;
+pub mod midway_rows;
 pub mod positions;
 pub mod report;
 pub mod rows;

@@ -6,8 +6,7 @@ use Rattle.tl_text.specs.Words.{◌>>=◌, word_at}
 use Rattle.tl_text.specs.Numbers.{number_at}
 use Rattle.tl_text.specs.Readings.{◌>>>◌, or_fault}
 use Rattle.tl_tables.specs.declared.Rule.{Rule}
-use Rattle.tl_tables.specs.declared.Rule.TheVariants as rule
-use Rattle.tl_tables.specs.Rules.{rule_text_of}
+use Rattle.tl_tables.specs.Rules.{rule_text_of, all_rules}
 use Rattle.tl_topology.specs.Naming.{name_at}
 use Rattle.tl_topology.specs.Topology.{Topology, number_of_name}
 use Rattle.tl_formats.specs.declared.pick.Cycles.{Cycles}
@@ -20,10 +19,6 @@ is_memory fault.Memory = true
 is_memory _ = false
 
 -- ---- words
-
-abbrev pub all_rules : List Rule
-all_rules = rule.F1 ∷ rule.F2 ∷ rule.F3 ∷ rule.F4 ∷ rule.F5 ∷ rule.F6 ∷ rule.F7 ∷ rule.F8 ∷ rule.F9 ∷ rule.F10 ∷ rule.U1 ∷ rule.S1 ∷ rule.S2 ∷ rule.S3 ∷ rule.S4 ∷ rule.S5 ∷ rule.S6 ∷ rule.S7 ∷ rule.S8 ∷ rule.S9
-    ∷ rule.P1 ∷ rule.P2 ∷ rule.P3 ∷ rule.P4 ∷ rule.P5 ∷ rule.P6 ∷ rule.P7 ∷ rule.P8 ∷ rule.M1 ∷ rule.M2 ∷ rule.M3 ∷ rule.X1 ∷ []
 
 -- a report calls the rule so, in any case of letters
 abbrev pub is_called : List ℕ → Rule → Bool

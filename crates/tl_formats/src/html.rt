@@ -4,7 +4,6 @@ ghost use Rattle.std.specs.Prelude.{◌<◌, length};
 ghost use Rattle.std.specs.List.{All};
 ghost use Rattle.tl_show.specs.Lines.{IsSoundTold};
 
-use crate::RULES;
 use crate::json::{place_of, reason_of};
 use crate::output::Title;
 use crate::page::BEFORE_DATA;
@@ -12,9 +11,9 @@ use crate::page_script::AFTER_DATA;
 use std::alloc::{AllocError, Global};
 use tl_beats::{Placed, Row};
 use tl_capture::Present;
-use tl_rows::{OpenCounts, Reason, Told, rule_line};
+use tl_rows::{OpenCounts, Reason, Told};
 use tl_show::{Counts, shown_row, survey_beats};
-use tl_tables::{Level, Rule, rule_text};
+use tl_tables::{Level, RULES, Rule, rule_line, rule_text};
 use tl_topology::Topo;
 
 /// How many rows have their lines at most. Each is looked for among the rows that are told.

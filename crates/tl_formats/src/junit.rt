@@ -4,36 +4,25 @@ ghost use Rattle.std.specs.Prelude.{◌<◌, length};
 ghost use Rattle.std.specs.List.{All};
 ghost use Rattle.tl_show.specs.Lines.{IsSoundTold};
 
-use crate::{Pick, RULES};
+use crate::Pick;
 use std::alloc::{AllocError, Global};
 use tl_beats::Row;
 use tl_capture::Present;
-use tl_rows::{Told, rule_line};
+use tl_rows::Told;
 use tl_show::{shown_row, survey_beats};
-use tl_tables::{Level, Rule, rule_number, rule_text};
+use tl_tables::{Level, RULES, Rule, rule_level, rule_line, rule_number, rule_text};
 use tl_topology::Topo;
 
 /// How many rows have their lines at most, as with `--show`.
 const MOST_TOLD: usize = 1_000;
 
-/// Whether a link of the level can break the rule whatever a script does. Regions (F10) and monitors (X1) are a script's.
+/// Whether a link of the level can break the rule whatever a script does.
 fn is_of_level(rule: Rule, level: Level) -> bool {
-    match rule {
-        Rule::F10 | Rule::X1 => false,
-        Rule::U1 => level != Level::Ul,
-        Rule::F1
-        | Rule::F2
-        | Rule::F3
-        | Rule::F4
-        | Rule::F5
-        | Rule::F6
-        | Rule::F7
-        | Rule::F9
-        | Rule::S1
-        | Rule::S2
-        | Rule::S3
-        | Rule::S4 => true,
-        _ => level == Level::C,
+    match rule_level(rule) {
+        None => false,
+        Some(Level::Ul) => true,
+        Some(Level::Uh) => level != Level::Ul,
+        Some(Level::C) => level == Level::C,
     }
 }
 

@@ -20,6 +20,6 @@ pub use json::json_text;
 pub use junit::junit_text;
 pub use output::{Printed, Title, print_rows};
 pub use pick::{Cycles, Pick, Waiver};
-pub use rule_names::{RULES, rule_named};
+pub use rule_names::rule_named;
 pub use waiver_fault::WaiverFault;
 pub use waivers::read_waivers;

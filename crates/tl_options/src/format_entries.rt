@@ -1,4 +1,4 @@
-//! The entries of the format rules and of U1.
+//! The entries of the format rules and of the rule of later beats.
 
 pub(crate) const F1: &str = "\
 F1: the opcode is no message here

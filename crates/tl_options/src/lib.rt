@@ -7,6 +7,7 @@ mod flow_entries;
 mod format_entries;
 mod permission_entries;
 mod refusal_entries;
+mod rule_entries;
 mod usage;
 mod view;
 mod words;

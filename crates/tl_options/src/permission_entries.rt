@@ -1,4 +1,4 @@
-//! The entries of the permission and manager rules, and of X1.
+//! The entries of the permission rules, the manager rules and that of monitors.
 
 pub(crate) const P1: &str = "\
 P1: an Acquire grows from more than is held

@@ -119,17 +119,6 @@ module _ (m : Manager) (before : ℕ → List Origin) (p : Placed) (o : Op) (car
       (r.0, r.1, names_first why.Grant sinks (grants m.exponent block) (before r.0) r.2 r.3)
 
   pub head_meaning : (r : Rule) → is_broken r ≡ true → HeadMeaning m before p head r (reason r)
-  head_meaning rule.F1 h = refl
-  head_meaning rule.F2 h = refl
-  head_meaning rule.F3 h = refl
-  head_meaning rule.F4 h = refl
-  head_meaning rule.F5 h = refl
-  head_meaning rule.F6 h = refl
-  head_meaning rule.F7 h = refl
-  head_meaning rule.F8 h = refl
-  head_meaning rule.F9 h = refl
-  head_meaning rule.F10 h = refl
-  head_meaning rule.U1 h = refl
   head_meaning rule.S1 h = names_open why.Request sources p.beat.source own (sym (kept_open as_request sources p.beat.source own) ∙ (and_parts _ _ (or_nones _ h)).1)
   head_meaning rule.S2 h = names_none why.Request sources p.beat.source own (nothing_open as_request sources p.beat.source own (sym (ap is_none (reply_request (map message own) o p.beat (and_parts _ _ (or_nones _ h)).0)) ∙ (and_parts _ _ (or_nones _ h)).1))
   head_meaning rule.S3 h = names_open why.Request sources p.beat.source own (request_open (λ request. not (replies_to request.op o)) (and_parts _ _ (or_nones _ h)).0 (and_parts _ _ (or_nones _ h)).1)
@@ -150,4 +139,4 @@ module _ (m : Manager) (before : ℕ → List Origin) (p : Placed) (o : Op) (car
   head_meaning rule.M1 h = subst (λ message. NamesRival m before p.link head (named why.Rival (option_and_then (rival m.clients m.exponent trails p.link) (claim m.exponent message)))) (sym (same_message m.exponent own p o)) (rival_meaning (claim m.exponent head) refl (and_parts _ _ h).1)
   head_meaning rule.M2 h = subst (λ message. NamesAnyProbe m before head (named why.Probe (option_and_then (λ b. first_some (λ client. (trails client).probe b) m.clients) (granted_block m.exponent message)))) (sym (same_message m.exponent own p o)) (probe_meaning (granted_block m.exponent head) refl (and_parts _ _ h).1)
   head_meaning rule.M3 h = grant_meaning (and_parts _ _ h).1
-  head_meaning rule.X1 h = refl
+  head_meaning _ h = refl

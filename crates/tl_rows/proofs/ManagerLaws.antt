@@ -165,35 +165,7 @@ head_law m before p broken found head is =
 -- A rule that is no manager rule is one of the head's own link.
 pub own_rule : (clients : List ℕ) (exponent : ℕ) (trails : ℕ → Trail) (p : Placed) (o : Op) (broken : Rule) → (broken ≡ rule.M1 → ⊥) → (broken ≡ rule.M2 → ⊥) → (broken ≡ rule.M3 → ⊥)
     → link_reason exponent (trails p.link) p.beat broken ≡ head_reason clients exponent trails p o broken
-own_rule clients exponent trails p o rule.F1 one two three = refl
-own_rule clients exponent trails p o rule.F2 one two three = refl
-own_rule clients exponent trails p o rule.F3 one two three = refl
-own_rule clients exponent trails p o rule.F4 one two three = refl
-own_rule clients exponent trails p o rule.F5 one two three = refl
-own_rule clients exponent trails p o rule.F6 one two three = refl
-own_rule clients exponent trails p o rule.F7 one two three = refl
-own_rule clients exponent trails p o rule.F8 one two three = refl
-own_rule clients exponent trails p o rule.F9 one two three = refl
-own_rule clients exponent trails p o rule.F10 one two three = refl
-own_rule clients exponent trails p o rule.U1 one two three = refl
-own_rule clients exponent trails p o rule.S1 one two three = refl
-own_rule clients exponent trails p o rule.S2 one two three = refl
-own_rule clients exponent trails p o rule.S3 one two three = refl
-own_rule clients exponent trails p o rule.S4 one two three = refl
-own_rule clients exponent trails p o rule.S5 one two three = refl
-own_rule clients exponent trails p o rule.S6 one two three = refl
-own_rule clients exponent trails p o rule.S7 one two three = refl
-own_rule clients exponent trails p o rule.S8 one two three = refl
-own_rule clients exponent trails p o rule.S9 one two three = refl
-own_rule clients exponent trails p o rule.P1 one two three = refl
-own_rule clients exponent trails p o rule.P2 one two three = refl
-own_rule clients exponent trails p o rule.P3 one two three = refl
-own_rule clients exponent trails p o rule.P4 one two three = refl
-own_rule clients exponent trails p o rule.P5 one two three = refl
-own_rule clients exponent trails p o rule.P6 one two three = refl
-own_rule clients exponent trails p o rule.P7 one two three = refl
-own_rule clients exponent trails p o rule.P8 one two three = refl
 own_rule clients exponent trails p o rule.M1 one two three = absurd (one refl)
 own_rule clients exponent trails p o rule.M2 one two three = absurd (two refl)
 own_rule clients exponent trails p o rule.M3 one two three = absurd (three refl)
-own_rule clients exponent trails p o rule.X1 one two three = refl
+own_rule clients exponent trails p o _ one two three = refl

@@ -6,8 +6,6 @@ use Rattle.tl_tables.specs.declared.Chan.{Chan}
 use Rattle.tl_tables.specs.declared.Chan.TheVariants as chan
 use Rattle.tl_tables.specs.declared.Op.{Op}
 use Rattle.tl_tables.specs.declared.Op.TheVariants as op
-use Rattle.tl_tables.specs.declared.Rule.{Rule}
-use Rattle.tl_tables.specs.declared.Rule.TheVariants as rule
 use Rattle.tl_beats.specs.declared.Beat.{Beat}
 
 -- The name of a channel.
@@ -124,38 +122,3 @@ bits_text_of false false = []
 -- All of it.
 unfoldable pub beat_text_of : Option Op → Beat → List ℕ
 beat_text_of found beat = joined (message_text_of found beat ∷ fields_text_of beat.chan beat ∷ bits_text_of beat.denied beat.corrupt ∷ [])
-
--- A rule in one line: what is so where it is broken, as docs/RULES.md is headed.
-abbrev pub rule_line_of : Rule → List ℕ
-rule_line_of rule.F1 = codes "the opcode is no message here"
-rule_line_of rule.F2 = codes "the param is not lawful"
-rule_line_of rule.F3 = codes "the address is not aligned"
-rule_line_of rule.F4 = codes "the size is above the link's largest"
-rule_line_of rule.F5 = codes "the mask is not that of the active lanes"
-rule_line_of rule.F6 = codes "corrupt on a message without data"
-rule_line_of rule.F7 = codes "denied data that is not corrupt"
-rule_line_of rule.F8 = codes "the size is not the block"
-rule_line_of rule.F9 = codes "the source is not one of the link's"
-rule_line_of rule.F10 = codes "no region permits the access"
-rule_line_of rule.U1 = codes "a later beat differs from its head"
-rule_line_of rule.S1 = codes "the source is in flight"
-rule_line_of rule.S2 = codes "a reply without a request"
-rule_line_of rule.S3 = codes "a reply of another kind"
-rule_line_of rule.S4 = codes "a reply of another size"
-rule_line_of rule.S5 = codes "a ReleaseAck without a Release"
-rule_line_of rule.S6 = codes "the source of a Release is in flight"
-rule_line_of rule.S7 = codes "a ReleaseAck of another size"
-rule_line_of rule.S8 = codes "the sink is in use"
-rule_line_of rule.S9 = codes "a GrantAck without a Grant"
-rule_line_of rule.P1 = codes "an Acquire grows from more than is held"
-rule_line_of rule.P2 = codes "a ProbeAck or Release of more than is held"
-rule_line_of rule.P3 = codes "a ProbeAck without a Probe"
-rule_line_of rule.P4 = codes "a ProbeAck keeps more than the cap"
-rule_line_of rule.P5 = codes "a second Probe of a block"
-rule_line_of rule.P6 = codes "a second Acquire of a block"
-rule_line_of rule.P7 = codes "a Release of a block that is being acquired"
-rule_line_of rule.P8 = codes "a Release of the block is open"
-rule_line_of rule.M1 = codes "a Grant beside another holder"
-rule_line_of rule.M2 = codes "a Grant while a Probe is open"
-rule_line_of rule.M3 = codes "a Probe while a Grant is open"
-rule_line_of rule.X1 = codes "a monitor flags the beat"

@@ -10,7 +10,6 @@ mod names;
 mod openers;
 mod origin;
 mod reason;
-mod rule_lines;
 mod telling;
 
 pub use beat_words::{beat_text, bytes_text};
@@ -19,5 +18,4 @@ pub use manager::ManagerOrigins;
 pub use names::{chan_text, op_text, param_text};
 pub use origin::Origin;
 pub use reason::Reason;
-pub use rule_lines::rule_line;
 pub use telling::{Telling, Told, tell};

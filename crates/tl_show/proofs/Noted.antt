@@ -27,11 +27,11 @@ use Rattle.tl_rows.specs.declared.reason.Reason.{Reason}
 use Rattle.tl_rows.specs.declared.reason.Reason.TheVariants as why
 use Rattle.tl_rows.specs.declared.telling.Told.{Told}
 use Rattle.tl_tables.specs.Messages.{same_chan}
-use Rattle.tl_tables.specs.Rules.{rule_text_of}
+use Rattle.tl_tables.specs.Rules.{rule_text_of, rule_line_of}
 use Rattle.tl_check.specs.Output.{row_text}
 use Rattle.tl_check.specs.Notes.{is_unbroken, IsNoted}
 use Rattle.tl_check.proofs.NoteLaws.{unbroken_more, digits_unbroken, decimal_unbroken, name_unbroken, rule_unbroken, row_is_plain, Ends, ends_here, ends_more, noted_nil, noted_more, note_line}
-use Rattle.tl_rows.specs.Words.{joined, chan_text_of, op_text_of, param_texts, param_text_of, op_text_with, named_text_of, plain_text_of, numbered_text_of, coded_text_of, message_text_of, bytes_text_of, access_text_of, release_text_of, reply_text_of, ack_text_of, fields_text_of, bits_text_of, beat_text_of, rule_line_of}
+use Rattle.tl_rows.specs.Words.{joined, chan_text_of, op_text_of, param_texts, param_text_of, op_text_with, named_text_of, plain_text_of, numbered_text_of, coded_text_of, message_text_of, bytes_text_of, access_text_of, release_text_of, reply_text_of, ack_text_of, fields_text_of, bits_text_of, beat_text_of}
 use Rattle.tl_show.specs.Lines.{link_at, words_of, beat_line_of, rule_row_of, place_text_of, named_line_of, missing_of, missing_line_of, reason_line_of, most_line_of, block_line_of, within_line_of, mask_line_of, source_line_of, head_of, is_partial, lanes_line_of, own_field_of, field_of, differs_line_of, block_at, expected_line_of, told_lines_of, bare_lines_of, IsStanding, IsNaming, IsSoundTold}
 use Rattle.tl_show.specs.Shown.{is_row, lines_for, shown_row, rest_line_of, checked_text_of, asked_text_of, given_text_of, counts_line_of, shown_count, shown_rows, shown_bytes}
 use Rattle.tl_show.specs.declared.survey.Counts.{Counts}
@@ -230,37 +230,7 @@ module _ (topo : Topology) (names : AreNamed topo) where
 
 meaning_free : (r : Rule) → is_unbroken (rule_line_of r) ≡ true
 meaning_free rule.F1 = refl
-meaning_free rule.F2 = refl
-meaning_free rule.F3 = refl
-meaning_free rule.F4 = refl
-meaning_free rule.F5 = refl
-meaning_free rule.F6 = refl
-meaning_free rule.F7 = refl
-meaning_free rule.F8 = refl
-meaning_free rule.F9 = refl
-meaning_free rule.F10 = refl
-meaning_free rule.U1 = refl
-meaning_free rule.S1 = refl
-meaning_free rule.S2 = refl
-meaning_free rule.S3 = refl
-meaning_free rule.S4 = refl
-meaning_free rule.S5 = refl
-meaning_free rule.S6 = refl
-meaning_free rule.S7 = refl
-meaning_free rule.S8 = refl
-meaning_free rule.S9 = refl
-meaning_free rule.P1 = refl
-meaning_free rule.P2 = refl
-meaning_free rule.P3 = refl
-meaning_free rule.P4 = refl
-meaning_free rule.P5 = refl
-meaning_free rule.P6 = refl
-meaning_free rule.P7 = refl
-meaning_free rule.P8 = refl
-meaning_free rule.M1 = refl
-meaning_free rule.M2 = refl
-meaning_free rule.M3 = refl
-meaning_free rule.X1 = refl
+meaning_free _ = refl
 
 rule_noted : (r : Rule) → IsNoted [] (rule_row_of r)
 unfolding rule_row_of
@@ -270,37 +240,7 @@ rule_noted r =
 
 missing_free : (r : Rule) → is_unbroken (missing_of r) ≡ true
 missing_free rule.F1 = refl
-missing_free rule.F2 = refl
-missing_free rule.F3 = refl
-missing_free rule.F4 = refl
-missing_free rule.F5 = refl
-missing_free rule.F6 = refl
-missing_free rule.F7 = refl
-missing_free rule.F8 = refl
-missing_free rule.F9 = refl
-missing_free rule.F10 = refl
-missing_free rule.U1 = refl
-missing_free rule.S1 = refl
-missing_free rule.S2 = refl
-missing_free rule.S3 = refl
-missing_free rule.S4 = refl
-missing_free rule.S5 = refl
-missing_free rule.S6 = refl
-missing_free rule.S7 = refl
-missing_free rule.S8 = refl
-missing_free rule.S9 = refl
-missing_free rule.P1 = refl
-missing_free rule.P2 = refl
-missing_free rule.P3 = refl
-missing_free rule.P4 = refl
-missing_free rule.P5 = refl
-missing_free rule.P6 = refl
-missing_free rule.P7 = refl
-missing_free rule.P8 = refl
-missing_free rule.M1 = refl
-missing_free rule.M2 = refl
-missing_free rule.M3 = refl
-missing_free rule.X1 = refl
+missing_free _ = refl
 
 missing_noted : (r : Rule) → IsNoted [] (missing_line_of r)
 unfolding missing_line_of
@@ -375,38 +315,12 @@ unfolding differs_line_of
 differs_noted head beat = three_noted (codes "differs from its head in: ") (field_of head beat) (10 ∷ []) refl (field_free head beat) ends_here
 
 expected_noted : (topo : Topology) (link : LinkDecl) (r : Rule) (p : Placed) (reason : Reason) → IsNoted [] (expected_line_of topo link r p reason)
-expected_noted topo link rule.F1 p reason = noted_nil
-expected_noted topo link rule.F2 p reason = noted_nil
-expected_noted topo link rule.F3 p reason = noted_nil
 expected_noted topo link rule.F4 p reason = most_noted link.max_size
 expected_noted topo link rule.F5 p reason = lanes_noted link (head_of p reason)
-expected_noted topo link rule.F6 p reason = noted_nil
-expected_noted topo link rule.F7 p reason = noted_nil
 expected_noted topo link rule.F8 p reason = pick_noted _ _ _ (block_noted (block_at topo link)) noted_nil
 expected_noted topo link rule.F9 p reason = source_noted link.sources
-expected_noted topo link rule.F10 p reason = noted_nil
 expected_noted topo link rule.U1 p reason = differs_noted (head_of p reason) p.beat
-expected_noted topo link rule.S1 p reason = noted_nil
-expected_noted topo link rule.S2 p reason = noted_nil
-expected_noted topo link rule.S3 p reason = noted_nil
-expected_noted topo link rule.S4 p reason = noted_nil
-expected_noted topo link rule.S5 p reason = noted_nil
-expected_noted topo link rule.S6 p reason = noted_nil
-expected_noted topo link rule.S7 p reason = noted_nil
-expected_noted topo link rule.S8 p reason = noted_nil
-expected_noted topo link rule.S9 p reason = noted_nil
-expected_noted topo link rule.P1 p reason = noted_nil
-expected_noted topo link rule.P2 p reason = noted_nil
-expected_noted topo link rule.P3 p reason = noted_nil
-expected_noted topo link rule.P4 p reason = noted_nil
-expected_noted topo link rule.P5 p reason = noted_nil
-expected_noted topo link rule.P6 p reason = noted_nil
-expected_noted topo link rule.P7 p reason = noted_nil
-expected_noted topo link rule.P8 p reason = noted_nil
-expected_noted topo link rule.M1 p reason = noted_nil
-expected_noted topo link rule.M2 p reason = noted_nil
-expected_noted topo link rule.M3 p reason = noted_nil
-expected_noted topo link rule.X1 p reason = noted_nil
+expected_noted topo link _ p reason = noted_nil
 
 -- ---- rows with their lines
 

@@ -9,7 +9,7 @@ use Rattle.tl_tables.specs.declared.Rule.{Rule}
 use Rattle.tl_tables.specs.declared.Rule.TheVariants as rule
 use Rattle.tl_tables.specs.Kinds.{is_put_partial}
 use Rattle.tl_tables.specs.Messages.{op_at, same_chan}
-use Rattle.tl_tables.specs.Rules.{rule_text_of}
+use Rattle.tl_tables.specs.Rules.{rule_text_of, rule_line_of}
 use Rattle.tl_topology.specs.Topology.{Topology}
 use Rattle.tl_topology.specs.declared.LinkDecl.{LinkDecl}
 use Rattle.tl_beats.specs.Beats.{IsWellFormed}
@@ -22,7 +22,7 @@ use Rattle.tl_definitions.specs.Rules.{active_lanes}
 use Rattle.tl_rows.specs.declared.reason.Reason.{Reason}
 use Rattle.tl_rows.specs.declared.reason.Reason.TheVariants as why
 use Rattle.tl_rows.specs.declared.telling.Told.{Told}
-use Rattle.tl_rows.specs.Words.{joined, beat_text_of, bytes_text_of, rule_line_of}
+use Rattle.tl_rows.specs.Words.{joined, beat_text_of, bytes_text_of}
 
 abbrev pub newline : List ℕ
 newline = 10 ∷ []

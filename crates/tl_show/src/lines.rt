@@ -7,8 +7,8 @@ ghost use Rattle.tl_show.specs.Lines.{words_of, beat_line_of, rule_row_of, place
 use crate::expected::expected_line;
 use std::alloc::{AllocError, Global};
 use tl_beats::Placed;
-use tl_rows::{Reason, Told, beat_text, rule_line};
-use tl_tables::{Rule, op_of, rule_text};
+use tl_rows::{Reason, Told, beat_text};
+use tl_tables::{Rule, op_of, rule_line, rule_text};
 use tl_topology::Topo;
 
 /// A beat in words.

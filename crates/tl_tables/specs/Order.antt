@@ -11,58 +11,18 @@ use Rattle.tl_tables.specs.contracts.Rule.{the_type}
 use Rattle.tl_tables.specs.declared.Chan.{Chan}
 use Rattle.tl_tables.specs.declared.Chan.TheVariants as chan
 use Rattle.tl_tables.specs.declared.Rule.{Rule}
-use Rattle.tl_tables.specs.declared.Rule.TheVariants as rule
 use Rattle.tl_tables.specs.Messages.{chan_number}
 use Rattle.tl_tables.specs.Rules.{rule_number}
-
-number_is : (r : Rule) → rule_number r ≡ tag_of the_type r + 1
-number_is rule.F1 = refl
-number_is rule.F2 = refl
-number_is rule.F3 = refl
-number_is rule.F4 = refl
-number_is rule.F5 = refl
-number_is rule.F6 = refl
-number_is rule.F7 = refl
-number_is rule.F8 = refl
-number_is rule.F9 = refl
-number_is rule.F10 = refl
-number_is rule.U1 = refl
-number_is rule.S1 = refl
-number_is rule.S2 = refl
-number_is rule.S3 = refl
-number_is rule.S4 = refl
-number_is rule.S5 = refl
-number_is rule.S6 = refl
-number_is rule.S7 = refl
-number_is rule.S8 = refl
-number_is rule.S9 = refl
-number_is rule.P1 = refl
-number_is rule.P2 = refl
-number_is rule.P3 = refl
-number_is rule.P4 = refl
-number_is rule.P5 = refl
-number_is rule.P6 = refl
-number_is rule.P7 = refl
-number_is rule.P8 = refl
-number_is rule.M1 = refl
-number_is rule.M2 = refl
-number_is rule.M3 = refl
-number_is rule.X1 = refl
 
 next_ties : (m n : ℕ) → (m == n) ≡ ((m + 1) == (n + 1))
 next_ties m n = grind (arith, nat_tests)
 
 pub rules_tie : (x y : Rule) → sameb the_type x y ≡ eq_by_cmp (on rule_number nat_cmp) x y
-rules_tie x y =
-    next_ties (tag_of the_type x) (tag_of the_type y) ∙ ap (λ t. t == (tag_of the_type y + 1)) (sym (number_is x))
-    ∙ ap (λ t. rule_number x == t) (sym (number_is y)) ∙ unsigned_ties (rule_number x) (rule_number y)
+rules_tie x y = next_ties (tag_of the_type x) (tag_of the_type y) ∙ unsigned_ties (rule_number x) (rule_number y)
 
 tag_is : (c : Chan) → tag_of chans.the_type c ≡ chan_number c
 tag_is chan.A = refl
-tag_is chan.B = refl
-tag_is chan.C = refl
-tag_is chan.D = refl
-tag_is chan.E = refl
+tag_is _ = refl
 
 pub chans_tie : (x y : Chan) → sameb chans.the_type x y ≡ eq_by_cmp (on chan_number nat_cmp) x y
 chans_tie x y = ap (λ t. t == tag_of chans.the_type y) (tag_is x) ∙ ap (λ t. chan_number x == t) (tag_is y) ∙ unsigned_ties (chan_number x) (chan_number y)

@@ -8,7 +8,7 @@ mod order;
 ghost use Rattle.std.specs.Prelude.{◌≡◌, ◌<◌};
 ghost use Rattle.tl_tables.specs.Messages.{op_at, carries_data_of, least_level, level_le, replies_to, chan_number};
 ghost use Rattle.tl_tables.specs.Params.{is_lawful, cap_of, from_of, to_of, is_above};
-ghost use Rattle.tl_tables.specs.Rules.{rule_text_of};
+ghost use Rattle.tl_tables.specs.Rules.{rule_text_of, rule_line_of};
 
 pub use kinds::{
     is_acquire, is_grant, is_grant_ack, is_of_block, is_probe, is_probe_ack, is_release,
@@ -172,6 +172,124 @@ pub enum Rule {
     M3,
     /// A monitor's watch flags the beat. [own profile]
     X1,
+}
+
+/// All rules, in the order of reports.
+pub const RULES: [Rule; 32] = [
+    Rule::F1,
+    Rule::F2,
+    Rule::F3,
+    Rule::F4,
+    Rule::F5,
+    Rule::F6,
+    Rule::F7,
+    Rule::F8,
+    Rule::F9,
+    Rule::F10,
+    Rule::U1,
+    Rule::S1,
+    Rule::S2,
+    Rule::S3,
+    Rule::S4,
+    Rule::S5,
+    Rule::S6,
+    Rule::S7,
+    Rule::S8,
+    Rule::S9,
+    Rule::P1,
+    Rule::P2,
+    Rule::P3,
+    Rule::P4,
+    Rule::P5,
+    Rule::P6,
+    Rule::P7,
+    Rule::P8,
+    Rule::M1,
+    Rule::M2,
+    Rule::M3,
+    Rule::X1,
+];
+
+/// What is said of a rule: its name; its line; and the least level of a link that can break it, None where a script must
+/// give regions or monitors first.
+fn entry(rule: Rule) -> (&'static str, &'static str, Option<Level>)
+    ensures name { result.0.now ≡ rule_text_of rule }
+    ensures line { result.1.now ≡ rule_line_of rule }
+{
+    match rule {
+        Rule::F1 => ("F1", "the opcode is no message here", Some(Level::Ul)),
+        Rule::F2 => ("F2", "the param is not lawful", Some(Level::Ul)),
+        Rule::F3 => ("F3", "the address is not aligned", Some(Level::Ul)),
+        Rule::F4 => (
+            "F4",
+            "the size is above the link's largest",
+            Some(Level::Ul),
+        ),
+        Rule::F5 => (
+            "F5",
+            "the mask is not that of the active lanes",
+            Some(Level::Ul),
+        ),
+        Rule::F6 => ("F6", "corrupt on a message without data", Some(Level::Ul)),
+        Rule::F7 => ("F7", "denied data that is not corrupt", Some(Level::Ul)),
+        Rule::F8 => ("F8", "the size is not the block", Some(Level::C)),
+        Rule::F9 => ("F9", "the source is not one of the link's", Some(Level::Ul)),
+        Rule::F10 => ("F10", "no region permits the access", None),
+        Rule::U1 => ("U1", "a later beat differs from its head", Some(Level::Uh)),
+        Rule::S1 => ("S1", "the source is in flight", Some(Level::Ul)),
+        Rule::S2 => ("S2", "a reply without a request", Some(Level::Ul)),
+        Rule::S3 => ("S3", "a reply of another kind", Some(Level::Ul)),
+        Rule::S4 => ("S4", "a reply of another size", Some(Level::Ul)),
+        Rule::S5 => ("S5", "a ReleaseAck without a Release", Some(Level::C)),
+        Rule::S6 => ("S6", "the source of a Release is in flight", Some(Level::C)),
+        Rule::S7 => ("S7", "a ReleaseAck of another size", Some(Level::C)),
+        Rule::S8 => ("S8", "the sink is in use", Some(Level::C)),
+        Rule::S9 => ("S9", "a GrantAck without a Grant", Some(Level::C)),
+        Rule::P1 => (
+            "P1",
+            "an Acquire grows from more than is held",
+            Some(Level::C),
+        ),
+        Rule::P2 => (
+            "P2",
+            "a ProbeAck or Release of more than is held",
+            Some(Level::C),
+        ),
+        Rule::P3 => ("P3", "a ProbeAck without a Probe", Some(Level::C)),
+        Rule::P4 => ("P4", "a ProbeAck keeps more than the cap", Some(Level::C)),
+        Rule::P5 => ("P5", "a second Probe of a block", Some(Level::C)),
+        Rule::P6 => ("P6", "a second Acquire of a block", Some(Level::C)),
+        Rule::P7 => (
+            "P7",
+            "a Release of a block that is being acquired",
+            Some(Level::C),
+        ),
+        Rule::P8 => ("P8", "a Release of the block is open", Some(Level::C)),
+        Rule::M1 => ("M1", "a Grant beside another holder", Some(Level::C)),
+        Rule::M2 => ("M2", "a Grant while a Probe is open", Some(Level::C)),
+        Rule::M3 => ("M3", "a Probe while a Grant is open", Some(Level::C)),
+        Rule::X1 => ("X1", "a monitor flags the beat", None),
+    }
+}
+
+/// What a report calls the rule.
+pub fn rule_text(rule: Rule) -> &'static str
+    ensures { result.now ≡ rule_text_of rule }
+{
+    entry(rule).0
+}
+
+/// A rule in one line: what is so where it is broken, as its entry in `docs/RULES.md` is headed.
+pub fn rule_line(rule: Rule) -> &'static str
+    ensures { result.now ≡ rule_line_of rule }
+{
+    entry(rule).1
+}
+
+/// The least level of a link that can break the rule whatever a script does; None for regions (F10) and monitors (X1),
+/// which a script gives.
+pub fn rule_level(rule: Rule) -> Option<Level> {
+    entry(rule).2
 }
 
 /// The lowest level that has this message on this channel.
@@ -354,44 +472,4 @@ pub fn chan_index(chan: Chan) -> usize
     ensures below { result < 5 }
 {
     chan as usize
-}
-
-/// What a report calls the rule.
-pub fn rule_text(rule: Rule) -> &'static str
-    ensures { result.now ≡ rule_text_of rule }
-{
-    match rule {
-        Rule::F1 => "F1",
-        Rule::F2 => "F2",
-        Rule::F3 => "F3",
-        Rule::F4 => "F4",
-        Rule::F5 => "F5",
-        Rule::F6 => "F6",
-        Rule::F7 => "F7",
-        Rule::F8 => "F8",
-        Rule::F9 => "F9",
-        Rule::F10 => "F10",
-        Rule::U1 => "U1",
-        Rule::S1 => "S1",
-        Rule::S2 => "S2",
-        Rule::S3 => "S3",
-        Rule::S4 => "S4",
-        Rule::S5 => "S5",
-        Rule::S6 => "S6",
-        Rule::S7 => "S7",
-        Rule::S8 => "S8",
-        Rule::S9 => "S9",
-        Rule::P1 => "P1",
-        Rule::P2 => "P2",
-        Rule::P3 => "P3",
-        Rule::P4 => "P4",
-        Rule::P5 => "P5",
-        Rule::P6 => "P6",
-        Rule::P7 => "P7",
-        Rule::P8 => "P8",
-        Rule::M1 => "M1",
-        Rule::M2 => "M2",
-        Rule::M3 => "M3",
-        Rule::X1 => "X1",
-    }
 }

@@ -3,7 +3,7 @@ use Rattle.tl_advice.specs.LinkCounts.{AreCounted}
 use Rattle.tl_advice.specs.Tallies.{AreLinked, AreTallied}
 use Rattle.tl_advice.specs.Summaries.{body_of}
 use Rattle.tl_show.proofs.Texts.{in_words}
-use Rattle.tl_formats.specs.Waivers.{all_rules}
+use Rattle.tl_tables.specs.Rules.{all_rules}
 use Rattle.tl_advice.proofs.SummaryLaws.{body_made}
 use Rattle.tl_advice.proofs.summary.body.Goals as goal
 

@@ -1,5 +1,0 @@
-use Rattle.tl_midway.proofs.MidwayLaws.{printed_rows_are_certain}
-use Rattle.tl_midway.proofs.printed_rows_are_certain.Goals as goal
-
-pub returns : goal.returns
-returns c = printed_rows_are_certain

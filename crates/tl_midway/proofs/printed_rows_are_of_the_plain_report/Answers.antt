@@ -1,5 +1,0 @@
-use Rattle.tl_midway.proofs.MidwayLaws.{printed_rows_are_of_the_plain_report}
-use Rattle.tl_midway.proofs.printed_rows_are_of_the_plain_report.Goals as goal
-
-pub returns : goal.returns
-returns c = printed_rows_are_of_the_plain_report

@@ -1,5 +1,0 @@
-use Rattle.tl_midway.proofs.ToldLaws.{told_rows_are_certain}
-use Rattle.tl_midway.proofs.told_rows_are_certain.Goals as goal
-
-pub returns : goal.returns
-returns c = told_rows_are_certain

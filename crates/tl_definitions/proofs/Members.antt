@@ -18,11 +18,11 @@ use Rattle.tl_definitions.proofs.Lists.{contains_here, contains_there, contains_
 use Rattle.tl_definitions.proofs.ReportLaws.{one_rule}
 use Rattle.tl_definitions.specs.Printed.{is_f1}
 
-is_in : List Rule → Rule → Bool
+abbrev is_in : List Rule → Rule → Bool
 is_in order r = list_any (λ s. rule_number s == rule_number r) order
 
 listed : (order : List Rule) (r : Rule) → is_in order r ≡ true → Contains order r
-listed [] r h = cc
+listed [] r h = absurd cc
 listed (s ∷ order) r h =
     elim (rule_number s == rule_number r) as (λ t. (rule_number s == rule_number r) ≡ t → (t || is_in order r) ≡ true → Contains (s ∷ order) r) [
       | true ↦ λ e g. subst (Contains (s ∷ order)) (one_rule s r (eqb-true (rule_number s) (rule_number r) e)) (contains_here s order)

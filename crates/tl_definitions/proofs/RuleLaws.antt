@@ -54,15 +54,15 @@ joined : (n : ℕ) (xs ys : List Rule) → IsStrictlySortedBy by_number xs → I
 joined n xs ys up_x up_y below from = strict_both by_number number_total xs ys up_x up_y (λ x y h g. less x y n (all_of (λ r. rule_number r < n) xs below x h) (all_of (λ r. n ≤ rule_number r) ys from y g))
 
 -- Whether rules stand in the order of reports, each once, as a test that computes.
-is_less : Ordering → Bool
+abbrev is_less : Ordering → Bool
 is_less Less = true
 is_less _ = false
 
-are_above : Rule → List Rule → Bool
+abbrev are_above : Rule → List Rule → Bool
 are_above r [] = true
 are_above r (s ∷ rules) = is_less (by_number r s) && are_above r rules
 
-do_rise : List Rule → Bool
+abbrev pub do_rise : List Rule → Bool
 do_rise [] = true
 do_rise (r ∷ rules) = are_above r rules && do_rise rules
 
@@ -79,14 +79,24 @@ unfolding IsStrictlySortedBy
 rising [] h = tt
 rising (r ∷ rules) h = let parts = and_parts _ _ h in (above_all r rules parts.0, rising rules parts.1)
 
+is_under : (m n : ℕ) → nat_lt m n ≡ true → m < n
+is_under m n h = grind (arith, nat_tests)
+
+is_over : (m n : ℕ) → nat_le m n ≡ true → m ≤ n
+is_over m n h = grind (arith, nat_tests)
+
 -- Whether all of some rules come before another, or none of them does.
 below_all : (n : ℕ) (rules : List Rule) → list_all (λ r. nat_lt (rule_number r) n) rules ≡ true → AreBelow n rules
 below_all n [] h = tt
-below_all n (r ∷ rules) h = let parts = and_parts _ _ h in (omega (arith, nat_tests, parts.0), below_all n rules parts.1)
+below_all n (r ∷ rules) h =
+    let parts = and_parts (nat_lt (rule_number r) n) (list_all (λ s. nat_lt (rule_number s) n) rules) h in
+    (is_under (rule_number r) n parts.0, below_all n rules parts.1)
 
 from_all : (n : ℕ) (rules : List Rule) → list_all (λ r. nat_le n (rule_number r)) rules ≡ true → AreFrom n rules
 from_all n [] h = tt
-from_all n (r ∷ rules) h = let parts = and_parts _ _ h in (omega (arith, nat_tests, parts.0), from_all n rules parts.1)
+from_all n (r ∷ rules) h =
+    let parts = and_parts (nat_le n (rule_number r)) (list_all (λ s. nat_le n (rule_number s)) rules) h in
+    (is_over n (rule_number r) parts.0, from_all n rules parts.1)
 
 pub four_rise : (f s p m : Rule → Bool) → IsStrictlySortedBy by_number (filter f format_order ++ filter s flow_order ++ filter p permission_order ++ filter m manager_order)
 four_rise f s p m =

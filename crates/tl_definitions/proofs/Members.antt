@@ -18,6 +18,7 @@ use Rattle.tl_definitions.proofs.Lists.{contains_here, contains_there, contains_
 use Rattle.tl_definitions.proofs.ReportLaws.{one_rule}
 use Rattle.tl_definitions.specs.Printed.{is_f1}
 
+-- Whether a rule is among some, as a test that computes.
 abbrev is_in : List Rule → Rule → Bool
 is_in order r = list_any (λ s. rule_number s == rule_number r) order
 

@@ -9,8 +9,8 @@ use Rattle.tl_definitions.proofs.ReportLaws.{one_report}
 use Rattle.tl_edits.specs.Edits.{AnEdit, plain_change, attach}
 use Rattle.tl_edits.specs.Inputs.{InputData}
 use Rattle.tl_edits.specs.Log.{LogData, inputs_after}
-use Rattle.tl_jobs.specs.Jobs.{JobData, DoneData, piece_of}
-use Rattle.tl_jobs.specs.Monitors.{MonitorJobData, MonitorDoneData, monitor_piece}
+use Rattle.tl_desk.specs.JobData.{JobData, DoneData, piece_of}
+use Rattle.tl_desk.specs.MonitorJobs.{MonitorJobData, MonitorDoneData, monitor_piece}
 use Rattle.tl_results.specs.declared.key.PieceKey.{PieceKey}
 use Rattle.tl_results.specs.Keys.{value_at, change}
 use Rattle.tl_results.specs.Pieces.{Board, Pass, IsFirst, IsFree, IsFirstFree, ChainsFrom, piece_at, live_of, with_live}
@@ -22,9 +22,9 @@ use Rattle.tl_board.specs.Spans.{SpansData}
 use Rattle.tl_board.specs.Tickets.{HandsIn}
 use Rattle.tl_board.specs.Windows.{key_of}
 use Rattle.tl_board.proofs.EditLemmas.{same_entries}
-use Rattle.tl_jobs.specs.declared.piece.Piece.{Piece as APiece}
-use Rattle.tl_jobs.specs.declared.piece.Piece.TheVariants as piece
-use Rattle.tl_jobs.specs.Tickets.{IsOutFor}
+use Rattle.tl_desk.specs.declared.piece.Piece.{Piece as APiece}
+use Rattle.tl_desk.specs.declared.piece.Piece.TheVariants as piece
+use Rattle.tl_desk.specs.TicketData.{IsOutFor}
 use Rattle.tl_topology.specs.Topology.{Topology}
 use Rattle.tl_board.specs.declared.tally.Tally.{Tally}
 use Rattle.tl_board.specs.Outside.{HandsInWatch}

@@ -9,8 +9,8 @@ use Rattle.tl_monitor.specs.Places.{Place, Here, Out, watch_of_place, limit_of, 
 use Rattle.tl_monitor.specs.declared.away.Away.{Away}
 use Rattle.tl_monitor.proofs.WatchLemmas.{taken_watches, brought_back_watches}
 use Rattle.tl_edits.specs.Log.{LogData, inputs_after}
-use Rattle.tl_jobs.specs.Jobs.{JobData, piece_of}
-use Rattle.tl_jobs.specs.Monitors.{MonitorJobData}
+use Rattle.tl_desk.specs.JobData.{JobData, piece_of}
+use Rattle.tl_desk.specs.MonitorJobs.{MonitorJobData}
 use Rattle.tl_monitor.specs.Held.{Held}
 use Rattle.tl_results.specs.declared.key.PieceKey.{PieceKey}
 use Rattle.tl_results.specs.Keys.{change}
@@ -19,18 +19,18 @@ use Rattle.tl_check.specs.declared.state.SpanState.{SpanState}
 use Rattle.tl_board.specs.Spans.{SpansData}
 use Rattle.tl_board.specs.Tickets.{HandsIn}
 use Rattle.tl_board.specs.Windows.{with_checked}
-use Rattle.tl_jobs.specs.declared.tickets.Taken.{Taken}
-use Rattle.tl_jobs.specs.Tickets as tickets
-use Rattle.tl_jobs.specs.Tickets.{TicketsData, AreTickets, IsOutFor}
+use Rattle.tl_desk.specs.declared.tickets.Taken.{Taken}
+use Rattle.tl_desk.specs.TicketData as tickets
+use Rattle.tl_desk.specs.TicketData.{TicketsData, AreTickets, IsOutFor}
 use Rattle.tl_board.specs.declared.tally.Tally.{Tally}
 use Rattle.tl_board.specs.Outside.{IsWatchTaskFor, HandsInWatch}
 use Rattle.tl_board.specs.WatchTasks.{WatchWindowData, with_monitor, without_monitor}
 use Rattle.tl_board.specs.Watches.{WatchesData}
 use Rattle.tl_desk.specs.Core.{Core, IsSound, IsOf, AreAttached, AreKnown, log_of, standing}
-use Rattle.tl_jobs.specs.declared.job.Done.{Done}
-use Rattle.tl_jobs.specs.declared.job.Done.TheVariants as a_done
-use Rattle.tl_jobs.specs.declared.job.HandIn.{HandIn}
-use Rattle.tl_jobs.specs.declared.job.HandIn.TheVariants as answer
+use Rattle.tl_desk.specs.declared.job.Done.{Done}
+use Rattle.tl_desk.specs.declared.job.Done.TheVariants as a_done
+use Rattle.tl_desk.specs.declared.job.HandIn.{HandIn}
+use Rattle.tl_desk.specs.declared.job.HandIn.TheVariants as answer
 use Rattle.std.specs.Option.{IsSomeAnd, option_and_then}
 use Rattle.tl_edits.specs.Inputs.{watch_at}
 use Rattle.tl_desk.specs.Steps.{HandInStep}

@@ -1,3 +1,4 @@
+mod MonitorJobLemmas
 mod BoxLemmas
 mod FirstLemmas
 mod AttachedLemmas

@@ -17,13 +17,13 @@ use Rattle.tl_definitions.specs.Tallies.{watching}
 use Rattle.tl_definitions.proofs.ReportLaws.{key_total, strict_one}
 use Rattle.tl_edits.specs.Inputs.{InputData, regions_at, watch_at}
 use Rattle.tl_edits.specs.Log.{LogData, inputs_after}
-use Rattle.tl_jobs.specs.Jobs.{JobData, DoneData, IsDone}
-use Rattle.tl_jobs.specs.Monitors.{MonitorJobData, MonitorDoneData, SameJob, IsMonitorDone}
-use Rattle.tl_jobs.specs.Works.{ComesBack, IsDoneFrom, IsChecked}
-use Rattle.tl_jobs.specs.declared.job.Job.{Job}
-use Rattle.tl_jobs.specs.declared.job.Job.TheVariants as a_job
-use Rattle.tl_jobs.specs.declared.job.Done.{Done}
-use Rattle.tl_jobs.specs.declared.job.Done.TheVariants as a_done
+use Rattle.tl_desk.specs.JobData.{JobData, DoneData, IsDone}
+use Rattle.tl_desk.specs.MonitorJobs.{MonitorJobData, MonitorDoneData, SameJob, IsMonitorDone}
+use Rattle.tl_desk.specs.Works.{ComesBack, IsDoneFrom, IsChecked}
+use Rattle.tl_desk.specs.declared.job.Job.{Job}
+use Rattle.tl_desk.specs.declared.job.Job.TheVariants as a_job
+use Rattle.tl_desk.specs.declared.job.Done.{Done}
+use Rattle.tl_desk.specs.declared.job.Done.TheVariants as a_done
 use Rattle.tl_results.specs.declared.key.PieceKey.{PieceKey}
 use Rattle.tl_results.specs.Pieces.{Pass, entry_for}
 use Rattle.tl_check.specs.Captured.{watched_beats}

@@ -6,9 +6,9 @@ use Rattle.tl_beats.specs.declared.watch.Watch.{Watch}
 use Rattle.tl_monitor.specs.Boxes.{BoxesData}
 use Rattle.tl_edits.specs.Edits.{plain_change, attach}
 use Rattle.tl_edits.specs.declared.edit.Change.{Change}
-use Rattle.tl_jobs.specs.Works as works
-use Rattle.tl_jobs.specs.declared.job.Done.{Done}
-use Rattle.tl_jobs.specs.declared.job.Done.TheVariants as a_done
+use Rattle.tl_desk.specs.Works as works
+use Rattle.tl_desk.specs.declared.job.Done.{Done}
+use Rattle.tl_desk.specs.declared.job.Done.TheVariants as a_done
 use Rattle.tl_results.specs.Pieces.{Pass, Piece, piece_at}
 use Rattle.tl_check.specs.States.{SameSpan}
 use Rattle.tl_board.specs.Tally.{SameTally}

@@ -9,13 +9,13 @@ use Rattle.tl_definitions.proofs.ReportLaws.{one_report}
 use Rattle.tl_edits.specs.Edits.{AnEdit}
 use Rattle.tl_edits.specs.Inputs.{InputData}
 use Rattle.tl_edits.specs.Log.{LogData, inputs_after}
-use Rattle.tl_jobs.specs.Jobs.{JobData, DoneData}
-use Rattle.tl_jobs.specs.Monitors.{MonitorJobData, MonitorDoneData}
-use Rattle.tl_jobs.specs.Works.{ticket_of}
-use Rattle.tl_jobs.specs.declared.job.Job.{Job}
-use Rattle.tl_jobs.specs.declared.job.Job.TheVariants as a_job
-use Rattle.tl_jobs.specs.declared.job.Done.{Done}
-use Rattle.tl_jobs.specs.declared.job.Done.TheVariants as a_done
+use Rattle.tl_desk.specs.JobData.{JobData, DoneData}
+use Rattle.tl_desk.specs.MonitorJobs.{MonitorJobData, MonitorDoneData}
+use Rattle.tl_desk.specs.Works.{ticket_of}
+use Rattle.tl_desk.specs.declared.job.Job.{Job}
+use Rattle.tl_desk.specs.declared.job.Job.TheVariants as a_job
+use Rattle.tl_desk.specs.declared.job.Done.{Done}
+use Rattle.tl_desk.specs.declared.job.Done.TheVariants as a_done
 use Rattle.tl_results.specs.declared.key.PieceKey.{PieceKey}
 use Rattle.tl_results.specs.Pieces.{Pass, IsFree, IsFirstFree, piece_at}
 use Rattle.tl_check.specs.Captured.{captures_after}
@@ -25,8 +25,8 @@ use Rattle.tl_check.specs.declared.state.SpanState.{SpanState}
 use Rattle.tl_board.specs.Spans.{SpansData}
 use Rattle.tl_board.specs.Tickets.{IsTaskFor, HandsIn}
 use Rattle.tl_board.specs.Windows.{key_of}
-use Rattle.tl_jobs.specs.declared.piece.Piece.{Piece as APiece}
-use Rattle.tl_jobs.specs.Tickets.{IsOutFor}
+use Rattle.tl_desk.specs.declared.piece.Piece.{Piece as APiece}
+use Rattle.tl_desk.specs.TicketData.{IsOutFor}
 use Rattle.tl_board.specs.declared.tally.Tally.{Tally}
 use Rattle.tl_board.specs.Outside.{IsWatchTaskFor, HandsInWatch}
 use Rattle.tl_board.specs.Tally.{SameTally}

@@ -11,19 +11,19 @@ use Rattle.tl_monitor.proofs.DepartureLemmas.{attached_departures, retuned_depar
 use Rattle.tl_edits.specs.Edits.{plain_change}
 use Rattle.tl_edits.specs.declared.edit.Change.{Change}
 use Rattle.tl_edits.specs.declared.edit.Change.TheVariants as change
-use Rattle.tl_jobs.specs.Jobs.{JobData, piece_of}
-use Rattle.tl_jobs.specs.Monitors.{MonitorJobData, SameJob, monitor_piece}
-use Rattle.tl_jobs.specs.Works as works
-use Rattle.tl_jobs.specs.Works.{ticket_of, window_of, ComesBack}
-use Rattle.tl_jobs.specs.declared.job.Job.{Job}
-use Rattle.tl_jobs.specs.declared.job.Job.TheVariants as a_job
-use Rattle.tl_jobs.specs.declared.job.Done.{Done}
-use Rattle.tl_jobs.specs.declared.job.Done.TheVariants as a_done
-use Rattle.tl_jobs.specs.declared.job.HandIn.TheVariants as answer
-use Rattle.tl_jobs.specs.declared.piece.Piece.{Piece as APiece}
-use Rattle.tl_jobs.specs.declared.piece.Piece.TheVariants as piece
-use Rattle.tl_jobs.specs.declared.tickets.Taken.{Taken}
-use Rattle.tl_jobs.specs.Tickets.{TicketsData, AreTickets, IsOutFor, taken_at}
+use Rattle.tl_desk.specs.JobData.{JobData, piece_of}
+use Rattle.tl_desk.specs.MonitorJobs.{MonitorJobData, SameJob, monitor_piece}
+use Rattle.tl_desk.specs.Works as works
+use Rattle.tl_desk.specs.Works.{ticket_of, window_of, ComesBack}
+use Rattle.tl_desk.specs.declared.job.Job.{Job}
+use Rattle.tl_desk.specs.declared.job.Job.TheVariants as a_job
+use Rattle.tl_desk.specs.declared.job.Done.{Done}
+use Rattle.tl_desk.specs.declared.job.Done.TheVariants as a_done
+use Rattle.tl_desk.specs.declared.job.HandIn.TheVariants as answer
+use Rattle.tl_desk.specs.declared.piece.Piece.{Piece as APiece}
+use Rattle.tl_desk.specs.declared.piece.Piece.TheVariants as piece
+use Rattle.tl_desk.specs.declared.tickets.Taken.{Taken}
+use Rattle.tl_desk.specs.TicketData.{TicketsData, AreTickets, IsOutFor, taken_at}
 use Rattle.tl_board.specs.WatchTasks.{WatchTaskData}
 use Rattle.tl_desk.specs.Core.{Core, IsSound, IsDesk, log_of, standing}
 use Rattle.tl_desk.specs.Jobs.{IsOwn, IsOutHere, TakesBack, Takes, TakesWatch, Gives, HandsBack, ended, key_for, watch_key_for}

@@ -9,7 +9,7 @@ use Rattle.tl_results.specs.Keys.{key_cmp, change}
 use Rattle.tl_results.specs.Pieces.{Board, piece_at, live_of, with_live, with_pieces}
 use Rattle.tl_check.specs.declared.state.SpanState.{SpanState}
 use Rattle.tl_board.proofs.CheckLemmas.{lookup_change}
-use Rattle.tl_jobs.specs.Tickets.{IsOutFor}
+use Rattle.tl_desk.specs.TicketData.{IsOutFor}
 use Rattle.tl_board.specs.declared.tally.Tally.{Tally}
 use Rattle.tl_desk.specs.Core.{Core, IsSound, log_of}
 use Rattle.tl_desk.specs.Jobs.{IsLive, Recalls, RecallsWatch}

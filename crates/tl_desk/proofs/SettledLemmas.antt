@@ -2,8 +2,8 @@
 use Rattle.std.proofs.Common.{◌≡◌, ℕ, inl, inr, true, false, cond, List, [], ◌∷◌, Option, Some, None, sym, ap, subst}
 use Rattle.std.specs.BTreeMap.{is_at}
 use Rattle.tl_beats.specs.declared.Row.{Row}
-use Rattle.tl_jobs.specs.Jobs.{JobData}
-use Rattle.tl_jobs.specs.Monitors.{MonitorJobData}
+use Rattle.tl_desk.specs.JobData.{JobData}
+use Rattle.tl_desk.specs.MonitorJobs.{MonitorJobData}
 use Rattle.tl_results.specs.declared.key.PieceKey.{PieceKey}
 use Rattle.tl_results.specs.Keys.{key_cmp, change}
 use Rattle.tl_results.specs.Pieces.{Board, Piece, Pass, exit_before, left_by, with_live, IsAt, IsFirst, IsGood, Follows, IsWanted, ChainsFrom, IsSettled}
@@ -11,7 +11,7 @@ use Rattle.tl_check.specs.States.{SameSpan}
 use Rattle.tl_check.specs.declared.state.SpanState.{SpanState}
 use Rattle.tl_board.specs.Spans.{SpansData}
 use Rattle.tl_board.specs.Tickets.{HandsIn}
-use Rattle.tl_jobs.specs.declared.piece.Piece.TheVariants as piece
+use Rattle.tl_desk.specs.declared.piece.Piece.TheVariants as piece
 use Rattle.tl_board.specs.declared.tally.Tally.{Tally}
 use Rattle.tl_board.specs.Outside.{HandsInWatch}
 use Rattle.tl_board.specs.Tally.{SameTally}

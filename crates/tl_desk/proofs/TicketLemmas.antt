@@ -30,10 +30,10 @@ use Rattle.tl_board.proofs.CheckLemmas.{lookup_change}
 use Rattle.tl_board.proofs.EditLemmas.{stands}
 use Rattle.tl_board.proofs.EntryLemmas.{lookup_put}
 use Rattle.tl_board.proofs.TouchLemmas.{untouched_beats, untouched_regions, regions_are_touched}
-use Rattle.tl_jobs.specs.declared.piece.Piece.{Piece as APiece}
-use Rattle.tl_jobs.specs.declared.piece.Piece.TheVariants as piece
-use Rattle.tl_jobs.specs.declared.tickets.Taken.{Taken}
-use Rattle.tl_jobs.specs.Tickets.{TicketsData, AreTickets, IsOutFor, taken_at}
+use Rattle.tl_desk.specs.declared.piece.Piece.{Piece as APiece}
+use Rattle.tl_desk.specs.declared.piece.Piece.TheVariants as piece
+use Rattle.tl_desk.specs.declared.tickets.Taken.{Taken}
+use Rattle.tl_desk.specs.TicketData.{TicketsData, AreTickets, IsOutFor, taken_at}
 use Rattle.tl_board.specs.declared.tally.Tally.{Tally}
 use Rattle.tl_board.specs.Accepting.{EditsBoth}
 use Rattle.tl_board.specs.Tally.{SameTally}

@@ -14,7 +14,7 @@ use Rattle.tl_board.specs.Spans as spans
 use Rattle.tl_check.specs.States.{SameSpan}
 use Rattle.tl_board.specs.Tally.{SameTally}
 use Rattle.tl_board.specs.Watches.{WatchesData, AreWatches}
-use Rattle.tl_jobs.specs.Tickets.{TicketsData}
+use Rattle.tl_desk.specs.TicketData.{TicketsData}
 use Rattle.tl_desk.specs.Ends.{HaveEnded}
 use Rattle.tl_desk.specs.Tickets.{HoldsTickets}
 

@@ -7,14 +7,14 @@ use Rattle.std.specs.Map.{remove_entry}
 use Rattle.tl_beats.specs.declared.Row.{Row}
 use Rattle.tl_monitor.specs.Boxes.{BoxesData, held_at, away_at, taken_at, brought_back}
 use Rattle.tl_monitor.specs.declared.away.Away.{Away}
-use Rattle.tl_jobs.specs.Jobs.{JobData, DoneData, IsDone, piece_of}
-use Rattle.tl_jobs.specs.Monitors.{MonitorJobData, MonitorDoneData, IsMonitorDone, monitor_piece}
-use Rattle.tl_jobs.specs.declared.job.Job.{Job}
-use Rattle.tl_jobs.specs.declared.job.Job.TheVariants as a_job
-use Rattle.tl_jobs.specs.declared.job.Done.{Done}
-use Rattle.tl_jobs.specs.declared.job.Done.TheVariants as a_done
-use Rattle.tl_jobs.specs.declared.job.HandIn.{HandIn}
-use Rattle.tl_jobs.specs.declared.job.HandIn.TheVariants as answer
+use Rattle.tl_desk.specs.JobData.{JobData, DoneData, IsDone, piece_of}
+use Rattle.tl_desk.specs.MonitorJobs.{MonitorJobData, MonitorDoneData, IsMonitorDone, monitor_piece}
+use Rattle.tl_desk.specs.declared.job.Job.{Job}
+use Rattle.tl_desk.specs.declared.job.Job.TheVariants as a_job
+use Rattle.tl_desk.specs.declared.job.Done.{Done}
+use Rattle.tl_desk.specs.declared.job.Done.TheVariants as a_done
+use Rattle.tl_desk.specs.declared.job.HandIn.{HandIn}
+use Rattle.tl_desk.specs.declared.job.HandIn.TheVariants as answer
 use Rattle.tl_results.specs.declared.key.PieceKey.{PieceKey}
 use Rattle.tl_results.specs.Keys.{change}
 use Rattle.tl_results.specs.Pieces.{Board, piece_at, live_of, with_live, with_pieces, IsFirst, IsFree, IsFirstFree}
@@ -22,8 +22,8 @@ use Rattle.tl_check.specs.States.{SameSpan}
 use Rattle.tl_board.specs.Spans.{SpansData}
 use Rattle.tl_board.specs.Tickets.{IsTaskFor, StandsIn, HandsIn}
 use Rattle.tl_board.specs.Windows.{key_of}
-use Rattle.tl_jobs.specs.declared.piece.Piece.{Piece}
-use Rattle.tl_jobs.specs.Tickets.{TicketsData, IsOutFor, most_tickets}
+use Rattle.tl_desk.specs.declared.piece.Piece.{Piece}
+use Rattle.tl_desk.specs.TicketData.{TicketsData, IsOutFor, most_tickets}
 use Rattle.tl_board.specs.declared.tally.Tally.{Tally}
 use Rattle.tl_board.specs.Outside.{IsWatchTaskFor, StandsInWatch, HandsInWatch}
 use Rattle.tl_board.specs.Tally.{SameTally}

@@ -1,3 +1,8 @@
+pub mod TicketData
+pub mod TakeFaults
+pub mod JobData
+pub mod MonitorJobs
+pub mod Works
 pub mod Faults
 pub mod Tickets
 pub mod Ends

@@ -7,17 +7,17 @@ use Rattle.tl_edits.specs.Inputs.{refusal}
 use Rattle.tl_edits.specs.declared.edit.Change.{Change}
 use Rattle.tl_edits.specs.declared.fault.EditFault.{EditFault}
 use Rattle.tl_edits.specs.declared.fault.EditFault.TheVariants as edit_fault
-use Rattle.tl_jobs.specs.Works as works
-use Rattle.tl_jobs.specs.Works.{ticket_of, window_of, IsChecked, IsDoneFrom, ComesBack}
-use Rattle.tl_jobs.specs.declared.fault.TakeFault.{TakeFault}
-use Rattle.tl_jobs.specs.declared.fault.TakeFault.TheVariants as take_fault
-use Rattle.tl_jobs.specs.declared.job.Job.{Job}
-use Rattle.tl_jobs.specs.declared.job.Done.{Done}
-use Rattle.tl_jobs.specs.declared.job.HandIn.{HandIn}
-use Rattle.tl_jobs.specs.declared.job.HandIn.TheVariants as answer
+use Rattle.tl_desk.specs.Works as works
+use Rattle.tl_desk.specs.Works.{ticket_of, window_of, IsChecked, IsDoneFrom, ComesBack}
+use Rattle.tl_desk.specs.declared.take_fault.TakeFault.{TakeFault}
+use Rattle.tl_desk.specs.declared.take_fault.TakeFault.TheVariants as take_fault
+use Rattle.tl_desk.specs.declared.job.Job.{Job}
+use Rattle.tl_desk.specs.declared.job.Done.{Done}
+use Rattle.tl_desk.specs.declared.job.HandIn.{HandIn}
+use Rattle.tl_desk.specs.declared.job.HandIn.TheVariants as answer
 use Rattle.tl_results.specs.Pieces.{IsFirstFree}
 use Rattle.tl_check.specs.States.{SameSpan}
-use Rattle.tl_jobs.specs.Tickets.{most_tickets}
+use Rattle.tl_desk.specs.TicketData.{most_tickets}
 use Rattle.tl_desk.specs.Core.{Core, IsDesk, AllSettled, most_versions, log_of, standing}
 use Rattle.tl_desk.specs.Jobs.{Gives, HasFree, HandsBack, TakesBack, IsFirstFreeWatch, IsOutHere, IsLive}
 use Rattle.tl_desk.specs.Steps.{Step, HandInStep}

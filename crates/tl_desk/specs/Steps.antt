@@ -7,15 +7,15 @@ use Rattle.tl_monitor.specs.Places.{Place, Here, Out}
 use Rattle.tl_definitions.specs.Report.{IsReport}
 use Rattle.tl_edits.specs.Edits.{AnEdit, plain_change, add, replace, withdraw, clear_link, set_region, remove_region, attach, retune, detach}
 use Rattle.tl_edits.specs.Inputs.{refusal}
-use Rattle.tl_jobs.specs.Jobs.{JobData, DoneData, piece_of}
-use Rattle.tl_jobs.specs.Monitors.{MonitorJobData, MonitorDoneData, monitor_piece}
-use Rattle.tl_jobs.specs.Works.{ticket_of, window_of, done_ticket, done_window}
-use Rattle.tl_jobs.specs.declared.job.Job.{Job}
-use Rattle.tl_jobs.specs.declared.job.Job.TheVariants as a_job
-use Rattle.tl_jobs.specs.declared.job.Done.{Done}
-use Rattle.tl_jobs.specs.declared.job.Done.TheVariants as a_done
-use Rattle.tl_jobs.specs.declared.job.HandIn.{HandIn}
-use Rattle.tl_jobs.specs.declared.job.HandIn.TheVariants as answer
+use Rattle.tl_desk.specs.JobData.{JobData, DoneData, piece_of}
+use Rattle.tl_desk.specs.MonitorJobs.{MonitorJobData, MonitorDoneData, monitor_piece}
+use Rattle.tl_desk.specs.Works.{ticket_of, window_of, done_ticket, done_window}
+use Rattle.tl_desk.specs.declared.job.Job.{Job}
+use Rattle.tl_desk.specs.declared.job.Job.TheVariants as a_job
+use Rattle.tl_desk.specs.declared.job.Done.{Done}
+use Rattle.tl_desk.specs.declared.job.Done.TheVariants as a_done
+use Rattle.tl_desk.specs.declared.job.HandIn.{HandIn}
+use Rattle.tl_desk.specs.declared.job.HandIn.TheVariants as answer
 use Rattle.tl_monitor.specs.Held.{Held}
 use Rattle.std.specs.Option.{option_map}
 use Rattle.tl_results.specs.declared.key.PieceKey.{PieceKey}
@@ -26,8 +26,8 @@ use Rattle.tl_check.specs.States.{SameSpan}
 use Rattle.tl_check.specs.declared.state.SpanState.{SpanState}
 use Rattle.tl_board.specs.Recheck.{Rechecks, ChecksSome}
 use Rattle.tl_board.specs.Windows.{key_of}
-use Rattle.tl_jobs.specs.declared.piece.Piece.{Piece}
-use Rattle.tl_jobs.specs.declared.piece.Piece.TheVariants as piece
+use Rattle.tl_desk.specs.declared.piece.Piece.{Piece}
+use Rattle.tl_desk.specs.declared.piece.Piece.TheVariants as piece
 use Rattle.tl_board.specs.Accepting.{EditsBoth}
 use Rattle.tl_board.specs.declared.tally.Tally.{Tally}
 use Rattle.tl_board.specs.Tally.{SameTally}

@@ -11,10 +11,10 @@ use Rattle.tl_results.specs.declared.key.PieceKey.{PieceKey}
 use Rattle.tl_results.specs.Pieces.{Board, piece_at, live_of}
 use Rattle.tl_check.specs.Captured.{areas_at}
 use Rattle.tl_check.specs.declared.state.SpanState.{SpanState}
-use Rattle.tl_jobs.specs.declared.piece.Piece.{Piece}
-use Rattle.tl_jobs.specs.declared.piece.Piece.TheVariants as piece
-use Rattle.tl_jobs.specs.declared.tickets.Taken.{Taken}
-use Rattle.tl_jobs.specs.Tickets.{TicketsData, AreTickets, IsOutFor, taken_at}
+use Rattle.tl_desk.specs.declared.piece.Piece.{Piece}
+use Rattle.tl_desk.specs.declared.piece.Piece.TheVariants as piece
+use Rattle.tl_desk.specs.declared.tickets.Taken.{Taken}
+use Rattle.tl_desk.specs.TicketData.{TicketsData, AreTickets, IsOutFor, taken_at}
 use Rattle.tl_board.specs.declared.tally.Tally.{Tally}
 use Rattle.tl_board.specs.Watches.{beats_for}
 use Rattle.tl_capture.specs.Windows.{beats_in}

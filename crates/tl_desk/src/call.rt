@@ -1,10 +1,10 @@
 //! Calls on a desk.
 
+use crate::Piece;
 use tl_beats::Watch;
 use tl_board::{Rows, Tally};
 use tl_check::SpanState;
 use tl_edits::Change;
-use tl_jobs::Piece;
 
 /// What the check of a window begins from. Contracts speak of it; no value of it is made.
 #[derive(Drop)]

@@ -12,12 +12,12 @@ ghost use Rattle.tl_monitor.specs.Boxes.{IsBoxes, told, here_in, first_out};
 ghost use Rattle.tl_desk.specs.Core.{log_of, standing, latest_of, report_of, AllSettled, AreLinked, IsNew, IsSound, IsDesk};
 ghost use Rattle.tl_desk.specs.Ends.{HaveEnded, AllHaveEnded};
 
+use crate::tickets::Tickets;
 use std::alloc::{AllocError, Global};
 use std::marker::Model;
 use tl_board::Watches;
 use tl_check::Report;
 use tl_edits::Log;
-use tl_jobs::Tickets;
 use tl_monitor::{Boxes, Monitor, Settlement};
 use tl_topology::Topo;
 

@@ -3,15 +3,15 @@
 ghost use Rattle.std.specs.Prelude.{◌≡◌, ◌<◌, IfOk, IfErr, OnOk, OnErr, true, false};
 ghost use Rattle.std.specs.Bool.{Decides};
 ghost use Rattle.std.specs.Result.{IsErrOf};
-ghost use Rattle.tl_jobs.specs.Works.{ticket_of, window_of};
-ghost use Rattle.tl_jobs.specs.Tickets.{most_tickets};
+ghost use Rattle.tl_desk.specs.Works.{ticket_of, window_of};
+ghost use Rattle.tl_desk.specs.TicketData.{most_tickets};
 ghost use Rattle.tl_desk.specs.Jobs.{IsLive, Gives, HasFree, HandsBack, TakesBack, IsOutHere};
 ghost use Rattle.tl_desk.specs.Steps.{Step, HandInStep};
 ghost use Rattle.tl_desk.specs.declared.call.Call.TheVariants as call;
 
 use crate::desk::Desk;
+use crate::{Done, HandIn, Job, Piece, TakeFault};
 use std::alloc::Global;
-use tl_jobs::{Done, HandIn, Job, Piece, TakeFault};
 use tl_monitor::Monitor;
 
 impl<M: Monitor> Desk<M> {

@@ -3,20 +3,21 @@
 ghost use Rattle.std.specs.Prelude.{◌≡◌, ◌<◌, IfOk, IfErr, IfSome, OnOk, OnErr, Some, true, false, is_some};
 ghost use Rattle.std.specs.Bool.{Decides};
 ghost use Rattle.std.specs.Result.{IsErrOf};
-ghost use Rattle.tl_jobs.specs.Jobs.{piece_of};
-ghost use Rattle.tl_jobs.specs.declared.job.Done.TheVariants as a_done;
+ghost use Rattle.tl_desk.specs.JobData.{piece_of};
+ghost use Rattle.tl_desk.specs.declared.job.Done.TheVariants as a_done;
 ghost use Rattle.tl_results.specs.Pieces.{piece_at, IsFirstFree};
 ghost use Rattle.tl_check.specs.States.{SameSpan};
 ghost use Rattle.tl_board.specs.Tickets.{IsTaskFor};
 ghost use Rattle.tl_board.specs.Windows.{key_of};
-ghost use Rattle.tl_jobs.specs.declared.piece.Piece.TheVariants as piece;
-ghost use Rattle.tl_jobs.specs.Tickets.{IsOutFor, most_tickets};
+ghost use Rattle.tl_desk.specs.declared.piece.Piece.TheVariants as piece;
+ghost use Rattle.tl_desk.specs.TicketData.{IsOutFor, most_tickets};
 ghost use Rattle.tl_desk.specs.Jobs.{IsLiveAt, IsFresh, Unmarks, Takes, Accepts, Ends, Recalls, HandsBack, key_for};
 
 use crate::desk::Desk;
+use crate::tickets::Taken;
+use crate::{Done, HandIn, ManagerDone, ManagerJob, Piece, TakeFault};
 use std::alloc::Global;
 use tl_board::{Watches, window_key};
-use tl_jobs::{Done, HandIn, ManagerDone, ManagerJob, Piece, TakeFault, Taken};
 use tl_monitor::Monitor;
 use tl_results::PieceKey;
 

@@ -5,12 +5,12 @@ ghost use Rattle.std.specs.Bool.{Decides};
 ghost use Rattle.std.specs.Option.{option_map};
 ghost use Rattle.std.specs.Result.{IsErrOf};
 ghost use Rattle.tl_monitor.specs.Boxes.{held_at, away_at};
-ghost use Rattle.tl_jobs.specs.declared.job.Done.TheVariants as a_done;
+ghost use Rattle.tl_desk.specs.declared.job.Done.TheVariants as a_done;
 ghost use Rattle.tl_results.specs.Pieces.{piece_at, IsFirstFree};
 ghost use Rattle.tl_check.specs.States.{SameSpan};
 ghost use Rattle.tl_board.specs.Windows.{key_of};
-ghost use Rattle.tl_jobs.specs.declared.piece.Piece.TheVariants as piece;
-ghost use Rattle.tl_jobs.specs.Tickets.{IsOutFor, most_tickets};
+ghost use Rattle.tl_desk.specs.declared.piece.Piece.TheVariants as piece;
+ghost use Rattle.tl_desk.specs.TicketData.{IsOutFor, most_tickets};
 ghost use Rattle.tl_board.specs.Outside.{IsWatchTaskFor};
 ghost use Rattle.tl_board.specs.WatchTasks.{without_monitor};
 ghost use Rattle.tl_board.specs.Tally.{SameTally};
@@ -18,9 +18,10 @@ ghost use Rattle.tl_desk.specs.Core.{HaveNumbers};
 ghost use Rattle.tl_desk.specs.Jobs.{IsLiveAtWatch, IsFreshWatch, IsHere, IsFirstFreeHere, IsFirstFreeWatch, IsOwn, UnmarksWatch, TakesWatch, AcceptsWatch, EndsWatch, RecallsWatch, HandsBack, watch_key_for};
 
 use crate::desk::Desk;
+use crate::tickets::Taken;
+use crate::{Done, HandIn, MonitorDone, MonitorJob, Piece, TakeFault};
 use std::alloc::Global;
 use tl_board::{Watches, is_watch, watch_key};
-use tl_jobs::{Done, HandIn, MonitorDone, MonitorJob, Piece, TakeFault, Taken};
 use tl_monitor::{Boxes, Monitor};
 use tl_results::PieceKey;
 

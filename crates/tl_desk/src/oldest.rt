@@ -2,12 +2,12 @@
 
 ghost use Rattle.std.specs.Prelude.{◌≡◌};
 ghost use Rattle.std.specs.Bool.{Decides};
-ghost use Rattle.tl_jobs.specs.Tickets.{IsOutFor};
+ghost use Rattle.tl_desk.specs.TicketData.{IsOutFor};
 ghost use Rattle.tl_desk.specs.Jobs.{IsLive, IsLiveAt, IsLiveAtWatch, IsOldestLive};
 
+use crate::Piece;
 use crate::desk::Desk;
 use tl_board::Watches;
-use tl_jobs::Piece;
 use tl_monitor::Monitor;
 use tl_results::PieceKey;
 

@@ -6,8 +6,8 @@ ghost use Rattle.tl_desk.specs.Plays.{AnswersWork, AreOut, with_place, job_of, H
 ghost use Rattle.tl_desk.specs.declared.places.Place.TheVariants as place;
 
 use crate::play::Reply;
+use crate::{Done, Job, work};
 use std::alloc::Global;
-use tl_jobs::{Done, Job, work};
 use tl_monitor::Monitor;
 
 /// A place of a list of steps: a job, one that was checked, or nothing any more. It must be spent, as the job.

@@ -8,9 +8,9 @@ ghost use Rattle.tl_desk.specs.Plays.{Answers, AnswersEdit, AnswersAttach, Answe
 use crate::desk::Desk;
 use crate::fault::PublishFault;
 use crate::places::{Place, done_out, job_out, work_at};
+use crate::{HandIn, TakeFault};
 use std::alloc::Global;
 use tl_edits::{Change, EditFault};
-use tl_jobs::{HandIn, TakeFault};
 use tl_monitor::Monitor;
 
 /// A step of a list that runs on a desk. The jobs that the list takes stand in places, from 0 on, in the order in which they were

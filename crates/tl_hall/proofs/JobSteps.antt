@@ -1,8 +1,8 @@
 -- Jobs of both kinds as steps.
 use Rattle.std.proofs.Common.{Some, ap}
 use Rattle.std.specs.Option.{option_map}
-use Rattle.tl_jobs.specs.declared.job.Job.{Job}
-use Rattle.tl_jobs.specs.declared.job.Job.TheVariants as a_job
+use Rattle.tl_desk.specs.declared.job.Job.{Job}
+use Rattle.tl_desk.specs.declared.job.Job.TheVariants as a_job
 use Rattle.tl_desk.specs.Core.{Core}
 use Rattle.tl_desk.specs.Jobs.{Gives}
 use Rattle.tl_desk.specs.Steps.{Step, take_of}

@@ -2,14 +2,14 @@
 use Rattle.std.proofs.Common.{◌≡◌, ℕ, ◌+◌, ◌≤◌, true, false, List, [], ◌∷◌, ◌++◌, map, Option, Some, sym, refl, ap, ◌∙◌, subst, arith, append_assoc, append-nil}
 use Rattle.std.specs.Option.{option_map_or}
 use mathlib.Core.List.{IsPrefix}
-use Rattle.tl_jobs.specs.declared.piece.Piece.{Piece}
-use Rattle.tl_jobs.specs.declared.piece.Piece.TheVariants as piece
+use Rattle.tl_desk.specs.declared.piece.Piece.{Piece}
+use Rattle.tl_desk.specs.declared.piece.Piece.TheVariants as piece
 use Rattle.tl_board.specs.WatchTasks.{WatchTaskData}
-use Rattle.tl_jobs.specs.Jobs.{JobData, piece_of}
-use Rattle.tl_jobs.specs.Works.{ticket_of, window_of, ComesBack}
-use Rattle.tl_jobs.specs.declared.fault.TakeFault.{TakeFault}
-use Rattle.tl_jobs.specs.declared.job.Job.{Job}
-use Rattle.tl_jobs.specs.declared.job.Job.TheVariants as job
+use Rattle.tl_desk.specs.JobData.{JobData, piece_of}
+use Rattle.tl_desk.specs.Works.{ticket_of, window_of, ComesBack}
+use Rattle.tl_desk.specs.declared.take_fault.TakeFault.{TakeFault}
+use Rattle.tl_desk.specs.declared.job.Job.{Job}
+use Rattle.tl_desk.specs.declared.job.Job.TheVariants as job
 use Rattle.tl_desk.specs.Core.{Core}
 use Rattle.tl_desk.specs.declared.call.Call.{Call}
 use Rattle.tl_desk.specs.declared.call.Call.TheVariants as call

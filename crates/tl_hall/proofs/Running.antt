@@ -15,8 +15,8 @@ use Rattle.tl_edits.specs.Edits.{AnEdit, plain_change, attach}
 use Rattle.tl_edits.specs.Inputs.{most_edits}
 use Rattle.tl_edits.proofs.LogLaws.{few_more}
 use Rattle.tl_edits.specs.Log.{LogData}
-use Rattle.tl_jobs.specs.declared.tickets.Taken.{Taken}
-use Rattle.tl_jobs.specs.Tickets.{TicketsData, most_tickets}
+use Rattle.tl_desk.specs.declared.tickets.Taken.{Taken}
+use Rattle.tl_desk.specs.TicketData.{TicketsData, most_tickets}
 use Rattle.tl_desk.specs.Core.{Core, IsNew, IsDesk, log_of, standing, most_versions}
 use Rattle.tl_desk.specs.Steps.{Step, Edits, Publishes}
 use Rattle.tl_desk.specs.declared.call.Call.{Call}

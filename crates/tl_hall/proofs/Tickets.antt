@@ -6,8 +6,8 @@ use Rattle.std.specs.BTreeMap.{insert_entry, is_at}
 use Rattle.std.specs.Map.{lookup, remove_entry}
 use Rattle.tl_beats.specs.declared.Row.{Row}
 use Rattle.tl_edits.specs.Edits.{AnEdit}
-use Rattle.tl_jobs.specs.Jobs.{JobData, DoneData}
-use Rattle.tl_jobs.specs.Monitors.{MonitorJobData, MonitorDoneData}
+use Rattle.tl_desk.specs.JobData.{JobData, DoneData}
+use Rattle.tl_desk.specs.MonitorJobs.{MonitorJobData, MonitorDoneData}
 use Rattle.tl_results.specs.declared.key.PieceKey.{PieceKey}
 use Rattle.tl_results.specs.Keys.{key_cmp, change}
 use Rattle.tl_results.specs.Pieces.{Board, Pass, Piece, piece_at, live_of, with_live, with_pieces}
@@ -19,10 +19,10 @@ use Rattle.tl_board.specs.Tickets.{HandsIn}
 use Rattle.tl_board.specs.Touch.{Touches}
 use Rattle.tl_board.specs.Windows.{with_checked, key_of}
 use Rattle.tl_board.proofs.CheckLemmas.{lookup_change}
-use Rattle.tl_jobs.specs.declared.piece.Piece.{Piece as APiece}
-use Rattle.tl_jobs.specs.declared.piece.Piece.TheVariants as piece
-use Rattle.tl_jobs.specs.declared.tickets.Taken.{Taken}
-use Rattle.tl_jobs.specs.Tickets.{taken_at, most_tickets}
+use Rattle.tl_desk.specs.declared.piece.Piece.{Piece as APiece}
+use Rattle.tl_desk.specs.declared.piece.Piece.TheVariants as piece
+use Rattle.tl_desk.specs.declared.tickets.Taken.{Taken}
+use Rattle.tl_desk.specs.TicketData.{taken_at, most_tickets}
 use Rattle.tl_board.specs.declared.tally.Tally.{Tally}
 use Rattle.tl_board.specs.Outside.{HandsInWatch}
 use Rattle.tl_board.specs.TouchedWatches.{TouchesWatch}

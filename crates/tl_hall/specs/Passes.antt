@@ -9,18 +9,18 @@ use Rattle.tl_edits.specs.Inputs.{refusal}
 use Rattle.tl_edits.specs.Log.{inputs_after}
 use Rattle.tl_edits.specs.declared.fault.EditFault.{EditFault}
 use Rattle.tl_edits.specs.declared.fault.EditFault.TheVariants as edit_fault
-use Rattle.tl_jobs.specs.declared.fault.TakeFault.{TakeFault}
-use Rattle.tl_jobs.specs.declared.fault.TakeFault.TheVariants as take_fault
-use Rattle.tl_jobs.specs.declared.job.Job.{Job}
-use Rattle.tl_jobs.specs.declared.job.Done.{Done}
-use Rattle.tl_jobs.specs.declared.job.HandIn.{HandIn}
-use Rattle.tl_jobs.specs.declared.job.HandIn.TheVariants as answer
-use Rattle.tl_jobs.specs.Works.{job_of}
+use Rattle.tl_desk.specs.declared.take_fault.TakeFault.{TakeFault}
+use Rattle.tl_desk.specs.declared.take_fault.TakeFault.TheVariants as take_fault
+use Rattle.tl_desk.specs.declared.job.Job.{Job}
+use Rattle.tl_desk.specs.declared.job.Done.{Done}
+use Rattle.tl_desk.specs.declared.job.HandIn.{HandIn}
+use Rattle.tl_desk.specs.declared.job.HandIn.TheVariants as answer
+use Rattle.tl_desk.specs.Works.{job_of}
 use Rattle.tl_results.specs.Pieces.{IsFirstFree}
 use Rattle.tl_check.specs.Captured.{captures_after}
 use Rattle.tl_check.specs.Output.{ReportData}
 use Rattle.tl_check.specs.States.{SameSpan}
-use Rattle.tl_jobs.specs.Tickets.{most_tickets}
+use Rattle.tl_desk.specs.TicketData.{most_tickets}
 use Rattle.tl_desk.specs.Core.{Core, AllSettled, AreLinked, most_versions, log_of, latest_of, standing}
 use Rattle.tl_desk.specs.Jobs.{Gives, HasFree, HandsBack, TakesBack, IsFirstFreeWatch, IsLive, IsOldestLive, IsOutHere}
 use Rattle.tl_desk.specs.Steps.{Step, hand_in_of}

@@ -1,7 +1,7 @@
 //! Workers, which take windows, check them, and hand them in.
 
 ghost use Rattle.std.specs.Prelude.{◌≡◌};
-ghost use Rattle.tl_jobs.specs.Works.{ticket_of, window_of, done_ticket, done_window};
+ghost use Rattle.tl_desk.specs.Works.{ticket_of, window_of, done_ticket, done_window};
 ghost use Rattle.tl_hall.specs.Working.{Worked, WorkedOnce, CameBack, counted, counted_with, nothing_done};
 
 use crate::hall::{Access, Hall, Rights};

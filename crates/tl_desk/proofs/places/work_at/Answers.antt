@@ -1,5 +1,5 @@
 use Rattle.std.proofs.Common.{◌≡◌, refl, sym, ap, subst, ◌∙◌}
-use Rattle.tl_jobs.specs.Works.{job_of}
+use Rattle.tl_desk.specs.Works.{job_of}
 use Rattle.tl_desk.specs.Plays.{AreOut, with_place}
 use Rattle.tl_desk.specs.declared.places.Place.TheVariants as place
 use Rattle.tl_desk.proofs.PlayLemmas.{out_worked, set_twice}

@@ -1,6 +1,6 @@
 use Rattle.std.proofs.Common.{subst}
 use Rattle.std.specs.Prelude.{IfOk, IfErr}
-use Rattle.tl_jobs.specs.Works.{job_of, IsDoneFrom, ComesBack}
+use Rattle.tl_desk.specs.Works.{job_of, IsDoneFrom, ComesBack}
 use Rattle.tl_hall.proofs.Rounds.{came_as}
 use Rattle.tl_hall.proofs.working.check.Goals as goal
 

@@ -1,6 +1,6 @@
 use Rattle.std.proofs.Common.{subst}
-use Rattle.tl_jobs.specs.Works.{done_ticket, done_window, job_of}
-use Rattle.tl_jobs.specs.declared.job.HandIn.TheVariants as answer
+use Rattle.tl_desk.specs.Works.{done_ticket, done_window, job_of}
+use Rattle.tl_desk.specs.declared.job.HandIn.TheVariants as answer
 use Rattle.tl_desk.specs.Steps.{outcome_for}
 use Rattle.tl_hall.specs.Passes.{HandsIn, ComesTo, IsStranger}
 use Rattle.tl_hall.proofs.Rounds.{came_taken, came_void, came_strange}

@@ -1,6 +1,6 @@
 use Rattle.std.proofs.Common.{subst}
 use Rattle.std.specs.Prelude.{OnOk, OnErr}
-use Rattle.tl_jobs.specs.Works.{ticket_of, window_of}
+use Rattle.tl_desk.specs.Works.{ticket_of, window_of}
 use Rattle.tl_desk.specs.declared.call.Call.TheVariants as call
 use Rattle.tl_hall.specs.Passes.{Made, Looked, IsAbandoned, IsStranger}
 use Rattle.tl_hall.proofs.Rounds.{came_abandoned, came_lost}

@@ -1,6 +1,6 @@
 use Rattle.std.proofs.Common.{subst}
 use Rattle.std.specs.Prelude.{IfOk, IfErr, IfSome, IfNone}
-use Rattle.tl_jobs.specs.Works.{ticket_of, window_of}
+use Rattle.tl_desk.specs.Works.{ticket_of, window_of}
 use Rattle.tl_desk.specs.Steps.{take_of, start_for}
 use Rattle.tl_hall.specs.Passes.{Made, Looked, Takes, HasNone, IsUntaken}
 use Rattle.tl_hall.proofs.Rounds.{once_behind, once_none, once_refused}

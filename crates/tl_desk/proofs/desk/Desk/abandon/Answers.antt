@@ -1,5 +1,5 @@
 use Rattle.std.proofs.Common.{refl, sym, subst}
-use Rattle.tl_jobs.specs.Works.{ticket_of, window_of}
+use Rattle.tl_desk.specs.Works.{ticket_of, window_of}
 use Rattle.tl_desk.specs.Steps.{AbandonsPiece}
 use Rattle.tl_desk.proofs.desk.Desk.abandon.Goals as goal
 

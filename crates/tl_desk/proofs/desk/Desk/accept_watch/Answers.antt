@@ -1,6 +1,6 @@
 use Rattle.std.proofs.Common.{◌≡◌, sym, ap, subst, ◌∙◌}
 use Rattle.tl_monitor.specs.Boxes.{brought_back}
-use Rattle.tl_jobs.specs.Monitors.{MonitorJobData}
+use Rattle.tl_desk.specs.MonitorJobs.{MonitorJobData}
 use Rattle.tl_board.specs.Windows.{key_of}
 use Rattle.tl_board.specs.WatchTasks.{WatchTaskData}
 use Rattle.tl_desk.specs.Core.{Core}

@@ -1,7 +1,7 @@
 use Rattle.std.proofs.Common.{◌≡◌, Some, sym, ap, subst}
 use Rattle.std.specs.Option.{option_and_then}
 use Rattle.std.specs.Result.{OnOk}
-use Rattle.tl_jobs.specs.Works.{ticket_of, window_of}
+use Rattle.tl_desk.specs.Works.{ticket_of, window_of}
 use Rattle.tl_desk.specs.Core.{Core}
 use Rattle.tl_desk.specs.Jobs.{IsOutHere, TakesBack}
 use Rattle.tl_desk.specs.Plays.{AreOut, job_at, job_of}

@@ -1,6 +1,6 @@
 use Rattle.std.proofs.Common.{◌≡◌, Some, true, false, sym, ap, subst}
 use Rattle.std.specs.Option.{option_and_then}
-use Rattle.tl_jobs.specs.Works as works
+use Rattle.tl_desk.specs.Works as works
 use Rattle.tl_desk.specs.Core.{Core}
 use Rattle.tl_desk.specs.Plays.{AreOut, job_at, job_of}
 use Rattle.tl_desk.proofs.PlayLemmas.{never_strange, out_handed_in}

@@ -1,8 +1,8 @@
 use Rattle.std.proofs.Common.{sym, ap, subst, ◌∙◌}
-use Rattle.tl_jobs.specs.Jobs.{JobData, piece_of}
+use Rattle.tl_desk.specs.JobData.{JobData, piece_of}
 use Rattle.tl_board.specs.Windows.{key_of}
 use Rattle.tl_board.specs.Tasks.{TaskData}
-use Rattle.tl_jobs.specs.Tickets.{IsOutFor}
+use Rattle.tl_desk.specs.TicketData.{IsOutFor}
 use Rattle.tl_desk.specs.Core.{Core}
 use Rattle.tl_desk.specs.Jobs.{Unmarks, ended, key_for}
 use Rattle.tl_desk.proofs.JobLemmas.{unmarked, unmarked_log, sound_ended}

@@ -1,7 +1,7 @@
 use Rattle.std.proofs.Common.{inl, inr, sym, subst, ◌∙◌}
 use Rattle.tl_results.specs.declared.key.PieceKey.{PieceKey}
 use Rattle.tl_board.specs.Windows.{key_of}
-use Rattle.tl_jobs.specs.Tickets.{IsOutFor}
+use Rattle.tl_desk.specs.TicketData.{IsOutFor}
 use Rattle.tl_desk.specs.Core.{Core}
 use Rattle.tl_desk.specs.Jobs.{IsLive, IsLiveAt, IsLiveAtWatch}
 use Rattle.tl_desk.specs.Tickets.{window_of, watch_window_of}

@@ -1,16 +1,16 @@
 use Rattle.std.proofs.Common.{◌≡◌, ◌+◌, ◌<◌, false, Some, length, nat_le, sym, ap, subst, ◌∙◌, arith}
 use Rattle.std.proofs.lemmas.Bool.Decides.{nat_tests}
 use Rattle.tl_edits.specs.Log.{LogData}
-use Rattle.tl_jobs.specs.Jobs.{JobData}
+use Rattle.tl_desk.specs.JobData.{JobData}
 use Rattle.tl_results.specs.declared.key.PieceKey.{PieceKey}
 use Rattle.tl_results.specs.Pieces.{IsFirstFree}
 use Rattle.tl_check.specs.States.{SameSpan}
 use Rattle.tl_board.specs.Spans.{SpansData}
 use Rattle.tl_board.specs.Tickets.{IsTaskFor}
 use Rattle.tl_board.specs.Windows.{key_of}
-use Rattle.tl_jobs.specs.declared.tickets.Taken.{Taken}
-use Rattle.tl_jobs.specs.declared.piece.Piece.TheVariants as piece
-use Rattle.tl_jobs.specs.Tickets.{TicketsData, most_tickets}
+use Rattle.tl_desk.specs.declared.tickets.Taken.{Taken}
+use Rattle.tl_desk.specs.declared.piece.Piece.TheVariants as piece
+use Rattle.tl_desk.specs.TicketData.{TicketsData, most_tickets}
 use Rattle.tl_board.specs.Watches.{WatchesData}
 use Rattle.tl_desk.specs.Core.{Core, log_of}
 use Rattle.tl_desk.specs.Jobs.{Takes, given, key_for, marked, with_spans}

@@ -2,15 +2,15 @@ use Rattle.std.proofs.Common.{◌≡◌, ◌+◌, ◌<◌, false, Some, None, le
 use Rattle.std.proofs.lemmas.Bool.Decides.{nat_tests}
 use Rattle.tl_monitor.specs.Boxes.{BoxesData, held_at, taken_at}
 use Rattle.tl_edits.specs.Log.{LogData}
-use Rattle.tl_jobs.specs.Monitors.{MonitorJobData}
+use Rattle.tl_desk.specs.MonitorJobs.{MonitorJobData}
 use Rattle.tl_monitor.specs.Held.{Held}
 use Rattle.tl_results.specs.declared.key.PieceKey.{PieceKey}
 use Rattle.tl_results.specs.Pieces.{IsFirstFree}
 use Rattle.tl_check.specs.States.{SameSpan}
 use Rattle.tl_board.specs.Spans.{SpansData}
 use Rattle.tl_board.specs.Windows.{key_of}
-use Rattle.tl_jobs.specs.declared.tickets.Taken.{Taken}
-use Rattle.tl_jobs.specs.Tickets.{TicketsData, most_tickets}
+use Rattle.tl_desk.specs.declared.tickets.Taken.{Taken}
+use Rattle.tl_desk.specs.TicketData.{TicketsData, most_tickets}
 use Rattle.tl_board.specs.Outside.{IsWatchTaskFor}
 use Rattle.tl_board.specs.WatchTasks.{WatchWindowData, with_monitor, without_monitor}
 use Rattle.tl_board.specs.Watches.{WatchesData}

@@ -1,7 +1,7 @@
 use Rattle.std.proofs.Common.{◌≡◌, ap, sym, ◌∙◌, subst, true, false}
-use Rattle.tl_jobs.specs.Works.{done_ticket, done_window}
+use Rattle.tl_desk.specs.Works.{done_ticket, done_window}
 use Rattle.tl_desk.specs.Steps.{hand_in_of, outcome_for}
-use Rattle.tl_jobs.specs.declared.job.HandIn.TheVariants as answer
+use Rattle.tl_desk.specs.declared.job.HandIn.TheVariants as answer
 use Rattle.tl_desk.specs.declared.call.Call.{Call}
 use Rattle.tl_desk.specs.declared.call.Call.TheVariants as call
 use Rattle.tl_hall.specs.History.{Leads}

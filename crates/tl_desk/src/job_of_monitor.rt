@@ -1,7 +1,7 @@
 //! Jobs on windows of monitors.
 
 ghost use Rattle.std.specs.Prelude.{◌≡◌, IfOk, IfErr};
-ghost use Rattle.tl_jobs.specs.Monitors.{monitor_piece, IsMonitorDone, SameJob};
+ghost use Rattle.tl_desk.specs.MonitorJobs.{monitor_piece, IsMonitorDone, SameJob};
 ghost use Rattle.tl_results.specs.Marks.{pass_of};
 
 use crate::Piece;
@@ -18,7 +18,7 @@ pub struct MonitorJob<M: Monitor> {
 }
 
 impl<M: Monitor> Model for MonitorJob<M> {
-    ghost use Rattle.tl_jobs.specs.Monitors.{MonitorJobData};
+    ghost use Rattle.tl_desk.specs.MonitorJobs.{MonitorJobData};
 
     ghost Value = { MonitorJobData };
 
@@ -78,7 +78,7 @@ pub struct MonitorDone<M: Monitor> {
 }
 
 impl<M: Monitor> Model for MonitorDone<M> {
-    ghost use Rattle.tl_jobs.specs.Monitors.{MonitorDoneData, IsMonitorDone};
+    ghost use Rattle.tl_desk.specs.MonitorJobs.{MonitorDoneData, IsMonitorDone};
     ghost use Rattle.tl_results.specs.Marks.{pass_of};
 
     ghost Value = { MonitorDoneData };

@@ -1,8 +1,8 @@
 //! Why no job is given.
 
 ghost use Rattle.std.specs.Prelude.{◌≡◌};
-ghost use Rattle.tl_jobs.specs.Faults.{take_code};
-ghost use Rattle.tl_jobs.specs.declared.fault.TakeFault.TheVariants.{Memory};
+ghost use Rattle.tl_desk.specs.TakeFaults.{take_code};
+ghost use Rattle.tl_desk.specs.declared.take_fault.TakeFault.TheVariants.{Memory};
 
 use std::alloc::{AllocError, AllocFailed};
 use thiserror::Error;

@@ -1,11 +1,11 @@
 //! Jobs, and the check of one.
 
 ghost use Rattle.std.specs.Prelude.{◌≡◌, IfOk, IfErr};
-ghost use Rattle.tl_jobs.specs.Works.{ticket_of, window_of, done_ticket, done_window, job_of, IsChecked, IsDoneFrom, ComesBack};
+ghost use Rattle.tl_desk.specs.Works.{ticket_of, window_of, done_ticket, done_window, job_of, IsChecked, IsDoneFrom, ComesBack};
 
 use crate::Piece;
-use crate::manager::{ManagerDone, ManagerJob, work_manager};
-use crate::monitor::{MonitorDone, MonitorJob, work_monitor};
+use crate::job_of_manager::{ManagerDone, ManagerJob, work_manager};
+use crate::job_of_monitor::{MonitorDone, MonitorJob, work_monitor};
 use std::alloc::Global;
 use tl_monitor::Monitor;
 

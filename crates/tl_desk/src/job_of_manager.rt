@@ -1,7 +1,7 @@
 //! Jobs on windows of managers.
 
 ghost use Rattle.std.specs.Prelude.{◌≡◌, IfOk, IfErr};
-ghost use Rattle.tl_jobs.specs.Jobs.{piece_of, IsDone};
+ghost use Rattle.tl_desk.specs.JobData.{piece_of, IsDone};
 ghost use Rattle.tl_results.specs.Marks.{pass_of};
 
 use crate::Piece;
@@ -19,7 +19,7 @@ pub struct ManagerJob {
 
 impl Model for ManagerJob {
     ghost use Rattle.std.specs.Coded.{codes};
-    ghost use Rattle.tl_jobs.specs.Jobs.{JobData};
+    ghost use Rattle.tl_desk.specs.JobData.{JobData};
     ghost use Rattle.tl_check.specs.contracts.state.SpanState as state;
 
     ghost Value = { JobData };
@@ -73,7 +73,7 @@ pub struct ManagerDone {
 
 impl Model for ManagerDone {
     ghost use Rattle.std.specs.Coded.{codes};
-    ghost use Rattle.tl_jobs.specs.Jobs.{DoneData, IsDone};
+    ghost use Rattle.tl_desk.specs.JobData.{DoneData, IsDone};
     ghost use Rattle.tl_results.specs.Marks.{pass_of};
     ghost use Rattle.tl_check.specs.contracts.state.SpanState as state;
 

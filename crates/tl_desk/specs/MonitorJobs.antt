@@ -2,8 +2,8 @@
 use Rattle.std.specs.Prelude.{ℕ, ◌≡◌, List}
 use Rattle.tl_beats.specs.declared.Row.{Row}
 use Rattle.tl_results.specs.Pieces.{Pass}
-use Rattle.tl_jobs.specs.declared.piece.Piece.{Piece}
-use Rattle.tl_jobs.specs.declared.piece.Piece.TheVariants as piece
+use Rattle.tl_desk.specs.declared.piece.Piece.{Piece}
+use Rattle.tl_desk.specs.declared.piece.Piece.TheVariants as piece
 use Rattle.tl_board.specs.declared.tally.Tally.{Tally}
 use Rattle.tl_board.specs.WatchTasks.{WatchTaskData, IsWatchPassOf, SameButTally, LeavesTally}
 

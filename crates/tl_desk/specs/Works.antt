@@ -1,12 +1,12 @@
 -- Jobs on windows of managers and of monitors.
 use Rattle.std.specs.Prelude.{ℕ, ◌≡◌}
-use Rattle.tl_jobs.specs.Jobs.{piece_of, IsDone}
-use Rattle.tl_jobs.specs.Monitors.{monitor_piece, SameJob, IsMonitorDone}
-use Rattle.tl_jobs.specs.declared.job.Job.{Job}
-use Rattle.tl_jobs.specs.declared.job.Job.TheVariants as job
-use Rattle.tl_jobs.specs.declared.job.Done.{Done}
-use Rattle.tl_jobs.specs.declared.job.Done.TheVariants as done
-use Rattle.tl_jobs.specs.declared.piece.Piece.{Piece}
+use Rattle.tl_desk.specs.JobData.{piece_of, IsDone}
+use Rattle.tl_desk.specs.MonitorJobs.{monitor_piece, SameJob, IsMonitorDone}
+use Rattle.tl_desk.specs.declared.job.Job.{Job}
+use Rattle.tl_desk.specs.declared.job.Job.TheVariants as job
+use Rattle.tl_desk.specs.declared.job.Done.{Done}
+use Rattle.tl_desk.specs.declared.job.Done.TheVariants as done
+use Rattle.tl_desk.specs.declared.piece.Piece.{Piece}
 
 module _ {M : Type 0} where
   -- The number of its ticket, and whose window it is.

@@ -4,8 +4,8 @@ use Rattle.tl_beats.specs.declared.Row.{Row}
 use Rattle.tl_results.specs.Pieces.{Pass}
 use Rattle.tl_check.specs.declared.state.SpanState.{SpanState}
 use Rattle.tl_board.specs.Tasks.{TaskData, IsPassOf}
-use Rattle.tl_jobs.specs.declared.piece.Piece.{Piece}
-use Rattle.tl_jobs.specs.declared.piece.Piece.TheVariants as piece
+use Rattle.tl_desk.specs.declared.piece.Piece.{Piece}
+use Rattle.tl_desk.specs.declared.piece.Piece.TheVariants as piece
 
 -- A window that is out, with the number of its ticket.
 pub record JobData : Type 0 where

@@ -5,7 +5,7 @@ ghost use Rattle.std.specs.Bool.{Decides};
 ghost use Rattle.std.specs.Ordering.{nat_cmp};
 ghost use Rattle.std.specs.BTreeMap.{insert_entry, is_at};
 ghost use Rattle.std.specs.Map.{remove_entry};
-ghost use Rattle.tl_jobs.specs.Tickets.{taken_at, most_tickets, IsOutFor, AreTickets};
+ghost use Rattle.tl_desk.specs.TicketData.{taken_at, most_tickets, IsOutFor, AreTickets};
 
 use crate::piece::Piece;
 use std::alloc::{AllocError, Global};
@@ -32,7 +32,7 @@ pub struct Tickets {
 }
 
 impl Model for Tickets {
-    ghost use Rattle.tl_jobs.specs.Tickets.{TicketsData, AreTickets};
+    ghost use Rattle.tl_desk.specs.TicketData.{TicketsData, AreTickets};
 
     ghost Value = { TicketsData };
 

@@ -1,5 +1,0 @@
-pub mod Tickets
-pub mod Faults
-pub mod Jobs
-pub mod Monitors
-pub mod Works

@@ -9,7 +9,7 @@ use std::alloc::Global;
 use std::marker::Model;
 use tl_text::{ByteIn, TextFault};
 
-/// How many bytes are asked for at once.
+/// How many bytes are asked for at once, for each thread that parses them.
 const CHUNK: usize = 65_536;
 
 /// The bytes of an input that were read, but for those that are done with.
@@ -18,6 +18,10 @@ pub struct Ahead {
     bytes: Vec<u8>,
     // Where they begin.
     start: usize,
+    // Where a read puts what it brings.
+    room: Vec<u8>,
+    // How many threads parse beside the one that reads.
+    workers: u8,
 }
 
 impl Model for Ahead {
@@ -35,9 +39,18 @@ impl Ahead {
     pub fn new(alloc: Global) -> Ahead
         ensures { result ≡ [] }
     {
+        Ahead::with_workers(alloc, 0)
+    }
+
+    /// No bytes, of an input of which one read asks for more, so that there is enough for so many threads beside the one that reads.
+    pub fn with_workers(alloc: Global, workers: u8) -> Ahead
+        ensures { result ≡ [] }
+    {
         Ahead {
             bytes: Vec::new(alloc),
             start: 0,
+            room: Vec::new(alloc),
+            workers,
         }
     }
 
@@ -64,12 +77,14 @@ impl Ahead {
     {
         self.bytes.drain(..self.start);
         self.start = 0;
-        let mut chunk = [0u8; CHUNK];
-        match input.read(&mut chunk) {
+        if self.room.is_empty() {
+            self.room.resize(CHUNK * (usize::from(self.workers) + 1), 0)?;
+        }
+        match input.read(&mut self.room) {
             Err(_) => Err(TextFault::ReadFault),
             Ok(0) => Ok(true),
             Ok(taken) => {
-                self.bytes.extend_from_slice(&chunk[..taken])?;
+                self.bytes.extend_from_slice(&self.room[..taken])?;
                 Ok(false)
             }
         }

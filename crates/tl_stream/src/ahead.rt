@@ -12,16 +12,43 @@ use tl_text::{ByteIn, TextFault};
 /// How many bytes are asked for at once, for each thread that parses them.
 const CHUNK: usize = 65_536;
 
+/// Reads once more into room and puts what came after these bytes, and answers whether that was the end. ReadFault where the read
+/// fails, Memory where memory is refused.
+fn read_once<I: ByteIn>(
+    bytes: &mut Vec<u8>,
+    room: &mut [u8],
+    input: &mut I,
+) -> Result<bool, TextFault>
+    requires room { 0 < length room.old }
+    requires reads { I.read_count input.old < 2 ^ 63 }
+    requires failures { I.failure_count input.old < 2 ^ 63 }
+    ensures kept { OnOk result (Keeps (all_left bytes.old.items (I.remaining input.old)) (all_left bytes.new.items (I.remaining input.new))) }
+    ensures grown { OnOk result (length bytes.old.items ≤ length bytes.new.items) }
+    ensures end { IfOk result (λ is_end. is_end ≡ true → IsAtEnd (I.remaining input.new)) }
+    ensures quiet { OnOk result (I.failure_count input.new ≡ I.failure_count input.old) }
+    ensures counted { I.read_count input.new ≡ I.read_count input.old + 1 }
+    ensures unread { IsErrOf result TextFault.ReadFault → (bytes.new.items ≡ bytes.old.items) × Keeps (I.remaining input.old) (I.remaining input.new)
+        × (I.failure_count input.new ≡ I.failure_count input.old + 1) }
+    ensures faults { IsErrOf result TextFault.TooLong → ⊥ }
+{
+    match input.read(room) {
+        Err(_) => Err(TextFault::ReadFault),
+        Ok(0) => Ok(true),
+        Ok(taken) => {
+            bytes.extend_from_slice(&room[..taken])?;
+            Ok(false)
+        }
+    }
+}
+
 /// The bytes of an input that were read, but for those that are done with.
 #[derive(Drop)]
 pub struct Ahead {
     bytes: Vec<u8>,
     // Where they begin.
     start: usize,
-    // Where a read puts what it brings.
+    // Where a read puts what it brings, where that is more than a chunk.
     room: Vec<u8>,
-    // How many threads parse beside the one that reads.
-    workers: u8,
 }
 
 impl Model for Ahead {
@@ -42,15 +69,18 @@ impl Ahead {
         Ahead::with_workers(alloc, 0)
     }
 
-    /// No bytes, of an input of which one read asks for more, so that there is enough for so many threads beside the one that reads.
+    /// No bytes. One read asks for so many more that so many threads can parse beside the one that reads, if memory is there.
     pub fn with_workers(alloc: Global, workers: u8) -> Ahead
         ensures { result ≡ [] }
     {
+        let mut room = Vec::new(alloc);
+        if workers > 0 {
+            let _ = room.resize(CHUNK * (usize::from(workers) + 1), 0);
+        }
         Ahead {
             bytes: Vec::new(alloc),
             start: 0,
-            room: Vec::new(alloc),
-            workers,
+            room,
         }
     }
 
@@ -78,15 +108,9 @@ impl Ahead {
         self.bytes.drain(..self.start);
         self.start = 0;
         if self.room.is_empty() {
-            self.room.resize(CHUNK * (usize::from(self.workers) + 1), 0)?;
-        }
-        match input.read(&mut self.room) {
-            Err(_) => Err(TextFault::ReadFault),
-            Ok(0) => Ok(true),
-            Ok(taken) => {
-                self.bytes.extend_from_slice(&self.room[..taken])?;
-                Ok(false)
-            }
+            read_once(&mut self.bytes, &mut [0u8; CHUNK], input)
+        } else {
+            read_once(&mut self.bytes, &mut self.room, input)
         }
     }
 

@@ -9,10 +9,7 @@ use Rattle.tl_stream.specs.Feeds.{all_left, Gives}
 
 -- What was kept is given.
 pub kept_gives : (old kept new : Option (List ℕ)) (next : Option Frag) → Keeps old kept → Gives kept new next → Gives old new next
-kept_gives None kept new None keeps gives = (tt, kept_ends kept new keeps gives)
-  where
-    kept_ends : (kept new : Option (List ℕ)) → Keeps None kept → Gives kept new None → IsAtEnd new
-    kept_ends kept new keeps gives = gives.1
+kept_gives None kept new None keeps gives = (tt, gives.1)
 kept_gives None kept new (Some f) keeps gives = tt
 kept_gives (Some xs) None new next keeps gives = absurd keeps
 kept_gives (Some xs) (Some ys) new next keeps gives = subst (λ (t : List ℕ). Gives (Some t) new next) keeps gives

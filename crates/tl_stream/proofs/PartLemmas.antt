@@ -6,7 +6,11 @@ use Rattle.std.proofs.lemmas.Grind.{flat_map-append}
 use Rattle.std.specs.Option.{is_some}
 use Rattle.std.proofs.Math.Nat.{zero-mul, one-mul, add-mul}
 use Rattle.std.proofs.lemmas.Nat.{div-add-mod', mod_below}
-use Rattle.std.proofs.lemmas.List.{append_assoc, take_all, take-append-drop, drop_more}
+use Rattle.std.proofs.lemmas.Bool.Decides.{nat_tests}
+use Rattle.std.specs.Result.{IsErrOf}
+use Rattle.std.proofs.lemmas.List.{append-nil, append_assoc, take_all, take_more, take-append-drop, drop_more}
+use Rattle.tl_text.specs.Readings.{Gives}
+use Rattle.tl_beats.specs.Faults.{is_memory}
 use Rattle.std.proofs.Math.Seq.{take-add, drop-append_seam}
 use Rattle.tl_text.specs.Words.{lines_of}
 use Rattle.tl_beats.specs.Fragments.{Frag}
@@ -18,8 +22,11 @@ use Rattle.tl_beats.proofs.FragmentTexts.{whole_takes}
 use Rattle.tl_stream.specs.Parts.{reading, read_first, read_texts, joined_texts, AreParsed, ArePartsParsed, BeginsWith}
 use Rattle.tl_stream.specs.declared.parsers.Parsed.{Parsed}
 
-abbrev Outcome : Type 0
+abbrev pub Outcome : Type 0
 Outcome = List Frag × Option FragmentFault
+
+abbrev pub outcome_of : List Frag → Option FragmentFault → Outcome
+outcome_of fs e = (fs, e)
 
 -- The text that is read as a fragment is that of the fragment.
 reading_found : (text : List ℕ) (f : Frag) → reading text ≡ Ok f → text ≡ fragment_text f
@@ -27,6 +34,14 @@ reading_found text f = elim (nat_lt 8388608 (length text)) as (λ t. (if t then 
   | true ↦ λ h. (let wrong : ◌≡◌ {A = Result Frag FragmentFault} (Err fault.TooLong) (Ok f) = h in cc)
   | false ↦ λ h. whole_takes text f h
 ]
+
+-- What is read of a text, by what parsing it says.
+pub reading_gives : (text : List ℕ) (result : Result Frag FragmentFault) → (length text ≤ 8388608 → Gives is_memory (λ (f : Frag). f) result (whole_fragment_in (lines_of text)))
+    → (8388608 < length text → IsErrOf result fault.TooLong) → Gives is_memory (λ (f : Frag). f) result (reading text)
+reading_gives text result short long = elim (nat_lt 8388608 (length text)) as (λ t. nat_lt 8388608 (length text) ≡ t → Gives is_memory (λ (f : Frag). f) result (if t then Err fault.TooLong else whole_fragment_in (lines_of text))) [
+  | true ↦ λ h. (let more : 8388608 < length text = grind (arith, nat_tests) in subst (λ (r : Result Frag FragmentFault). Gives is_memory (λ (f : Frag). f) r (Err fault.TooLong)) (sym (long more)) (λ none. refl))
+  | false ↦ λ h. (let most : length text ≤ 8388608 = grind (arith, nat_tests) in short most)
+] refl
 
 first_joins : (r : Result Frag FragmentFault) (here after whole : Outcome) → (read_first r here).1 ≡ None → (here.1 ≡ None → whole ≡ (here.0 ++ after.0, after.1)) → read_first r whole ≡ ((read_first r here).0 ++ after.0, after.1)
 first_joins (Ok f) here after whole none go = ap (λ (w : Outcome). read_first (Ok f) w) (go none)
@@ -126,8 +141,45 @@ module _ {A : Type 0} where
       → read_texts (texts ++ text ∷ []) ≡ (fs ++ (read_first r ([], None)).0, (read_first r ([], None)).1)
   unfolding read_texts
   one_text texts text fs r before is =
-      texts_join texts (text ∷ []) (ap (λ (w : Outcome). w.1) before) ∙ ap (λ (w : Outcome). (w.0 ++ (read_texts (text ∷ [])).0, (read_texts (text ∷ [])).1)) before
-      ∙ ap (λ (q : Result Frag FragmentFault). (fs ++ (read_first q ([], None)).0, (read_first q ([], None)).1)) is
+      texts_join texts (text ∷ []) (ap (λ (w : Outcome). w.1) before) ∙ ap (λ (w : Outcome). outcome_of (w.0 ++ (read_texts (text ∷ [])).0) (read_texts (text ∷ [])).1) before
+      ∙ ap (λ (q : Result Frag FragmentFault). outcome_of (fs ++ (read_first q ([], None)).0) (read_first q ([], None)).1) is
+
+  -- Bytes begin with the texts that stand before a place.
+  pub begins_with : (bytes : List ℕ) (texts : List (Vec ℕ A)) (start : ℕ) → joined_texts texts ≡ take start bytes → BeginsWith bytes texts
+  begins_with bytes texts start taken = (drop start bytes, sym (take-append-drop start bytes) ∙ ap (λ (t : List ℕ). t ++ drop start bytes) (sym taken))
+
+  -- the bytes of one text more
+  pub text_taken : (bytes : List ℕ) (texts : List (Vec ℕ A)) (text : Vec ℕ A) (start place : ℕ) → joined_texts texts ≡ take start bytes → start ≤ place → text.items ≡ take (place - start) (drop start bytes)
+      → joined_texts (texts ++ text ∷ []) ≡ take place bytes
+  text_taken bytes texts text start place before order is =
+      let all : start + (place - start) ≡ place = omega (arith, order) in
+      flat_map-append (λ (t : Vec ℕ A). t.items) texts (text ∷ []) ∙ ap (λ (t : List ℕ). joined_texts texts ++ t) (append-nil text.items ∙ is)
+      ∙ ap (λ (t : List ℕ). t ++ take (place - start) (drop start bytes)) before ∙ sym (take-add start (place - start) bytes) ∙ ap (λ (k : ℕ). take k bytes) all
+
+  pub text_counted : (texts : List (Vec ℕ A)) (i : ℕ) (text : Vec ℕ A) → i < length texts → get_or texts i text ≡ text → length (joined_texts (take (i + 1) texts)) ≡ length (joined_texts (take i texts)) + length text.items
+  text_counted texts i text below is =
+      let more : take (i + 1) texts ≡ take i texts ++ text ∷ [] = take_more texts i text below ∙ ap (λ (t : Vec ℕ A). take i texts ++ t ∷ []) is in
+      ap (λ (ts : List (Vec ℕ A)). length (joined_texts ts)) more ∙ ap length (flat_map-append (λ (t : Vec ℕ A). t.items) (take i texts) (text ∷ []))
+      ∙ length-append (joined_texts (take i texts)) (joined_texts (text ∷ [])) ∙ ap (λ (t : List ℕ). length (joined_texts (take i texts)) + length t) (append-nil text.items)
+
+  pub counted_within : (texts : List (Vec ℕ A)) (n : ℕ) → length (joined_texts (take n texts)) ≤ length (joined_texts texts)
+  counted_within texts n =
+      let split : length (joined_texts texts) ≡ length (joined_texts (take n texts)) + length (joined_texts (drop n texts)) =
+          ap length (joined_split n texts) ∙ length-append (joined_texts (take n texts)) (joined_texts (drop n texts)) in
+      omega (arith, split)
+
+  -- one text more of those that are read
+  pub text_read : (texts : List (Vec ℕ A)) (i : ℕ) (text : Vec ℕ A) (fs : List Frag) (r : Result Frag FragmentFault) → i < length texts → get_or texts i text ≡ text → read_texts (take i texts) ≡ (fs, None) → reading text.items ≡ r
+      → read_texts (take (i + 1) texts) ≡ (fs ++ (read_first r ([], None)).0, (read_first r ([], None)).1)
+  text_read texts i text fs r below is before found =
+      ap (λ (ts : List (Vec ℕ A)). read_texts ts) (take_more texts i text below ∙ ap (λ (t : Vec ℕ A). take i texts ++ t ∷ []) is) ∙ one_text (take i texts) text fs r before found
+
+  -- A text that is none is the last that is read.
+  pub text_stops : (texts : List (Vec ℕ A)) (i : ℕ) (text : Vec ℕ A) (fs : List Frag) (e : FragmentFault) → i < length texts → get_or texts i text ≡ text → read_texts (take i texts) ≡ (fs, None) → reading text.items ≡ Err e
+      → read_texts texts ≡ (fs, Some e)
+  text_stops texts i text fs e below is before found =
+      let here : read_texts (take (i + 1) texts) ≡ (fs, Some e) = text_read texts i text fs (Err e) below is before found ∙ ap (λ (l : List Frag). outcome_of l (Some e)) (append-nil fs) in
+      ap (λ (ts : List (Vec ℕ A)). read_texts ts) (sym (take-append-drop (i + 1) texts)) ∙ texts_stop (take (i + 1) texts) (drop (i + 1) texts) e (ap (λ (w : Outcome). w.1) here) ∙ here
 
   module _ {E : Type 0} (texts : List (Vec ℕ A)) (share : ℕ) (parts : List (Result Parsed E)) where
     -- The first parts came to this, and these are left.
@@ -153,14 +205,14 @@ module _ {A : Type 0} where
             ap (λ (k : ℕ). take k texts) (add-mul n 1 share ∙ ap (λ (k : ℕ). n * share + k) (one-mul share)) ∙ take-add (n * share) share texts in
         (n + 1, omega (arith, below), tail,
           ap (λ (ts : List (Vec ℕ A)). read_texts ts) front ∙ texts_join (take (n * share) texts) chunk (ap (λ (w : Outcome). w.1) before.3)
-          ∙ ap (λ (w : Outcome). (w.0 ++ (read_texts chunk).0, (read_texts chunk).1)) before.3 ∙ ap (λ (w : Outcome). (fs ++ w.0, w.1)) own)
+          ∙ ap (λ (w : Outcome). outcome_of (w.0 ++ (read_texts chunk).0) (read_texts chunk).1) before.3 ∙ ap (λ (w : Outcome). outcome_of (fs ++ w.0) w.1) own)
 
     -- A part with a fault is the last that counts.
     pub joined_stops : (outcome : Outcome) (left : List (Result Parsed E)) → HasJoined left outcome → is_some outcome.1 ≡ true → read_texts texts ≡ outcome
     joined_stops outcome left before stops =
-        let fault = some_is outcome.1 stops in
+        let found = some_is outcome.1 stops in
         let k : ℕ = before.0 * share in
-        ap (λ (ts : List (Vec ℕ A)). read_texts ts) (sym (take-append-drop k texts)) ∙ texts_stop (take k texts) (drop k texts) fault.0 (ap (λ (w : Outcome). w.1) before.3 ∙ fault.1) ∙ before.3
+        ap (λ (ts : List (Vec ℕ A)). read_texts ts) (sym (take-append-drop k texts)) ∙ texts_stop (take k texts) (drop k texts) found.0 (ap (λ (w : Outcome). w.1) before.3 ∙ found.1) ∙ before.3
 
     pub joined_all : (outcome : Outcome) (left : List (Result Parsed E)) → HasJoined left outcome → length left ≡ 0 → 0 < share → length parts ≡ length texts / share + min 1 (length texts % share) → read_texts texts ≡ outcome
     joined_all outcome left before none some count =

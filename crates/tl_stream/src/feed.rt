@@ -68,7 +68,7 @@ fn whole_texts(alloc: Global, bytes: &[u8]) -> Result<Vec<Vec<u8>>, AllocError>
         if !has_end {
             break;
         }
-        texts.push(bytes[start..place].to_vec(alloc)?)?;
+        texts.push(Vec::from_slice(alloc, &bytes[start..place])?)?;
         start = place;
     }
     Ok(texts)

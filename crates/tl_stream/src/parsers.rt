@@ -71,7 +71,7 @@ fn joined(
 }
 
 /// The threads that parse fragments: the one that asks for them, and so many beside it.
-#[derive(Clone, Copy)]
+#[derive(Drop)]
 pub struct Parsers<'a, R> {
     rt: &'a R,
     workers: u8,

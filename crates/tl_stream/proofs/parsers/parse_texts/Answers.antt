@@ -1,8 +1,12 @@
 use Rattle.std.proofs.Common.{◌≡◌, ◌≤◌, ◌∷◌, ◌++◌, [], length, take, Ok, Err, None, Some, rules, sym, ap, subst, ◌∙◌, arith}
 use Rattle.std.proofs.lemmas.List.{take_all}
 use Rattle.tl_stream.specs.Parts.{read_texts}
-use Rattle.tl_stream.proofs.PartLemmas.{reading_gives, text_read, text_stops}
+use Rattle.tl_stream.proofs.PartLemmas.{outcome_of, reading_gives, text_read, text_stops}
 use Rattle.tl_stream.proofs.parsers.parse_texts.Goals as goal
+
+pub loop-text-init : goal.loop-text-init
+unfolding read_texts
+loop-text-init c = ap (λ fs. outcome_of fs None) (sym c.new-fragments.ensures.items)
 
 pub returns-in-Err : goal.returns-in-Err
 returns-in-Err c =

@@ -6,7 +6,7 @@ _tlcheck() {
     *:once) words='--workers --show --explain-faults --summary --deny --format --rule --link --from --to --waive --help' ;;
     *:run) words='--workers --show --explain-faults --summary --deny --help' ;;
     *:audit) words='--show --explain-faults --summary --deny --format --rule --link --from --to --waive --help' ;;
-    *:stream) words='--setup --show --explain-faults --help' ;;
+    *:stream) words='--workers --setup --show --explain-faults --help' ;;
     *:doctor) words='--explain-faults --help' ;;
     2:help) words='once run audit stream doctor explain' ;;
     2:explain) words="--help $("$1" explain 2> /dev/null | cut -d : -f 1)" ;;

@@ -37,6 +37,7 @@ complete -c tlcheck -n '__fish_seen_subcommand_from audit' -x -l from -d 'Writes
 complete -c tlcheck -n '__fish_seen_subcommand_from audit' -x -l to -d 'Writes only rows of this cycle and those before it'
 complete -c tlcheck -n '__fish_seen_subcommand_from audit' -r -l waive -d 'Leaves out rows that a line of this file accepts: RULE LINK FROM TO and a reason'
 complete -c tlcheck -n '__fish_seen_subcommand_from audit' -s h -l help -d 'Print help'
+complete -c tlcheck -n '__fish_seen_subcommand_from stream' -x -a '(seq 0 16)' -l workers -d 'How many threads parse fragments beside the first, 0 to 16; 0 without this option'
 complete -c tlcheck -n '__fish_seen_subcommand_from stream' -r -l setup -d 'Carries out the commands region and attach of this script before the first beat'
 complete -c tlcheck -n '__fish_seen_subcommand_from stream' -l show -d 'Puts after each row its beat in words and the earlier beat that makes it so'
 complete -c tlcheck -n '__fish_seen_subcommand_from stream' -l explain-faults -d 'Says on standard error what is wrong in a file and what would be right, as at a terminal'

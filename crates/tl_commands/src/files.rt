@@ -7,11 +7,12 @@ use crate::paths::files_of;
 use std::alloc::Global;
 use std::rt::Files;
 use std::sync::Arc;
-use std::thread::{Threads, map_chunks};
+use std::thread::Threads;
 use std::{fs, io};
 use tl_advice::Role;
-use tl_beats::{Fragment, FragmentFault, parse_whole_fragment, read_fragment};
+use tl_beats::{Fragment, FragmentFault, read_fragment};
 use tl_script::read_script;
+use tl_stream::Parsers;
 use tl_text::{CountedReader, TextFault, read_text};
 use tl_topology::{Topo, TopoFault, read_topo};
 
@@ -110,30 +111,20 @@ fn next_round<R: Files + AllocGlobal>(rt: &R, files: &[String]) -> Result<Round,
     Ok(Round { texts, fault: None })
 }
 
-/// The fragments that texts are. The fault is that of the first that is none.
-fn parsed(alloc: Global, texts: &[Vec<u8>]) -> Result<Vec<Arc<Fragment>>, Fault> {
-    let mut fragments = Vec::new(alloc);
-    for text in texts {
-        let fragment = parse_whole_fragment(alloc, text)?;
-        fragments.push(Arc::new(alloc, fragment)?)?;
+/// The fragments that texts are, parsed by several threads. The fault is that of the first that is none.
+fn parsed_beside<R: Threads + Sync + AllocGlobal>(
+    parsers: &Parsers<'_, R>,
+    texts: &[Vec<u8>],
+) -> Result<Vec<Arc<Fragment>>, Fault> {
+    let parsed = parsers.parse(texts)?;
+    if let Some(fault) = parsed.fault {
+        return Err(fault.into());
+    }
+    let mut fragments = Vec::new(parsers.alloc());
+    for fragment in parsed.fragments {
+        fragments.push(Arc::new(parsers.alloc(), fragment)?)?;
     }
     Ok(fragments)
-}
-
-/// The same by so many threads beside this one, each with an equal share of the texts.
-fn parsed_beside<R: Threads + Sync>(
-    rt: &R,
-    alloc: Global,
-    texts: &[Vec<u8>],
-    workers: u8,
-) -> Result<Vec<Arc<Fragment>>, Fault> {
-    let share = texts.len().div_ceil(usize::from(workers) + 1).max(1);
-    let parts = map_chunks(rt, alloc, texts, share, &|_, part| parsed(alloc, part))?;
-    let mut all = Vec::new(alloc);
-    for part in parts {
-        all.append(&mut part?)?;
-    }
-    Ok(all)
 }
 
 /// The fragments of files, parsed by so many threads beside this one, which reads them. The fault is that of the first file that has
@@ -143,12 +134,13 @@ fn fragments_beside<R: Files + Threads + Sync + AllocGlobal>(
     files: &[String],
     workers: u8,
 ) -> Result<Vec<Arc<Fragment>>, Fault> {
+    let parsers = Parsers::new(rt, workers);
     let mut all = Vec::new(rt.alloc());
     let mut rest = files;
     for _ in 0..files.len() {
         let round = next_round(rt, rest)?;
         rest = rest.get(round.texts.len()..).unwrap_or(&[]);
-        all.append(&mut parsed_beside(rt, rt.alloc(), &round.texts, workers)?)?;
+        all.append(&mut parsed_beside(&parsers, &round.texts)?)?;
         if let Some(fault) = round.fault {
             return Err(fault);
         }

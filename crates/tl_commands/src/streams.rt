@@ -11,12 +11,13 @@ use crate::setup::{Setup, setup_of};
 use std::alloc::{AllocError, Global};
 use std::rt::Files;
 use std::sync::Arc;
+use std::thread::Threads;
 use tl_beats::Watch;
 use tl_options::StreamOptions;
 use tl_show::ShownStream;
 use tl_stream::{
-    PlainRows, RowForm, Source, Stream, StreamStop, TellFault, Teller, stream_end, stream_input,
-    stream_sources,
+    Parsers, PlainRows, RowForm, Source, Stream, StreamStop, TellFault, Teller, stream_end,
+    stream_input, stream_sources,
 };
 use tl_text::{ByteIn, ByteOut, CountedReader, write_all};
 
@@ -24,22 +25,24 @@ use tl_text::{ByteIn, ByteOut, CountedReader, write_all};
 type FilesIn<'a, R> = Source<CountedReader<Chain<'a, R>>>;
 
 /// The files that a word stands for as one input, of which the first is opened.
-fn source_of<'a, R: Files + AllocGlobal + Clone + Drop>(
+fn source_of<'a, R: Files + Threads + Sync + AllocGlobal + Clone + Drop>(
     rt: &'a R,
     word: &str,
+    workers: u8,
 ) -> Result<FilesIn<'a, R>, Fault> {
     let chain = Chain::new(rt, files_of(rt, word)?)?;
-    Ok(Source::new(rt.alloc(), CountedReader::new(chain)))
+    Ok(Source::new(&Parsers::new(rt, workers), CountedReader::new(chain)))
 }
 
 /// An input for each word, of which the first files are opened before one is read.
-fn sources_of<'a, R: Files + AllocGlobal + Clone + Drop>(
+fn sources_of<'a, R: Files + Threads + Sync + AllocGlobal + Clone + Drop>(
     rt: &'a R,
     words: &[&str],
+    workers: u8,
 ) -> Result<Vec<FilesIn<'a, R>>, Fault> {
     let mut sources = Vec::new(rt.alloc());
     for word in words {
-        sources.push(source_of(rt, *word)?)?;
+        sources.push(source_of(rt, *word, workers)?)?;
     }
     Ok(sources)
 }
@@ -59,10 +62,16 @@ fn teller_of<'f, F: RowForm>(
 }
 
 /// Streams the inputs of words, or standard input where there is none or `-` alone.
-fn read_all<R: Files + AllocGlobal + Clone + Drop, F: RowForm, I: ByteIn, O: ByteOut, E: ByteOut>(
+fn read_all<
+    R: Files + Threads + Sync + AllocGlobal + Clone + Drop,
+    F: RowForm,
+    I: ByteIn,
+    O: ByteOut,
+    E: ByteOut,
+>(
     rt: &R,
     teller: &mut Teller<'_, F>,
-    words: &[&str],
+    streams: Streams<'_>,
     input: &mut I,
     out: &mut O,
     err: &mut E,
@@ -72,11 +81,12 @@ fn read_all<R: Files + AllocGlobal + Clone + Drop, F: RowForm, I: ByteIn, O: Byt
     ensures quiet { OnOk result (O.failure_count out.new ≡ O.failure_count out.old) }
     ensures err { E.failure_count err.new < 2 ^ 63 }
 {
-    match words {
-        [] | ["-"] => Ok(stream_input(rt.alloc(), teller, input, out, err)?),
-        _ => {
-            let mut sources = sources_of(rt, words)?;
-            Ok(stream_sources(rt.alloc(), teller, &mut sources, out, err)?)
+    let parsers = Parsers::new(rt, streams.workers);
+    match streams.words {
+        [] | ["-"] => Ok(stream_input(&parsers, teller, input, out, err)?),
+        words => {
+            let mut sources = sources_of(rt, words, streams.workers)?;
+            Ok(stream_sources(&parsers, teller, &mut sources, out, err)?)
         }
     }
 }
@@ -99,7 +109,7 @@ fn ended<R: Files + AllocGlobal, F: RowForm, O: ByteOut>(
 
 /// The streams of a command in a form, after its setup.
 fn stream_in_form<
-    R: Files + AllocGlobal + Clone + Drop,
+    R: Files + Threads + Sync + AllocGlobal + Clone + Drop,
     F: RowForm,
     I: ByteIn,
     O: ByteOut,
@@ -117,7 +127,7 @@ fn stream_in_form<
     ensures { E.failure_count err.new < 2 ^ 63 }
 {
     write_all(out, streams.refused.as_bytes())?;
-    let stop = read_all(rt, &mut teller, streams.words, input, out, err)?;
+    let stop = read_all(rt, &mut teller, streams, input, out, err)?;
     Ok(ended(rt, teller, stop, streams.told, out)?)
 }
 
@@ -126,6 +136,8 @@ fn stream_in_form<
 struct Streams<'a> {
     /// The words that name the inputs.
     words: &'a [&'a str],
+    /// How many threads parse fragments beside the first.
+    workers: u8,
     /// The lines of the refused commands of the setup.
     refused: &'a str,
     /// The lines before the last one.
@@ -133,9 +145,15 @@ struct Streams<'a> {
 }
 
 /// Streams the fragments of files, or of standard input where none is named or `-` alone, and writes each row once it is certain. A
-/// word is one input: its file, or the files of a folder or of a list one after another. The fault of the topology, of the setup, or
-/// of the first file of an input that can't be opened; want of memory, or a write that fails.
-pub fn stream_of_files<R: Files + AllocGlobal + Clone + Drop, I: ByteIn, O: ByteOut, E: ByteOut>(
+/// word is one input: its file, or the files of a folder or of a list one after another. With workers, so many threads parse fragments
+/// beside this one. The fault of the topology, of the setup, or of the first file of an input that can't be opened; want of memory, or
+/// a write that fails.
+pub fn stream_of_files<
+    R: Files + Threads + Sync + AllocGlobal + Clone + Drop,
+    I: ByteIn,
+    O: ByteOut,
+    E: ByteOut,
+>(
     rt: &R,
     topology: &str,
     options: &StreamOptions<'_>,
@@ -157,6 +175,7 @@ pub fn stream_of_files<R: Files + AllocGlobal + Clone + Drop, I: ByteIn, O: Byte
     } = setup_of(rt, &topo, options.setup)?;
     let streams = Streams {
         words: &options.inputs,
+        workers: options.workers,
         refused: refused.as_str(),
         told: settlements.as_str(),
     };

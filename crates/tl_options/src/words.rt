@@ -44,6 +44,8 @@ pub struct StreamOptions<'a> {
     pub show: bool,
     /// Whether faults are told in sentences.
     pub explain_faults: bool,
+    /// How many threads parse fragments beside the first, 0 to 16.
+    pub workers: u8,
 }
 
 /// What the words ask for.
@@ -296,6 +298,10 @@ fn stream<'a>(alloc: Global) -> Draft<'a> {
     described(alloc, "stream", about, STREAM_EXAMPLE)
         .arg(topology(alloc))
         .arg(inputs(alloc))
+        .arg(workers(
+            alloc,
+            "How many threads parse fragments beside the first, 0 to 16; 0 without this option",
+        ))
         .arg(stream_setup(alloc))
         .arg(show(alloc))
         .arg(explain_faults(alloc))
@@ -401,6 +407,7 @@ fn stream_asked<'a>(alloc: Global, found: &ArgMatches<'a>) -> Result<Command<'a>
             setup: found.get_str("setup"),
             show: found.get_flag("show"),
             explain_faults: found.get_flag("explain-faults"),
+            workers: workers_of(found),
         },
     })
 }

@@ -1,4 +1,6 @@
 pub mod FrontLemmas
+pub mod PartLemmas
+pub mod FeedLemmas
 pub mod BeatLemmas
 pub mod CourseLemmas
 pub mod StreamLemmas

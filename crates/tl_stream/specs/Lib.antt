@@ -5,4 +5,5 @@ pub mod Courses
 pub mod Streams
 pub mod Laws
 pub mod Feeds
+pub mod Parts
 pub mod Lookouts

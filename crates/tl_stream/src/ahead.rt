@@ -9,8 +9,37 @@ use std::alloc::Global;
 use std::marker::Model;
 use tl_text::{ByteIn, TextFault};
 
-/// How many bytes are asked for at once.
+/// How many bytes are asked for at once, for each thread that parses them.
 const CHUNK: usize = 65_536;
+
+/// Reads once more into room and puts what came after these bytes, and answers whether that was the end. ReadFault where the read
+/// fails, Memory where memory is refused.
+fn read_once<I: ByteIn>(
+    bytes: &mut Vec<u8>,
+    room: &mut [u8],
+    input: &mut I,
+) -> Result<bool, TextFault>
+    requires room { 0 < length room.old }
+    requires reads { I.read_count input.old < 2 ^ 63 }
+    requires failures { I.failure_count input.old < 2 ^ 63 }
+    ensures kept { OnOk result (Keeps (all_left bytes.old.items (I.remaining input.old)) (all_left bytes.new.items (I.remaining input.new))) }
+    ensures grown { OnOk result (length bytes.old.items ≤ length bytes.new.items) }
+    ensures end { IfOk result (λ is_end. is_end ≡ true → IsAtEnd (I.remaining input.new)) }
+    ensures quiet { OnOk result (I.failure_count input.new ≡ I.failure_count input.old) }
+    ensures counted { I.read_count input.new ≡ I.read_count input.old + 1 }
+    ensures unread { IsErrOf result TextFault.ReadFault → (bytes.new.items ≡ bytes.old.items) × Keeps (I.remaining input.old) (I.remaining input.new)
+        × (I.failure_count input.new ≡ I.failure_count input.old + 1) }
+    ensures faults { IsErrOf result TextFault.TooLong → ⊥ }
+{
+    match input.read(room) {
+        Err(_) => Err(TextFault::ReadFault),
+        Ok(0) => Ok(true),
+        Ok(taken) => {
+            bytes.extend_from_slice(&room[..taken])?;
+            Ok(false)
+        }
+    }
+}
 
 /// The bytes of an input that were read, but for those that are done with.
 #[derive(Drop)]
@@ -18,6 +47,8 @@ pub struct Ahead {
     bytes: Vec<u8>,
     // Where they begin.
     start: usize,
+    // Where a read puts what it brings, where that is more than a chunk.
+    room: Vec<u8>,
 }
 
 impl Model for Ahead {
@@ -35,9 +66,21 @@ impl Ahead {
     pub fn new(alloc: Global) -> Ahead
         ensures { result ≡ [] }
     {
+        Ahead::with_workers(alloc, 0)
+    }
+
+    /// No bytes. One read asks for so many more that so many threads can parse beside the one that reads, if memory is there.
+    pub fn with_workers(alloc: Global, workers: u8) -> Ahead
+        ensures { result ≡ [] }
+    {
+        let mut room = Vec::new(alloc);
+        if workers > 0 {
+            let _ = room.resize(CHUNK * (usize::from(workers) + 1), 0);
+        }
         Ahead {
             bytes: Vec::new(alloc),
             start: 0,
+            room,
         }
     }
 
@@ -64,14 +107,10 @@ impl Ahead {
     {
         self.bytes.drain(..self.start);
         self.start = 0;
-        let mut chunk = [0u8; CHUNK];
-        match input.read(&mut chunk) {
-            Err(_) => Err(TextFault::ReadFault),
-            Ok(0) => Ok(true),
-            Ok(taken) => {
-                self.bytes.extend_from_slice(&chunk[..taken])?;
-                Ok(false)
-            }
+        if self.room.is_empty() {
+            read_once(&mut self.bytes, &mut [0u8; CHUNK], input)
+        } else {
+            read_once(&mut self.bytes, &mut self.room, input)
         }
     }
 

@@ -1,87 +1,175 @@
 //! An input of fragments, one text after another.
 
-ghost use Rattle.std.specs.Prelude.{◌≡◌, ◌++◌, ◌+◌, ◌<◌, ◌≤◌, ◌^◌, [], IfOk, OnOk, OnErr, length, true};
+ghost use Rattle.std.specs.Prelude.{◌≡◌, ◌++◌, ◌+◌, ◌<◌, ◌≤◌, ◌^◌, [], ℕ, List, IfOk, OnOk, OnErr, length, true};
+ghost use Rattle.std.specs.List.{flat_map};
 ghost use Rattle.std.specs.Io.KnownBytes.{Keeps, IsAtEnd};
 ghost use Rattle.tl_beats.specs.Text.{fragment_text};
 ghost use Rattle.tl_stream.specs.Feeds.{all_left, Gives};
+ghost use Rattle.tl_stream.specs.Parts.{joined_texts, BeginsWith};
 
 use crate::ahead::Ahead;
-use std::alloc::Global;
+use crate::parsers::Parsers;
+use std::alloc::{AllocError, Global};
+use std::collections::VecDeque;
 use std::marker::Model;
+use std::thread::Threads;
 use tl_beats::{Fragment, FragmentFault, parse_fragment};
 use tl_text::{ByteIn, line};
 
 /// The most bytes of a fragment's text.
 const MOST_BYTES: usize = 8_388_608;
 
-/// The bytes of an input of fragments that were read and that no fragment had.
+/// What was read of an input of fragments and that no fragment had that was taken.
 #[derive(Drop)]
 pub struct Feed {
+    // The fragments that were parsed before they are asked for.
+    parsed: VecDeque<Fragment>,
+    // What comes after them.
     ahead: Ahead,
 }
 
 impl Model for Feed {
-    ghost use Rattle.std.specs.Prelude.{ℕ, List};
+    ghost use Rattle.std.specs.Prelude.{ℕ, List, ◌++◌};
+    ghost use Rattle.std.specs.List.{flat_map};
+    ghost use Rattle.tl_beats.specs.Text.{fragment_text};
 
     ghost Value = { List ℕ };
 
-    ghost view = { λ f. f.ahead };
+    ghost view = { λ f. flat_map fragment_text f.parsed.items ++ f.ahead };
 }
 
-/// Whether a line from a place on is the last of a fragment, and where the line begins that no newline ends.
+/// Whether a line from a place on is the last of a fragment, and the place after it; else where the line begins that no newline ends.
 fn sought(bytes: &[u8], from: usize) -> (bool, usize)
     requires { from ≤ length bytes.now }
-    ensures { result.1 ≤ length bytes.now }
+    ensures after { from ≤ result.1 }
+    ensures within { result.1 ≤ length bytes.now }
 {
     let mut place = from;
     for _ in from..bytes.len() {
         let Some((next, _)) = line(&bytes[place..]) else {
             return (false, place);
         };
-        if next == b"end".as_slice() {
-            return (true, from);
-        }
         place += next.len() + 1;
+        if next == b"end".as_slice() {
+            return (true, place);
+        }
     }
     (false, place)
 }
 
+/// The texts at the front, each up to a line that is the last of a fragment. AllocError where memory is refused.
+fn whole_texts(alloc: Global, bytes: &[u8]) -> Result<Vec<Vec<u8>>, AllocError>
+    ensures { IfOk result (λ texts. BeginsWith bytes.now texts.items) }
+{
+    let mut texts = Vec::new(alloc);
+    let mut start = 0;
+    for _ in 0..bytes.len() {
+        let (has_end, place) = sought(bytes, start);
+        if !has_end {
+            break;
+        }
+        texts.push(Vec::from_slice(alloc, &bytes[start..place])?)?;
+        start = place;
+    }
+    Ok(texts)
+}
+
+/// How many bytes texts have together.
+fn byte_count(texts: &[Vec<u8>]) -> usize
+    requires { length (joined_texts texts.now) < 2 ^ 64 }
+    ensures { result ≡ length (joined_texts texts.now) }
+{
+    let mut count = 0;
+    for text in texts {
+        count += text.len();
+    }
+    count
+}
+
+/// The fragment at the front of what was read.
+fn cut(alloc: Global, ahead: &mut Ahead) -> Result<Fragment, FragmentFault>
+    ensures ok { IfOk result (λ f. ahead.old ≡ fragment_text f ++ ahead.new) }
+    ensures err { OnErr result (ahead.new ≡ ahead.old) }
+{
+    let (fragment, used) = parse_fragment(alloc, ahead.left())?;
+    ahead.pass(used);
+    Ok(fragment)
+}
+
+/// The fragments at the front of what was read, where there are workers, the texts of several are whole: each thread parses its share.
+/// A text that is none ends them. AllocError where memory is refused.
+fn cut_beside<R: Threads + Sync + AllocGlobal>(
+    parsers: &Parsers<'_, R>,
+    ahead: &mut Ahead,
+) -> Result<Vec<Fragment>, AllocError>
+    ensures { IfOk result (λ fs. ahead.old ≡ flat_map fragment_text fs.items ++ ahead.new) }
+{
+    let alloc = parsers.alloc();
+    if parsers.workers() == 0 {
+        return Ok(Vec::new(alloc));
+    }
+    let texts = whole_texts(alloc, ahead.left())?;
+    if texts.len() < 2 {
+        return Ok(Vec::new(alloc));
+    }
+    let parsed = parsers.parse(&texts)?;
+    ahead.pass(byte_count(&texts[..parsed.fragments.len()]));
+    Ok(parsed.fragments)
+}
+
+/// Reads until the text of a fragment is whole at the front, in at most 8,388,610 reads, and answers whether the input was at its end
+/// before. TooLong where that text has more than 8,388,608 bytes, ReadFault where a read fails.
+fn fill<I: ByteIn>(ahead: &mut Ahead, input: &mut I) -> Result<bool, FragmentFault>
+    requires reads { I.read_count input.old < 2 ^ 62 }
+    requires failures { I.failure_count input.old < 2 ^ 63 }
+    ensures kept { OnOk result (Keeps (all_left ahead.old (I.remaining input.old)) (all_left ahead.new (I.remaining input.new))) }
+    ensures end { IfOk result (λ is_end. is_end ≡ true → IsAtEnd (I.remaining input.new)) }
+    ensures quiet { OnOk result (I.failure_count input.new ≡ I.failure_count input.old) }
+    ensures reads { I.read_count input.new ≤ I.read_count input.old + 8388610 }
+{
+    let mut searched = 0;
+    for _ in 0..MOST_BYTES + 2 {
+        let left = ahead.left();
+        let (has_end, next) = sought(&left[..left.len().min(MOST_BYTES)], searched);
+        if has_end {
+            return Ok(false);
+        }
+        if left.len() > MOST_BYTES {
+            return Err(FragmentFault::TooLong);
+        }
+        searched = next;
+        if ahead.read_more(input)? {
+            return Ok(true);
+        }
+    }
+    Err(FragmentFault::TooLong)
+}
+
 impl Feed {
     /// No bytes.
-    pub fn new(alloc: Global) -> Feed
+    pub fn new<R: Threads + Sync + AllocGlobal>(parsers: &Parsers<'_, R>) -> Feed
         ensures { result ≡ [] }
     {
+        let alloc = parsers.alloc();
         Feed {
-            ahead: Ahead::new(alloc),
+            parsed: VecDeque::new(alloc),
+            ahead: Ahead::with_workers(alloc, parsers.workers()),
         }
     }
 
-    /// The bytes that no fragment had.
+    /// What was read after the fragments that were parsed before they are asked for.
     pub(crate) fn left(&self) -> &[u8]
-        ensures { result.now ≡ self.now }
+        ensures { (texts : List ℕ) × (self.now ≡ texts ++ result.now) }
     {
         self.ahead.left()
-    }
-
-    /// Reads once more, and answers whether that was the end.
-    fn read_more<I: ByteIn>(&mut self, input: &mut I) -> Result<bool, FragmentFault>
-        requires reads { I.read_count input.old < 2 ^ 63 }
-        requires failures { I.failure_count input.old < 2 ^ 63 }
-        ensures kept { OnOk result (Keeps (all_left self.old (I.remaining input.old)) (all_left self.new (I.remaining input.new))) }
-        ensures grown { OnOk result (length self.old ≤ length self.new) }
-        ensures end { IfOk result (λ is_end. is_end ≡ true → IsAtEnd (I.remaining input.new)) }
-        ensures quiet { OnOk result (I.failure_count input.new ≡ I.failure_count input.old) }
-        ensures counted { I.read_count input.new ≡ I.read_count input.old + 1 }
-    {
-        Ok(self.ahead.read_more(input)?)
     }
 
     /// The next fragment, read in at most 8,388,610 reads; None where nothing is left. Its fault where what is left does not begin
     /// with the text of a fragment, TooLong where that has more than 8,388,608 bytes, ReadFault where a read fails; then, and at want
     /// of memory, what was read is lost.
-    pub fn next<I: ByteIn>(
+    pub fn next<R: Threads + Sync + AllocGlobal, I: ByteIn>(
         &mut self,
-        alloc: Global,
+        parsers: &Parsers<'_, R>,
         input: &mut I,
     ) -> Result<Option<Fragment>, FragmentFault>
         requires reads { I.read_count input.old < 2 ^ 62 }
@@ -90,36 +178,17 @@ impl Feed {
         ensures quiet { OnOk result (I.failure_count input.new ≡ I.failure_count input.old) }
         ensures reads { I.read_count input.new ≤ I.read_count input.old + 8388610 }
     {
-        let mut searched = 0;
-        let mut is_whole = false;
-        for _ in 0..MOST_BYTES + 2 {
-            let (has_end, next) = sought(self.left(), searched);
-            searched = next;
-            if is_whole && self.left().is_empty() {
-                return Ok(None);
-            }
-            if has_end || is_whole {
-                match self.cut(alloc) {
-                    Ok(fragment) => return Ok(Some(fragment)),
-                    Err(FragmentFault::Truncated(_)) if !is_whole => {}
-                    Err(fault) => return Err(fault),
-                }
-            }
-            if self.left().len() > MOST_BYTES {
-                return Err(FragmentFault::TooLong);
-            }
-            is_whole = self.read_more(input)?;
+        if let Some(fragment) = self.parsed.pop_front() {
+            return Ok(Some(fragment));
         }
-        Err(FragmentFault::TooLong)
-    }
-
-    /// The fragment at the front of what was read.
-    fn cut(&mut self, alloc: Global) -> Result<Fragment, FragmentFault>
-        ensures ok { IfOk result (λ f. self.old ≡ fragment_text f ++ self.new) }
-        ensures err { OnErr result (self.new ≡ self.old) }
-    {
-        let (fragment, used) = parse_fragment(alloc, self.left())?;
-        self.ahead.pass(used);
-        Ok(fragment)
+        let is_end = fill(&mut self.ahead, input)?;
+        self.parsed = VecDeque::from(cut_beside(parsers, &mut self.ahead)?);
+        if let Some(fragment) = self.parsed.pop_front() {
+            return Ok(Some(fragment));
+        }
+        if is_end && self.ahead.left().is_empty() {
+            return Ok(None);
+        }
+        Ok(Some(cut(parsers.alloc(), &mut self.ahead)?))
     }
 }

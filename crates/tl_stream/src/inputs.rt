@@ -4,8 +4,10 @@ ghost use Rattle.std.specs.Prelude.{◌≡◌, ◌<◌, ◌^◌, OnOk};
 
 use crate::feed::Feed;
 use crate::form::RowForm;
+use crate::parsers::Parsers;
 use crate::teller::{TellFault, Teller};
 use std::alloc::Global;
+use std::thread::Threads;
 use tl_beats::{Fragment, FragmentFault};
 use tl_text::{ByteIn, ByteOut, write_all};
 
@@ -43,9 +45,9 @@ struct Place {
 }
 
 impl Place {
-    fn new(alloc: Global) -> Place {
+    fn new<R: Threads + Sync + AllocGlobal>(parsers: &Parsers<'_, R>) -> Place {
         Place {
-            feed: Feed::new(alloc),
+            feed: Feed::new(parsers),
             lines: 0,
         }
     }
@@ -68,8 +70,8 @@ impl Place {
 }
 
 /// Reads the next fragment of an input and writes what comes of it.
-fn take_step<I: ByteIn, F: RowForm, O: ByteOut, E: ByteOut>(
-    alloc: Global,
+fn take_step<R: Threads + Sync + AllocGlobal, I: ByteIn, F: RowForm, O: ByteOut, E: ByteOut>(
+    parsers: &Parsers<'_, R>,
     place: &mut Place,
     input: &mut I,
     teller: &mut Teller<'_, F>,
@@ -84,7 +86,8 @@ fn take_step<I: ByteIn, F: RowForm, O: ByteOut, E: ByteOut>(
     if input.reads() >= MOST_READS || input.failures() >= MOST_READS {
         return Ok(Step::Ended);
     }
-    match place.feed.next(alloc, input) {
+    let alloc = parsers.alloc();
+    match place.feed.next(parsers, input) {
         Ok(Some(fragment)) => {
             let last = fragment.last();
             place.pass(&fragment);
@@ -112,10 +115,10 @@ pub struct Source<I: ByteIn> {
 
 impl<I: ByteIn> Source<I> {
     /// An input of which nothing is read.
-    pub fn new(alloc: Global, input: I) -> Source<I> {
+    pub fn new<R: Threads + Sync + AllocGlobal>(parsers: &Parsers<'_, R>, input: I) -> Source<I> {
         Source {
             input,
-            place: Place::new(alloc),
+            place: Place::new(parsers),
             last: None,
             has_ended: false,
         }
@@ -144,8 +147,14 @@ fn next_of<I: ByteIn>(sources: &[Source<I>]) -> Option<usize> {
 }
 
 /// Streams one input, up to its end or to the first fault of its text.
-pub fn stream_input<I: ByteIn, F: RowForm, O: ByteOut, E: ByteOut>(
-    alloc: Global,
+pub fn stream_input<
+    R: Threads + Sync + AllocGlobal,
+    I: ByteIn,
+    F: RowForm,
+    O: ByteOut,
+    E: ByteOut,
+>(
+    parsers: &Parsers<'_, R>,
     teller: &mut Teller<'_, F>,
     input: &mut I,
     out: &mut O,
@@ -156,9 +165,9 @@ pub fn stream_input<I: ByteIn, F: RowForm, O: ByteOut, E: ByteOut>(
     ensures quiet { OnOk result (O.failure_count out.new ≡ O.failure_count out.old) }
     ensures err { E.failure_count err.new < 2 ^ 63 }
 {
-    let mut place = Place::new(alloc);
+    let mut place = Place::new(parsers);
     for _ in 0..u64::MAX {
-        match take_step(alloc, &mut place, input, teller, out, err)? {
+        match take_step(parsers, &mut place, input, teller, out, err)? {
             Step::Took(_) => {}
             Step::Ended => return Ok(None),
             Step::Stopped(stop) => return Ok(Some(stop)),
@@ -168,8 +177,14 @@ pub fn stream_input<I: ByteIn, F: RowForm, O: ByteOut, E: ByteOut>(
 }
 
 /// Streams several inputs, up to the ends of all or to the first fault of a text.
-pub fn stream_sources<I: ByteIn, F: RowForm, O: ByteOut, E: ByteOut>(
-    alloc: Global,
+pub fn stream_sources<
+    R: Threads + Sync + AllocGlobal,
+    I: ByteIn,
+    F: RowForm,
+    O: ByteOut,
+    E: ByteOut,
+>(
+    parsers: &Parsers<'_, R>,
     teller: &mut Teller<'_, F>,
     sources: &mut [Source<I>],
     out: &mut O,
@@ -185,7 +200,7 @@ pub fn stream_sources<I: ByteIn, F: RowForm, O: ByteOut, E: ByteOut>(
             return Ok(None);
         };
         match take_step(
-            alloc,
+            parsers,
             &mut source.place,
             &mut source.input,
             teller,

@@ -10,6 +10,7 @@ mod front;
 mod inputs;
 pub mod laws;
 mod lookout;
+mod parsers;
 mod stream;
 mod teller;
 
@@ -19,5 +20,6 @@ pub use feed::Feed;
 pub use form::{Completed, PlainRows, RowForm};
 pub use inputs::{Source, StreamStop, stream_end, stream_input, stream_sources};
 pub use lookout::Lookout;
+pub use parsers::{Parsed, Parsers};
 pub use stream::Stream;
 pub use teller::{StreamCount, TellFault, Teller};

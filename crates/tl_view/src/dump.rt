@@ -4,7 +4,7 @@ use crate::scene::{Lane, Part, Scene, Shown};
 use crate::signals::{
     BROKEN_CODE, CHANNELS, EARLIER_CODE, FIELDS, Field, Kind, Signal, broken_name, has_channel,
 };
-use crate::steps::heading_of;
+use crate::steps::{cycle_of, heading_of};
 use std::alloc::{AllocError, Global};
 use tl_beats::Beat;
 use tl_rows::{chan_text, op_text, param_text};
@@ -322,11 +322,12 @@ fn changes_text(alloc: Global, scene: &Scene) -> Result<String, AllocError> {
         let Some(first) = rest.first() else {
             break;
         };
-        let (now, after) = rest.split_at(count_at_first(rest));
+        let count = count_at_first(rest);
+        let now = rest.get(..count).unwrap_or(rest);
         let changes = changes_at(alloc, scene, before, now, first.place.beat.cycle)?;
         text.push_str(changes.as_str())?;
         before = now;
-        rest = after;
+        rest = rest.get(count..).unwrap_or(&[]);
     }
     let changes = last_changes(alloc, scene, before)?;
     text.push_str(changes.as_str())?;
@@ -360,15 +361,19 @@ fn idle_values(alloc: Global, lanes: &[Lane]) -> Result<String, AllocError> {
     Ok(text)
 }
 
-/// The cycle before the first beat, if there is one, with the values there.
+/// The cycle before the first beat, if there is one.
+fn begin_text(alloc: Global, first: u64) -> Result<String, AllocError> {
+    match first.checked_sub(1) {
+        Some(begin) => format!(in alloc; "#{begin}\n"),
+        None => Ok(String::new(alloc)),
+    }
+}
+
+/// The values before the first beat, at the cycle before it.
 fn first_text(alloc: Global, scene: &Scene) -> Result<String, AllocError> {
-    let first = scene
-        .shown
-        .first()
-        .map_or(0, |shown| shown.place.beat.cycle);
+    let begin = begin_text(alloc, cycle_of(scene.shown.first()))?;
     let idle = idle_values(alloc, &scene.lanes)?;
-    let begin = first.saturating_sub(1);
-    format!(in alloc; "#{begin}\n$dumpvars\n0{BROKEN_CODE}\n0{EARLIER_CODE}\n{idle}$end\n")
+    format!(in alloc; "{begin}$dumpvars\n0{BROKEN_CODE}\n0{EARLIER_CODE}\n{idle}$end\n")
 }
 
 /// A scene as a Value Change Dump, in which a cycle is 1 ns: a group of signals for each link and each of its channels, with the beats

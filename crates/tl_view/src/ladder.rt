@@ -87,7 +87,7 @@ fn lanes_with(
 ) -> Result<String, AllocError> {
     let mut text = String::from_str(alloc, "|")?;
     for column in 1..columns {
-        let segment = segment(alloc, reach, shown, column - 1)?;
+        let segment = segment(alloc, reach, shown, column.saturating_sub(1))?;
         text.push_str(segment.as_str())?;
         text.push('|')?;
     }

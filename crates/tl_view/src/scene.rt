@@ -371,9 +371,9 @@ pub fn scene_of(
     present: &Present,
     row: &Row,
 ) -> Result<Option<Scene>, AllocError> {
-    if topo.link(row.link).is_none() {
+    let Some(_) = topo.link(row.link) else {
         return Ok(None);
-    }
+    };
     let survey = survey_beats(alloc, topo, present, &[*row])?;
     let Some(told) = survey.told.first() else {
         return Ok(None);

@@ -120,8 +120,8 @@ fn savefile_path(alloc: Global, path: &str) -> Result<String, AllocError> {
 
 /// Writes the savefile of a waveform that stands at a path.
 fn save_layout<R: Files + AllocGlobal>(rt: &R, scene: &Scene, path: &str) -> Result<(), Trouble> {
-    let layout = savefile_text(rt.alloc(), scene, path)?;
     let beside = savefile_path(rt.alloc(), path)?;
+    let layout = savefile_text(rt.alloc(), scene, path, beside.as_str())?;
     save(rt, beside.as_str(), layout.as_str())
 }
 

@@ -85,16 +85,21 @@ fn earlier_text(alloc: Global, scene: &Scene) -> Result<String, AllocError> {
     }
 }
 
-/// A savefile of GTKWave for the dump of a scene, which stands at this path: a group for each channel with a beat, the first marker at
-/// the row's beat, and the marker A at the earlier one. AllocError where memory is refused.
-pub fn savefile_text(alloc: Global, scene: &Scene, path: &str) -> Result<String, AllocError> {
+/// A savefile of GTKWave at a path, for the dump of a scene at another: a group for each channel with a beat, the first marker at the
+/// row's beat, and the marker A at the earlier one. AllocError where memory is refused.
+pub fn savefile_text(
+    alloc: Global,
+    scene: &Scene,
+    dump: &str,
+    savefile: &str,
+) -> Result<String, AllocError> {
     let start = cycle_of(scene.shown.first()).saturating_sub(1);
     let own = cycle_of(scene.shown.last());
     let earlier = earlier_text(alloc, scene)?;
     let broken = broken_name(alloc, scene)?;
     let lanes = lanes_lines(alloc, scene)?;
     format!(in alloc;
-        "[*] tlcheck view\n[dumpfile] \"{path}\"\n[timestart] {start}\n*-4.000000 {own} {earlier}\n\
+        "[*] tlcheck view\n[dumpfile] \"{dump}\"\n[savefile] \"{savefile}\"\n[timestart] {start}\n*-4.000000 {own} {earlier}\n\
 @28\ntlcheck.{broken}\ntlcheck.earlier\n{lanes}"
     )
 }

@@ -224,7 +224,7 @@ impl Pass {
         Ok(())
     }
 
-    /// Sees the next beat of the manager, whose clients are these.
+    /// Sees the next beat of the manager, whose clients are these; those after the row's are passed over.
     fn see(
         &mut self,
         alloc: Global,
@@ -237,6 +237,9 @@ impl Pass {
         requires declared { place.now.link < length topo.now.links }
         ensures { links_in self.new.context.origins ≡ links_in self.old.context.origins }
     {
+        if self.stage == Stage::After {
+            return Ok(());
+        }
         let moment = self.context.moment(topo, clients, place);
         self.take(alloc, topo, &moment)?;
         self.context.step(topo, &moment)

@@ -15,7 +15,7 @@ use tl_tables::rule_text;
 const LANE: usize = 280;
 
 /// From one row to the next.
-const STEP: usize = 38;
+const STEP: usize = 42;
 
 /// From the top to the names of the lanes.
 const TOP: usize = 84;
@@ -109,23 +109,22 @@ fn arrow_shapes(
     row: usize,
     shown: &Shown,
 ) -> Result<String, AllocError> {
+    let class = class_of(shown.part);
     let reach = reach_of(scene, shown);
     let (low, high) = reach.ends();
     let left = grid.point(low, row).plus(1, 0);
     let right = grid.point(high, row).minus(1, 0);
-    let tip = if reach.is_leftward() { left } else { right };
-    let line = line_from(
-        alloc,
-        class_of(shown.part),
-        left.plus(8, 0),
-        right.minus(8, 0),
-    )?;
+    let (tip, line) = if reach.is_leftward() {
+        (left, line_from(alloc, class, left.plus(8, 0), right)?)
+    } else {
+        (right, line_from(alloc, class, left, right.minus(8, 0))?)
+    };
     let head = arrow_head(alloc, head_class_of(shown.part), tip, reach.is_leftward())?;
     let middle = grid
         .point(high.saturating_sub(1), row)
         .plus(LANE / 2, 0);
     let cross = cross_on(alloc, shown.part, middle)?;
-    let label = text_at(alloc, "label", middle.minus(0, 9), shown.label.as_str())?;
+    let label = text_at(alloc, "label", middle.minus(0, 12), shown.label.as_str())?;
     format!(in alloc; "{line}{head}{cross}{label}")
 }
 
@@ -227,27 +226,14 @@ fn is_earlier(step: &Step<'_>) -> bool {
     }
 }
 
-/// The curve from the earlier beat to the row's: along the client's lane, or along the manager's from another client.
-fn why_shape(
-    alloc: Global,
-    scene: &Scene,
-    grid: Grid,
-    steps: &[Step<'_>],
-) -> Result<String, AllocError> {
+/// The curve from the row of the earlier beat to that of the row's, beside the cycles.
+fn why_shape(alloc: Global, grid: Grid, steps: &[Step<'_>]) -> Result<String, AllocError> {
     let Some(row) = steps.iter().position(|step| is_earlier(step)) else {
         return Ok(String::new(alloc));
     };
-    let Some(Step::Arrow(shown)) = steps.get(row) else {
-        return Ok(String::new(alloc));
-    };
-    let column = if shown.place.link == scene.subject.link {
-        0
-    } else {
-        1
-    };
     let last = steps.len().saturating_sub(1);
-    let from = grid.point(column, row).minus(1, 0);
-    curve_down(alloc, from, grid.point(column, last), 30)
+    let from = grid.point(0, row).minus(1, 0);
+    curve_down(alloc, from, grid.point(0, last), 30)
 }
 
 /// Lines below the lanes.
@@ -298,7 +284,7 @@ fn size_of_image(
     let lines = scene.lines.lines().count().saturating_mul(20);
     Ok(Point {
         x: below.saturating_add(MARGIN).max(beside).saturating_add(MARGIN),
-        y: grid.bottom().saturating_add(lines).saturating_add(MARGIN),
+        y: grid.bottom().saturating_add(lines).saturating_add(8),
     })
 }
 
@@ -336,7 +322,7 @@ fn body_shapes(
     steps: &[Step<'_>],
 ) -> Result<String, AllocError> {
     let lanes = lanes_shapes(alloc, grid, columns)?;
-    let why = why_shape(alloc, scene, grid, steps)?;
+    let why = why_shape(alloc, grid, steps)?;
     let arrows = steps_shapes(alloc, scene, grid, steps)?;
     let words = words_shapes(
         alloc,

@@ -2,13 +2,14 @@
 _tlcheck() {
     local here=${COMP_WORDS[COMP_CWORD]} words=
     case $COMP_CWORD:${COMP_WORDS[1]} in
-    1:*) words='once run audit stream doctor explain help --help --version' ;;
+    1:*) words='once run audit stream doctor view explain help --help --version' ;;
     *:once) words='--workers --show --explain-faults --summary --deny --format --rule --link --from --to --waive --help' ;;
     *:run) words='--workers --show --explain-faults --summary --deny --help' ;;
     *:audit) words='--show --explain-faults --summary --deny --format --rule --link --from --to --waive --help' ;;
     *:stream) words='--workers --setup --show --explain-faults --help' ;;
     *:doctor) words='--explain-faults --help' ;;
-    2:help) words='once run audit stream doctor explain' ;;
+    *:view) words='--row --out --explain-faults --help' ;;
+    2:help) words='once run audit stream doctor view explain' ;;
     2:explain) words="--help $("$1" explain 2> /dev/null | cut -d : -f 1)" ;;
     esac
     COMPREPLY=()

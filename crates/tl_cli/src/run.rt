@@ -15,7 +15,7 @@ use tl_advice::{Look, More};
 use tl_commands::{
     Denial, Ending, Fault, Past, Suspect, Written, audit_of_files, doctor_of_files, input_sentence,
     input_sentences, once_of_files, once_sentence, report_of, run_sentences, script_sentence,
-    stream_of_files, stream_sentence,
+    stream_of_files, stream_sentence, view_of_files,
 };
 use tl_options::{Command, Told, not_utf8, read_words, titles};
 use tl_script::Outcome;
@@ -238,6 +238,11 @@ fn file_sentence<R: Files + AllocGlobal + Clone + Drop>(
             ..
         }
         | Command::Doctor {
+            topology,
+            fragments,
+            ..
+        }
+        | Command::View {
             topology,
             fragments,
             ..
@@ -492,6 +497,12 @@ fn do_command<
             fragments,
             ..
         } => doctor_of_files(rt, *topology, fragments, out),
+        Command::View {
+            topology,
+            fragments,
+            picture,
+            ..
+        } => view_of_files(rt, *topology, fragments, picture, out),
     };
     tell_ending(rt, err, ending, command, screen)
 }

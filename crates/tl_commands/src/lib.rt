@@ -14,6 +14,7 @@ mod settling;
 mod setup;
 mod streams;
 mod telling;
+mod views;
 
 pub use denial::{Denial, denial_of_run, edits_in};
 pub use doctor::doctor_of_files;
@@ -27,3 +28,4 @@ pub use telling::{
     Suspect, input_sentence, input_sentences, once_sentence, run_sentences, script_sentence,
     stream_sentence,
 };
+pub use views::view_of_files;

@@ -73,7 +73,7 @@ fn number_of(topo: &Topo, name: &str) -> Option<u16> {
 }
 
 /// The number of the link with this name.
-fn link_of(alloc: Global, topo: &Topo, name: &str) -> Result<u16, Trouble> {
+pub(crate) fn link_of(alloc: Global, topo: &Topo, name: &str) -> Result<u16, Trouble> {
     match number_of(topo, name) {
         Some(number) => Ok(number),
         None => Err(Trouble::Objection(format!(in alloc;

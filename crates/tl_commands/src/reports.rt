@@ -57,8 +57,8 @@ impl Ending {
     }
 }
 
-/// How a command ends that has no order.
-fn ending_without(trouble: Trouble) -> Result<Ending, Fault> {
+/// How a command ends that can't do what the words want.
+pub(crate) fn ending_without(trouble: Trouble) -> Result<Ending, Fault> {
     match trouble {
         Trouble::Fault(fault) => Err(fault),
         Trouble::Objection(text) => Ok(Ending::Objected(text)),

@@ -1,3 +1,4 @@
 pub mod Picks
 pub mod Waivers
 pub mod Printed
+pub mod Reasons

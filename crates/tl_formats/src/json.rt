@@ -1,5 +1,9 @@
 //! Rows as lines of JSON. All text in them is names of links, messages, params and rules, which JSON has as they are.
 
+ghost use Rattle.std.specs.Prelude.{◌≡◌};
+ghost use Rattle.std.specs.Option.{option_copied};
+ghost use Rattle.tl_formats.specs.Reasons.{named_place};
+
 use crate::beat::beat_text;
 use std::alloc::{AllocError, Global};
 use tl_beats::{Beat, Placed, Row};
@@ -38,8 +42,10 @@ fn reason_word(reason: &Option<Reason>) -> &'static str {
     }
 }
 
-/// The beat that a reason names, if any.
-pub(crate) fn place_of(reason: &Reason) -> Option<&Placed> {
+/// The beat that a reason names; None where it names none.
+pub fn place_of(reason: &Reason) -> Option<&Placed>
+    ensures { option_copied result ≡ named_place reason.now }
+{
     match reason {
         Reason::ByItself | Reason::NoneBefore => None,
         Reason::Head(place)

@@ -16,7 +16,7 @@ mod waivers;
 
 pub use format::Format;
 pub use html::html_text;
-pub use json::json_text;
+pub use json::{json_text, place_of};
 pub use junit::junit_text;
 pub use output::{Printed, Title, print_rows};
 pub use pick::{Cycles, Pick, Waiver};

@@ -6,12 +6,16 @@ mod explain;
 mod flow_entries;
 mod format_entries;
 mod permission_entries;
+mod picture;
 mod refusal_entries;
 mod rule_entries;
+mod stream;
 mod usage;
 mod view;
 mod words;
 
 pub use explain::{entry_of, titles};
+pub use picture::Picture;
+pub use stream::StreamOptions;
 pub use view::View;
-pub use words::{Command, Deny, How, StreamOptions, Told, not_utf8, read_words};
+pub use words::{Command, Deny, How, Told, not_utf8, read_words};

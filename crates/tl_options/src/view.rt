@@ -127,7 +127,11 @@ fn unknown_rule(
 }
 
 /// The rule of a word; another word is refused.
-fn rule_asked(alloc: Global, program: &mut clap::Command<'_>, word: &str) -> Result<Rule, Error> {
+pub(crate) fn rule_asked(
+    alloc: Global,
+    program: &mut clap::Command<'_>,
+    word: &str,
+) -> Result<Rule, Error> {
     match rule_named(word.as_bytes()) {
         Some(rule) => Ok(rule),
         None => Err(unknown_rule(alloc, program, word)?),

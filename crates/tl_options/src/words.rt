@@ -2,6 +2,8 @@
 
 use crate::doctor::{doctor, doctor_asked};
 use crate::explain::entry_of;
+use crate::picture::{Picture, picture_asked, view};
+use crate::stream::{StreamOptions, stream, stream_asked};
 use crate::usage::{Draft, flag, setting, word};
 use crate::view::{View, refusal, view_asked, with_view};
 use clap::builder::ValueParser;
@@ -30,21 +32,6 @@ pub struct How {
     /// Whether what was checked and found is told at the end.
     pub summary: bool,
     /// How many threads work beside the first, 0 to 16.
-    pub workers: u8,
-}
-
-/// What is streamed, and how.
-#[derive(Drop)]
-pub struct StreamOptions<'a> {
-    /// The words that name the inputs; none are standard input.
-    pub inputs: Vec<&'a str>,
-    /// The path of a script of regions and monitors that stand before the first beat.
-    pub setup: Option<&'a str>,
-    /// Whether rows are shown.
-    pub show: bool,
-    /// Whether faults are told in sentences.
-    pub explain_faults: bool,
-    /// How many threads parse fragments beside the first, 0 to 16.
     pub workers: u8,
 }
 
@@ -85,6 +72,13 @@ pub enum Command<'a> {
         fragments: Vec<&'a str>,
         explain_faults: bool,
     },
+    /// A row as a picture, from files.
+    View {
+        topology: &'a str,
+        fragments: Vec<&'a str>,
+        picture: Picture<'a>,
+        explain_faults: bool,
+    },
     /// The entry of a rule or of a refusal, or without one the first line of each.
     Explain {
         entry: Option<&'static str>,
@@ -101,6 +95,7 @@ impl Command<'_> {
             Command::Input
             | Command::Stream { .. }
             | Command::Doctor { .. }
+            | Command::View { .. }
             | Command::Explain { .. } => None,
         }
     }
@@ -117,7 +112,9 @@ impl Command<'_> {
     pub fn explains_faults(&self) -> bool {
         match self {
             Command::Stream { options, .. } => options.explain_faults,
-            Command::Doctor { explain_faults, .. } => *explain_faults,
+            Command::Doctor { explain_faults, .. } | Command::View { explain_faults, .. } => {
+                *explain_faults
+            }
             _ => self.how().is_some_and(|how| how.explain_faults),
         }
     }
@@ -145,7 +142,7 @@ fn script<'a>(alloc: Global) -> Arg<'a> {
     )
 }
 
-fn show<'a>(alloc: Global) -> Arg<'a> {
+pub(crate) fn show<'a>(alloc: Global) -> Arg<'a> {
     flag(
         alloc,
         "show",
@@ -230,7 +227,7 @@ fn once<'a>(alloc: Global) -> Draft<'a> {
     with_view(alloc, with_how(alloc, once))
 }
 
-fn workers<'a>(alloc: Global, help: &'a str) -> Arg<'a> {
+pub(crate) fn workers<'a>(alloc: Global, help: &'a str) -> Arg<'a> {
     setting(alloc, "workers", "N", help).value_parser(ValueParser::unsigned(0, MOST_WORKERS))
 }
 
@@ -273,40 +270,6 @@ fn audit<'a>(alloc: Global) -> Draft<'a> {
     with_view(alloc, with_how(alloc, audit))
 }
 
-fn inputs<'a>(alloc: Global) -> Arg<'a> {
-    Arg::new(alloc, "FILE")
-        .action(ArgAction::Append)
-        .num_args(0..)
-        .help(
-            "Path of fragment texts one after another, of any length; a folder stands for its files in order of name, @LIST for the \
-paths in the file LIST; standard input without one, or as -",
-        )
-}
-
-fn stream_setup<'a>(alloc: Global) -> Arg<'a> {
-    setting(
-        alloc,
-        "setup",
-        "SCRIPT",
-        "Carries out the commands region and attach of this script before the first beat",
-    )
-}
-
-fn stream<'a>(alloc: Global) -> Draft<'a> {
-    let about =
-        "Checks fragments as they come and writes each row once it is certain, without an end";
-    described(alloc, "stream", about, STREAM_EXAMPLE)
-        .arg(topology(alloc))
-        .arg(inputs(alloc))
-        .arg(workers(
-            alloc,
-            "How many threads parse fragments beside the first, 0 to 16; 0 without this option",
-        ))
-        .arg(stream_setup(alloc))
-        .arg(show(alloc))
-        .arg(explain_faults(alloc))
-}
-
 fn entry<'a>(alloc: Global) -> Arg<'a> {
     Arg::new(alloc, "WORD").action(ArgAction::Set).help(
         "Name of a rule, in any case, or code of a refusal; without it all are listed, one line each",
@@ -330,6 +293,7 @@ fn program<'a>(alloc: Global) -> Result<clap::Command<'a>, AllocError> {
         .subcommand(audit(alloc))
         .subcommand(stream(alloc))
         .subcommand(doctor(alloc))
+        .subcommand(view(alloc))
         .subcommand(explain(alloc))
         .finish()
 }
@@ -344,9 +308,6 @@ const RUN_EXAMPLE: &str = "Example: tlcheck run examples/one_manager.topo exampl
 const AUDIT_EXAMPLE: &str =
     "Example: tlcheck audit examples/one_manager.topo examples/edits.script 2";
 
-const STREAM_EXAMPLE: &str =
-    "Example: cat examples/one_cache.fragment | tlcheck stream examples/one_manager.topo";
-
 const EXPLAIN_EXAMPLE: &str = "Examples: tlcheck explain, tlcheck explain P2, tlcheck explain 12";
 
 const HELP: &str =
@@ -356,6 +317,7 @@ tlcheck run TOPO SCRIPT runs a script of at most 67,108,864 bytes: edits of frag
 reports between them; with - for SCRIPT commands are carried out as they come. tlcheck audit TOPO SCRIPT EDIT checks anew what its first EDIT accepted edits leave.\n\
 tlcheck stream TOPO [FILE..] checks fragments as they come: of each link with rising numbers and ranges, as long as they come.\n\
 tlcheck doctor TOPO FRAGMENT.. says what looks wrong in a topology or in how the capture was made: status 1 where something does.\n\
+tlcheck view TOPO FRAGMENT.. --row ROW draws a row of the report with the messages that led to it: status 0 where it is drawn.\n\
 Without words tlcheck reads a topology and a script right after it from standard input, at most 67,108,864 bytes, \
 and does as run.\n\n\
 Exit status: 0 no rule is broken, 1 the last report has rows, 2 a fault, told on standard error as `tlcheck: CODE` \
@@ -398,20 +360,6 @@ pub(crate) fn paths_asked<'a>(
     Ok(all)
 }
 
-/// What the words of `stream` ask for.
-fn stream_asked<'a>(alloc: Global, found: &ArgMatches<'a>) -> Result<Command<'a>, Error> {
-    Ok(Command::Stream {
-        topology: found.get_str("TOPO").unwrap_or(""),
-        options: StreamOptions {
-            inputs: paths_asked(alloc, found, "FILE")?,
-            setup: found.get_str("setup"),
-            show: found.get_flag("show"),
-            explain_faults: found.get_flag("explain-faults"),
-            workers: workers_of(found),
-        },
-    })
-}
-
 /// What the words of `once` ask for.
 fn once_asked<'a>(
     alloc: Global,
@@ -429,7 +377,7 @@ fn once_asked<'a>(
 }
 
 /// The number of workers that words name.
-fn workers_of(found: &ArgMatches<'_>) -> u8 {
+pub(crate) fn workers_of(found: &ArgMatches<'_>) -> u8 {
     let workers = found.get_one("workers").unwrap_or(0);
     u8::try_from(workers).unwrap_or(0)
 }
@@ -511,6 +459,8 @@ fn command_named<'a>(
         stream_asked(alloc, found)
     } else if name == "doctor" {
         doctor_asked(alloc, found)
+    } else if name == "view" {
+        picture_asked(alloc, program, found)
     } else if name == "explain" {
         explain_asked(alloc, program, found)
     } else {

@@ -1,0 +1,25 @@
+-- Which row is meant, and which beats are shown of it.
+use Rattle.std.specs.Prelude.{ℕ, ◌==◌, ◌&&◌, ◌||◌, Bool, false, Option, Some, None}
+use Rattle.tl_tables.specs.Rules.{rule_number}
+use Rattle.tl_beats.specs.declared.Row.{Row}
+use Rattle.tl_view.specs.declared.moments.Moment.{Moment}
+use Rattle.tl_view.specs.declared.names.RowName.{RowName}
+use Rattle.tl_view.specs.declared.scene.Subject.{Subject}
+
+-- The row of this name on a link.
+abbrev pub is_named : ℕ → RowName → Row → Bool
+is_named link name row = ((row.link == link) && (row.fragment == name.fragment)) && ((row.line == name.line) && (rule_number row.rule == rule_number name.rule))
+
+-- Both are known, and the same.
+abbrev pub is_same : Option ℕ → Option ℕ → Bool
+is_same (Some one) (Some other) = one == other
+is_same (Some one) None = false
+is_same None other = false
+
+-- The same of sources.
+abbrev pub has_source : Option ℕ → Option ℕ → Bool
+has_source one other = is_same one other
+
+-- A message is shown where it is of the row's block, or on the row's link of the row's source.
+abbrev pub is_of : Subject → Moment → Bool
+is_of subject moment = is_same subject.block moment.block || ((subject.link == moment.place.link) && has_source subject.source moment.source)

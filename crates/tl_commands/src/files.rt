@@ -4,14 +4,15 @@ ghost use Rattle.std.specs.Prelude.{◌≤◌, ◌^◌};
 
 use crate::fault::Fault;
 use crate::paths::files_of;
-use std::alloc::Global;
+use std::alloc::{AllocError, Global};
 use std::rt::Files;
 use std::sync::Arc;
 use std::thread::{Threads, map_chunks};
 use std::{fs, io};
 use tl_advice::Role;
-use tl_beats::{Fragment, FragmentFault, parse_whole_fragment, read_fragment};
+use tl_beats::{Fragment, FragmentFault, parse_whole_fragment};
 use tl_script::read_script;
+use tl_stream::Sieve;
 use tl_text::{CountedReader, TextFault, read_text};
 use tl_topology::{Topo, TopoFault, read_topo};
 
@@ -45,35 +46,6 @@ pub(crate) fn whole_topology(alloc: Global, text: &[u8]) -> Result<Topo, TopoFau
     }
 }
 
-/// The fragment that a file's whole text is.
-fn fragment_of<R: Files + AllocGlobal>(rt: &R, path: &str) -> Result<Fragment, Fault> {
-    let Ok(file) = fs::open(rt, path) else {
-        return Err(Fault::FILE);
-    };
-    let fragment = read_fragment(rt.alloc(), &mut CountedReader::new(file))?;
-    Ok(fragment)
-}
-
-/// The fragments of files, each read and parsed before the next is opened.
-fn fragments_in<R: Files + AllocGlobal>(
-    rt: &R,
-    files: &[String],
-) -> Result<Vec<Arc<Fragment>>, Fault> {
-    let mut fragments = Vec::new(rt.alloc());
-    for path in files {
-        let fragment = Arc::new(rt.alloc(), fragment_of(rt, path.as_str())?)?;
-        fragments.push(fragment)?;
-    }
-    Ok(fragments)
-}
-
-/// The texts of some files, up to one that can't be read, and why it can't.
-#[derive(Drop)]
-struct Round {
-    texts: Vec<Vec<u8>>,
-    fault: Option<Fault>,
-}
-
 /// The text of a fragment's file.
 fn fragment_text<R: Files + AllocGlobal>(rt: &R, path: &str) -> Result<Vec<u8>, Fault> {
     let Ok(file) = fs::open(rt, path) else {
@@ -84,6 +56,53 @@ fn fragment_text<R: Files + AllocGlobal>(rt: &R, path: &str) -> Result<Vec<u8>, 
         Ok(text) => Ok(text),
         Err(fault) => Err(FragmentFault::from(fault).into()),
     }
+}
+
+/// Whether a whole text is that of a fragment that is not checked.
+pub(crate) fn is_passed(
+    alloc: Global,
+    sieve: Sieve<'_>,
+    text: &[u8],
+) -> Result<bool, AllocError> {
+    match sieve.share.passed(alloc, sieve.topo, text)? {
+        Some(passed) => Ok(passed.bytes == text.len()),
+        None => Ok(false),
+    }
+}
+
+/// Puts the fragment that a whole text is after others, if it is checked.
+fn push_fragment(
+    alloc: Global,
+    sieve: Sieve<'_>,
+    text: &[u8],
+    fragments: &mut Vec<Arc<Fragment>>,
+) -> Result<(), Fault> {
+    if !is_passed(alloc, sieve, text)? {
+        let fragment = parse_whole_fragment(alloc, text)?;
+        fragments.push(Arc::new(alloc, fragment)?)?;
+    }
+    Ok(())
+}
+
+/// The fragments of files that are checked, each read and parsed before the next is opened.
+fn fragments_in<R: Files + AllocGlobal>(
+    rt: &R,
+    files: &[String],
+    sieve: Sieve<'_>,
+) -> Result<Vec<Arc<Fragment>>, Fault> {
+    let mut fragments = Vec::new(rt.alloc());
+    for path in files {
+        let text = fragment_text(rt, path.as_str())?;
+        push_fragment(rt.alloc(), sieve, &text, &mut fragments)?;
+    }
+    Ok(fragments)
+}
+
+/// The texts of some files, up to one that can't be read, and why it can't.
+#[derive(Drop)]
+struct Round {
+    texts: Vec<Vec<u8>>,
+    fault: Option<Fault>,
 }
 
 /// The texts of the first of these files, of one at least, until they have as many bytes as are read before any is parsed.
@@ -110,12 +129,15 @@ fn next_round<R: Files + AllocGlobal>(rt: &R, files: &[String]) -> Result<Round,
     Ok(Round { texts, fault: None })
 }
 
-/// The fragments that texts are. The fault is that of the first that is none.
-fn parsed(alloc: Global, texts: &[Vec<u8>]) -> Result<Vec<Arc<Fragment>>, Fault> {
+/// The fragments that texts are, of those that are checked. The fault is that of the first that is none.
+fn parsed(
+    alloc: Global,
+    sieve: Sieve<'_>,
+    texts: &[Vec<u8>],
+) -> Result<Vec<Arc<Fragment>>, Fault> {
     let mut fragments = Vec::new(alloc);
     for text in texts {
-        let fragment = parse_whole_fragment(alloc, text)?;
-        fragments.push(Arc::new(alloc, fragment)?)?;
+        push_fragment(alloc, sieve, text, &mut fragments)?;
     }
     Ok(fragments)
 }
@@ -124,11 +146,14 @@ fn parsed(alloc: Global, texts: &[Vec<u8>]) -> Result<Vec<Arc<Fragment>>, Fault>
 fn parsed_beside<R: Threads + Sync>(
     rt: &R,
     alloc: Global,
+    sieve: Sieve<'_>,
     texts: &[Vec<u8>],
     workers: u8,
 ) -> Result<Vec<Arc<Fragment>>, Fault> {
     let share = texts.len().div_ceil(usize::from(workers) + 1).max(1);
-    let parts = map_chunks(rt, alloc, texts, share, &|_, part| parsed(alloc, part))?;
+    let parts = map_chunks(rt, alloc, texts, share, &|_, part| {
+        parsed(alloc, sieve, part)
+    })?;
     let mut all = Vec::new(alloc);
     for part in parts {
         all.append(&mut part?)?;
@@ -141,6 +166,7 @@ fn parsed_beside<R: Threads + Sync>(
 fn fragments_beside<R: Files + Threads + Sync + AllocGlobal>(
     rt: &R,
     files: &[String],
+    sieve: Sieve<'_>,
     workers: u8,
 ) -> Result<Vec<Arc<Fragment>>, Fault> {
     let mut all = Vec::new(rt.alloc());
@@ -148,7 +174,13 @@ fn fragments_beside<R: Files + Threads + Sync + AllocGlobal>(
     for _ in 0..files.len() {
         let round = next_round(rt, rest)?;
         rest = rest.get(round.texts.len()..).unwrap_or(&[]);
-        all.append(&mut parsed_beside(rt, rt.alloc(), &round.texts, workers)?)?;
+        all.append(&mut parsed_beside(
+            rt,
+            rt.alloc(),
+            sieve,
+            &round.texts,
+            workers,
+        )?)?;
         if let Some(fault) = round.fault {
             return Err(fault);
         }
@@ -174,18 +206,19 @@ fn listed<R: Files + AllocGlobal + Clone + Drop>(
     Ok((all, None))
 }
 
-/// The fragments of the files that words stand for, read by so many threads beside this one. The fault is that of the first file or
-/// word that has one.
+/// The fragments of the files that words stand for, of those that are checked, read by so many threads beside this one. The fault is
+/// that of the first file or word that has one.
 pub(crate) fn fragments_of<R: Files + Threads + Sync + AllocGlobal + Clone + Drop>(
     rt: &R,
     words: &[&str],
+    sieve: Sieve<'_>,
     workers: u8,
 ) -> Result<Vec<Arc<Fragment>>, Fault> {
     let (files, fault) = listed(rt, words)?;
     let fragments = if workers == 0 {
-        fragments_in(rt, &files)?
+        fragments_in(rt, &files, sieve)?
     } else {
-        fragments_beside(rt, &files, workers)?
+        fragments_beside(rt, &files, sieve, workers)?
     };
     match fault {
         Some(fault) => Err(fault),

@@ -1,3 +1,5 @@
 pub mod Picks
 pub mod Waivers
 pub mod Printed
+pub mod Merging
+pub mod Parts

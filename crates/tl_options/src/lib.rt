@@ -1,16 +1,19 @@
 //! The words of the command line, and the entries that `explain` writes.
 #![tactic(auto)]
 
+mod capture;
 mod doctor;
 mod explain;
 mod flow_entries;
 mod format_entries;
+mod merge;
 mod permission_entries;
 mod refusal_entries;
 mod usage;
 mod view;
 mod words;
 
+pub use capture::Capture;
 pub use explain::{entry_of, titles};
 pub use view::View;
 pub use words::{Command, Deny, How, StreamOptions, Told, not_utf8, read_words};

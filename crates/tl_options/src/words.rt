@@ -1,7 +1,9 @@
 //! The words of the command line.
 
+use crate::capture::{Capture, capture_asked, fragments, managers};
 use crate::doctor::{doctor, doctor_asked};
 use crate::explain::entry_of;
+use crate::merge::{merge, merge_asked};
 use crate::usage::{Draft, flag, setting, word};
 use crate::view::{View, refusal, view_asked, with_view};
 use clap::builder::ValueParser;
@@ -38,6 +40,8 @@ pub struct How {
 pub struct StreamOptions<'a> {
     /// The words that name the inputs; none are standard input.
     pub inputs: Vec<&'a str>,
+    /// The names of the managers of which the links are checked; none are all.
+    pub managers: Vec<&'a str>,
     /// The path of a script of regions and monitors that stand before the first beat.
     pub setup: Option<&'a str>,
     /// Whether rows are shown.
@@ -54,7 +58,7 @@ pub enum Command<'a> {
     /// The report of fragments, from files.
     Once {
         topology: &'a str,
-        fragments: Vec<&'a str>,
+        capture: Capture<'a>,
         how: How,
         view: View<'a>,
     },
@@ -77,6 +81,12 @@ pub enum Command<'a> {
         topology: &'a str,
         options: StreamOptions<'a>,
     },
+    /// The report of all managers, from files of reports of some.
+    Merge {
+        topology: &'a str,
+        reports: Vec<&'a str>,
+        explain_faults: bool,
+    },
     /// What looks wrong in a topology or in how fragments were made, from files.
     Doctor {
         topology: &'a str,
@@ -98,6 +108,7 @@ impl Command<'_> {
             }
             Command::Input
             | Command::Stream { .. }
+            | Command::Merge { .. }
             | Command::Doctor { .. }
             | Command::Explain { .. } => None,
         }
@@ -115,7 +126,9 @@ impl Command<'_> {
     pub fn explains_faults(&self) -> bool {
         match self {
             Command::Stream { options, .. } => options.explain_faults,
-            Command::Doctor { explain_faults, .. } => *explain_faults,
+            Command::Merge { explain_faults, .. } | Command::Doctor { explain_faults, .. } => {
+                *explain_faults
+            }
             _ => self.how().is_some_and(|how| how.explain_faults),
         }
     }
@@ -205,17 +218,6 @@ pub(crate) fn described<'a>(
     )
 }
 
-pub(crate) fn fragments<'a>(alloc: Global) -> Arg<'a> {
-    word(
-        alloc,
-        "FRAGMENT",
-        "Path of a fragment text, at most 8,388,608 bytes, each one edit; a folder stands for its files in order of name, @LIST for the \
-paths in the file LIST, - for standard input",
-    )
-    .action(ArgAction::Append)
-    .num_args(1..)
-}
-
 fn once<'a>(alloc: Global) -> Draft<'a> {
     let about = "Checks the fragments of a capture together and writes the report";
     let once = described(alloc, "once", about, ONCE_EXAMPLE)
@@ -224,7 +226,8 @@ fn once<'a>(alloc: Global) -> Draft<'a> {
         .arg(workers(
             alloc,
             "How many threads read files beside the first, 0 to 16; 0 without this option",
-        ));
+        ))
+        .arg(managers(alloc));
     with_view(alloc, with_how(alloc, once))
 }
 
@@ -297,6 +300,7 @@ fn stream<'a>(alloc: Global) -> Draft<'a> {
         .arg(topology(alloc))
         .arg(inputs(alloc))
         .arg(stream_setup(alloc))
+        .arg(managers(alloc))
         .arg(show(alloc))
         .arg(explain_faults(alloc))
 }
@@ -323,6 +327,7 @@ fn program<'a>(alloc: Global) -> Result<clap::Command<'a>, AllocError> {
         .subcommand(run(alloc))
         .subcommand(audit(alloc))
         .subcommand(stream(alloc))
+        .subcommand(merge(alloc))
         .subcommand(doctor(alloc))
         .subcommand(explain(alloc))
         .finish()
@@ -349,6 +354,7 @@ of at most 1,048,576 bytes, each FRAGMENT a fragment text of at most 8,388,608 b
 tlcheck run TOPO SCRIPT runs a script of at most 67,108,864 bytes: edits of fragments, regions and monitors, and \
 reports between them; with - for SCRIPT commands are carried out as they come. tlcheck audit TOPO SCRIPT EDIT checks anew what its first EDIT accepted edits leave.\n\
 tlcheck stream TOPO [FILE..] checks fragments as they come: of each link with rising numbers and ranges, as long as they come.\n\
+tlcheck merge TOPO REPORT.. makes one report of those that once --manager wrote of different managers.\n\
 tlcheck doctor TOPO FRAGMENT.. says what looks wrong in a topology or in how the capture was made: status 1 where something does.\n\
 Without words tlcheck reads a topology and a script right after it from standard input, at most 67,108,864 bytes, \
 and does as run.\n\n\
@@ -379,7 +385,7 @@ fn how_asked(found: &ArgMatches<'_>, workers: u8) -> How {
     }
 }
 
-/// The paths that words name.
+/// The paths or names that words have.
 pub(crate) fn paths_asked<'a>(
     alloc: Global,
     found: &ArgMatches<'a>,
@@ -398,6 +404,7 @@ fn stream_asked<'a>(alloc: Global, found: &ArgMatches<'a>) -> Result<Command<'a>
         topology: found.get_str("TOPO").unwrap_or(""),
         options: StreamOptions {
             inputs: paths_asked(alloc, found, "FILE")?,
+            managers: paths_asked(alloc, found, "manager")?,
             setup: found.get_str("setup"),
             show: found.get_flag("show"),
             explain_faults: found.get_flag("explain-faults"),
@@ -412,10 +419,10 @@ fn once_asked<'a>(
     found: &ArgMatches<'a>,
 ) -> Result<Command<'a>, Error> {
     let view = view_asked(alloc, program, found)?;
-    let fragments = paths_asked(alloc, found, "FRAGMENT")?;
+    let capture = capture_asked(alloc, found)?;
     Ok(Command::Once {
         topology: found.get_str("TOPO").unwrap_or(""),
-        fragments,
+        capture,
         how: how_asked(found, workers_of(found)),
         view,
     })
@@ -502,6 +509,8 @@ fn command_named<'a>(
         audit_asked(alloc, program, found)
     } else if name == "stream" {
         stream_asked(alloc, found)
+    } else if name == "merge" {
+        merge_asked(alloc, found)
     } else if name == "doctor" {
         doctor_asked(alloc, found)
     } else if name == "explain" {

@@ -2,17 +2,36 @@
 
 ghost use Rattle.std.specs.Prelude.{◌≡◌, ◌++◌, ◌+◌, ◌<◌, ◌≤◌, ◌^◌, [], IfOk, OnOk, OnErr, length, true};
 ghost use Rattle.std.specs.Io.KnownBytes.{Keeps, IsAtEnd};
-ghost use Rattle.tl_beats.specs.Text.{fragment_text};
-ghost use Rattle.tl_stream.specs.Feeds.{all_left, Gives};
+ghost use Rattle.tl_stream.specs.Feeds.{all_left, Gives, IsCut};
 
 use crate::ahead::Ahead;
+use crate::share::{Passed, Share};
 use std::alloc::Global;
 use std::marker::Model;
 use tl_beats::{Fragment, FragmentFault, parse_fragment};
 use tl_text::{ByteIn, line};
+use tl_topology::Topo;
 
 /// The most bytes of a fragment's text.
 const MOST_BYTES: usize = 8_388_608;
+
+/// What comes next in an input.
+#[derive(Drop)]
+pub enum Cut {
+    /// A fragment.
+    Fragment(Fragment),
+    /// The text of one that is not checked.
+    Passed(Passed),
+}
+
+/// Which fragments are checked.
+#[derive(Clone, Copy)]
+pub struct Sieve<'a> {
+    /// The topology.
+    pub topo: &'a Topo,
+    /// The managers of which the links are checked.
+    pub share: &'a Share,
+}
 
 /// The bytes of an input of fragments that were read and that no fragment had.
 #[derive(Drop)]
@@ -76,14 +95,15 @@ impl Feed {
         Ok(self.ahead.read_more(input)?)
     }
 
-    /// The next fragment, read in at most 8,388,610 reads; None where nothing is left. Its fault where what is left does not begin
-    /// with the text of a fragment, TooLong where that has more than 8,388,608 bytes, ReadFault where a read fails; then, and at want
-    /// of memory, what was read is lost.
+    /// The next fragment, read in at most 8,388,610 reads; None where nothing is left. Of one that is not checked its first line is
+    /// read and its line `end` found. Its fault where what is left does not begin with the text of a fragment, TooLong where that has
+    /// more than 8,388,608 bytes, ReadFault where a read fails; then, and at want of memory, what was read is lost.
     pub fn next<I: ByteIn>(
         &mut self,
         alloc: Global,
+        sieve: Sieve<'_>,
         input: &mut I,
-    ) -> Result<Option<Fragment>, FragmentFault>
+    ) -> Result<Option<Cut>, FragmentFault>
         requires reads { I.read_count input.old < 2 ^ 62 }
         requires failures { I.failure_count input.old < 2 ^ 63 }
         ensures given { IfOk result (Gives (all_left self.old (I.remaining input.old)) (all_left self.new (I.remaining input.new))) }
@@ -99,8 +119,8 @@ impl Feed {
                 return Ok(None);
             }
             if has_end || is_whole {
-                match self.cut(alloc) {
-                    Ok(fragment) => return Ok(Some(fragment)),
+                match self.cut(alloc, sieve) {
+                    Ok(cut) => return Ok(Some(cut)),
                     Err(FragmentFault::Truncated(_)) if !is_whole => {}
                     Err(fault) => return Err(fault),
                 }
@@ -114,12 +134,16 @@ impl Feed {
     }
 
     /// The fragment at the front of what was read.
-    fn cut(&mut self, alloc: Global) -> Result<Fragment, FragmentFault>
-        ensures ok { IfOk result (λ f. self.old ≡ fragment_text f ++ self.new) }
+    fn cut(&mut self, alloc: Global, sieve: Sieve<'_>) -> Result<Cut, FragmentFault>
+        ensures ok { IfOk result (λ cut. IsCut self.old self.new cut) }
         ensures err { OnErr result (self.new ≡ self.old) }
     {
+        if let Some(passed) = sieve.share.passed(alloc, sieve.topo, self.left())? {
+            self.ahead.pass(passed.bytes);
+            return Ok(Cut::Passed(passed));
+        }
         let (fragment, used) = parse_fragment(alloc, self.left())?;
         self.ahead.pass(used);
-        Ok(fragment)
+        Ok(Cut::Fragment(fragment))
     }
 }

@@ -2,8 +2,9 @@
 
 ghost use Rattle.std.specs.Prelude.{◌≡◌, ◌<◌, ◌^◌, OnOk};
 
-use crate::feed::Feed;
+use crate::feed::{Cut, Feed};
 use crate::form::RowForm;
+use crate::share::Passed;
 use crate::teller::{TellFault, Teller};
 use std::alloc::Global;
 use tl_beats::{Fragment, FragmentFault};
@@ -26,7 +27,7 @@ pub struct StreamStop {
 /// What one more step on an input came to.
 #[derive(Drop)]
 enum Step {
-    /// A fragment was read that ends with this cycle.
+    /// A fragment was read that ends with this cycle, and checked if it is to be.
     Took(u64),
     /// Nothing is left.
     Ended,
@@ -54,6 +55,11 @@ impl Place {
     fn pass(&mut self, fragment: &Fragment) {
         let lines = fragment.beats().len() as u64 + 2;
         self.lines = self.lines.saturating_add(lines);
+    }
+
+    /// Goes on after one that is not checked.
+    fn pass_over(&mut self, passed: Passed) {
+        self.lines = self.lines.saturating_add(passed.lines);
     }
 
     /// Where the fragment that comes next is at fault: on its first line where the fault names none.
@@ -84,12 +90,16 @@ fn take_step<I: ByteIn, F: RowForm, O: ByteOut, E: ByteOut>(
     if input.reads() >= MOST_READS || input.failures() >= MOST_READS {
         return Ok(Step::Ended);
     }
-    match place.feed.next(alloc, input) {
-        Ok(Some(fragment)) => {
+    match place.feed.next(alloc, teller.sieve(), input) {
+        Ok(Some(Cut::Fragment(fragment))) => {
             let last = fragment.last();
             place.pass(&fragment);
             teller.take(alloc, fragment, out, err)?;
             Ok(Step::Took(last))
+        }
+        Ok(Some(Cut::Passed(passed))) => {
+            place.pass_over(passed);
+            Ok(Step::Took(passed.last))
         }
         Ok(None) => Ok(Step::Ended),
         Err(FragmentFault::Memory) => Err(TellFault::Memory),

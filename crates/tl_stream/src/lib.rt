@@ -10,14 +10,16 @@ mod front;
 mod inputs;
 pub mod laws;
 mod lookout;
+mod share;
 mod stream;
 mod teller;
 
 pub use ahead::Ahead;
 pub use fault::StreamFault;
-pub use feed::Feed;
+pub use feed::{Cut, Feed, Sieve};
 pub use form::{Completed, PlainRows, RowForm};
 pub use inputs::{Source, StreamStop, stream_end, stream_input, stream_sources};
 pub use lookout::Lookout;
+pub use share::{Passed, Share};
 pub use stream::Stream;
 pub use teller::{StreamCount, TellFault, Teller};

@@ -6,7 +6,7 @@ use clap::{Arg, ArgAction, ArgMatches, Error};
 use std::alloc::Global;
 
 const EXAMPLE: &str =
-    "Example: tlcheck merge examples/two_managers.topo m0.report m1.report";
+    "Example: tlcheck merge examples/two_managers.topo examples/m0.report examples/m1.report";
 
 fn reports<'a>(alloc: Global) -> Arg<'a> {
     word(

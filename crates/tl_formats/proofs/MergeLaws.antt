@@ -1,14 +1,15 @@
 -- There is one list of rows by link, and that of the reports of shares is the report of all.
-use Rattle.std.proofs.Common.{◌≡◌, ℕ, suc, ◌+◌, ◌<◌, ◌≤◌, ◌==◌, inl, inr, Bool, true, false, cond, List, [], ◌∷◌, ◌++◌, length, nat_lt, refl, sym, ap, subst, ◌∙◌, arith, zero-le, suc-le-suc}
+use Rattle.std.proofs.Common.{◌≡◌, ℕ, suc, ◌+◌, ◌<◌, ◌≤◌, ◌==◌, inl, inr, Bool, true, false, cond, List, [], ◌∷◌, ◌++◌, None, length, nat_lt, refl, sym, ap, subst, ◌∙◌, arith, zero-le, suc-le-suc}
 use Rattle.std.specs.Prelude.{count_by, filter, flat_map, map}
 use Rattle.std.specs.declared.cmp.Ordering.{Ordering}
 use Rattle.std.specs.declared.cmp.Ordering.TheVariants.{Less}
-use Rattle.std.specs.Ordering.{nat_cmp, ordering_then}
+use Rattle.std.specs.Ordering.{nat_cmp, ordering_then, is_lt}
 use Rattle.std.specs.FinMap.{nat_cmp-IsAntisymmetric}
 use Rattle.std.specs.List.{Contains, AllByRecursion}
-use Rattle.std.specs.List.Sorted.{IsStrictlySortedBy, IsNonDecreasingBy}
+use Rattle.std.specs.List.Sorted.{IsStrictlySortedBy, IsNonDecreasingBy, IsStableByKey, ties}
 use Rattle.std.proofs.lemmas.Bool.Decides.{nat_tests}
-use Rattle.std.proofs.lemmas.List.Elements.{filter-append}
+use Rattle.std.proofs.lemmas.List.Elements.{filter-append, filter_agree}
+use Rattle.tl_tables.specs.declared.Rule.TheVariants as rule
 use Rattle.tl_topology.specs.Regions.{Area}
 use Rattle.tl_topology.specs.Topology.{Topology}
 use Rattle.tl_beats.specs.declared.Row.{Row}
@@ -73,6 +74,22 @@ one_by_link (x ∷ xs) (y ∷ ys) up down same =
     let tail : xs ≡ ys = one_by_link xs ys up.1 down.1 (λ link. both_dropped (x.link == link) x y (filter (on link) xs) (filter (on link) ys)
         (same link ∙ ap (λ n. cond (n == link) (y ∷ filter (on link) ys) (filter (on link) ys)) links)) in
     cc
+
+-- What a stable sort by link leaves.
+tie_is : (m n : ℕ) → ties (λ x y. is_lt (nat_cmp x y)) m n ≡ (n == m)
+tie_is m n = grind (arith, nat_tests)
+
+abbrev by_link : ReportRow → ReportRow → Bool
+by_link x y = is_lt (nat_cmp x.link y.link)
+
+pub sorted_by_link : (xs ys : List ReportRow) → IsNonDecreasingBy (λ row. row.link) ys → IsStableByKey (λ row. row.link) nat_cmp xs ys → IsByLink xs ys
+sorted_by_link xs ys up stable = record {
+  rises = up;
+  same = λ link.
+      let probe : ReportRow = record { link = link; fragment = 0; line = 0; rule = rule.F1; monitor = None } in
+      filter_agree (on link) (ties by_link probe) (λ y. sym (tie_is link y.link)) ys ∙ stable probe
+      ∙ filter_agree (ties by_link probe) (on link) (λ y. tie_is link y.link) xs;
+}
 
 -- ---- the report of all
 

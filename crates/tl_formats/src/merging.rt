@@ -139,8 +139,8 @@ fn read_all(
     ensures links { IfOk result (λ reports. AreOnLinks topo.now reports.items) }
 {
     let mut reports = Vec::new(alloc);
-    for (place, text) in texts.iter().enumerate() {
-        reports.push(read_at(alloc, topo, place, text)?)?;
+    for place in 0..texts.len() {
+        reports.push(read_at(alloc, topo, place, &texts[place])?)?;
     }
     Ok(reports)
 }

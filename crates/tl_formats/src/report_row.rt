@@ -1,6 +1,7 @@
 //! Rows as the text of a report tells them.
 
-ghost use Rattle.std.specs.Prelude.{◌≡◌, IfOk, map};
+ghost use Rattle.std.specs.Prelude.{◌≡◌, ◌<◌, ℕ, IfOk, map};
+ghost use Rattle.std.specs.List.{All};
 ghost use Rattle.tl_formats.specs.Merging.{as_row};
 
 use std::alloc::{AllocError, Global};
@@ -41,7 +42,12 @@ impl ReportRow {
 
 /// Rows with these lines. AllocError where memory is refused.
 pub(crate) fn as_rows(alloc: Global, rows: &[ReportRow]) -> Result<Vec<Row>, AllocError>
-    ensures { IfOk result (λ made. made.items ≡ map as_row rows.now) }
+    ensures exact { IfOk result (λ made. made.items ≡ map as_row rows.now) }
+    ensures links { (count : ℕ) → All (λ row. row.link < count) rows.now → IfOk result (λ made. All (λ row. row.link < count) made.items) }
 {
-    rows.iter().map(|row| row.as_row()).collect(alloc)
+    let mut made = Vec::new(alloc);
+    for row in rows {
+        made.push(row.as_row())?;
+    }
+    Ok(made)
 }

@@ -2,14 +2,15 @@
 _tlcheck() {
     local here=${COMP_WORDS[COMP_CWORD]} words=
     case $COMP_CWORD:${COMP_WORDS[1]} in
-    1:*) words='once run audit stream doctor view explain help --help --version' ;;
-    *:once) words='--workers --show --explain-faults --summary --deny --format --rule --link --from --to --waive --help' ;;
+    1:*) words='once run audit stream merge doctor view explain help --help --version' ;;
+    *:once) words='--workers --manager --show --explain-faults --summary --deny --format --rule --link --from --to --waive --help' ;;
     *:run) words='--workers --show --explain-faults --summary --deny --help' ;;
     *:audit) words='--show --explain-faults --summary --deny --format --rule --link --from --to --waive --help' ;;
-    *:stream) words='--workers --setup --show --explain-faults --help' ;;
+    *:stream) words='--workers --setup --manager --show --explain-faults --help' ;;
+    *:merge) words='--explain-faults --help' ;;
     *:doctor) words='--explain-faults --help' ;;
     *:view) words='--row --out --explain-faults --help' ;;
-    2:help) words='once run audit stream doctor view explain' ;;
+    2:help) words='once run audit stream merge doctor view explain' ;;
     2:explain) words="--help $("$1" explain 2> /dev/null | cut -d : -f 1)" ;;
     esac
     COMPREPLY=()

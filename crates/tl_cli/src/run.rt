@@ -14,8 +14,8 @@ use std::thread::Threads;
 use tl_advice::{Look, More};
 use tl_commands::{
     Denial, Ending, Fault, Past, Suspect, Written, audit_of_files, doctor_of_files, input_sentence,
-    input_sentences, once_of_files, once_sentence, report_of, run_sentences, script_sentence,
-    stream_of_files, stream_sentence, view_of_files,
+    input_sentences, merge_of_files, once_of_files, once_sentence, report_of, run_sentences,
+    script_sentence, stream_of_files, stream_sentence, view_of_files,
 };
 use tl_options::{Command, Told, not_utf8, read_words, titles};
 use tl_script::Outcome;
@@ -234,10 +234,15 @@ fn file_sentence<R: Files + AllocGlobal + Clone + Drop>(
     match command {
         Command::Once {
             topology,
-            fragments,
+            capture,
             ..
-        }
-        | Command::Doctor {
+        } => once_sentence(
+            rt,
+            Suspect::new(*topology, fault, look),
+            &capture.fragments,
+            &capture.managers,
+        ),
+        Command::Doctor {
             topology,
             fragments,
             ..
@@ -246,7 +251,12 @@ fn file_sentence<R: Files + AllocGlobal + Clone + Drop>(
             topology,
             fragments,
             ..
-        } => once_sentence(rt, Suspect::new(*topology, fault, look), fragments),
+        } => once_sentence(rt, Suspect::new(*topology, fault, look), fragments, &[]),
+        Command::Merge {
+            topology,
+            reports,
+            ..
+        } => once_sentence(rt, Suspect::new(*topology, fault, look), reports, &[]),
         Command::Run {
             topology,
             script,
@@ -460,10 +470,10 @@ fn do_command<
         Command::Explain { entry } => return tell_entry(rt.alloc(), out, err, *entry),
         Command::Once {
             topology,
-            fragments,
+            capture,
             how,
             view,
-        } => once_of_files(rt, *topology, fragments, screen.how(*how), view, out),
+        } => once_of_files(rt, *topology, capture, screen.how(*how), view, out),
         Command::Run {
             topology,
             script: "-",
@@ -492,6 +502,11 @@ fn do_command<
         Command::Stream { topology, options } => {
             stream_of_files(rt, *topology, options, input, out, err)
         }
+        Command::Merge {
+            topology,
+            reports,
+            ..
+        } => merge_of_files(rt, *topology, reports, out),
         Command::Doctor {
             topology,
             fragments,

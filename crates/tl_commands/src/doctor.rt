@@ -13,6 +13,7 @@ use tl_advice::diagnose;
 use tl_beats::Fragment;
 use tl_check::all_added;
 use tl_edits::Inputs;
+use tl_stream::{Share, Sieve};
 use tl_text::{ByteOut, write_all};
 use tl_topology::Topo;
 
@@ -48,7 +49,12 @@ fn doctor_on<R: Files + Threads + Sync + AllocGlobal + Clone + Drop, O: ByteOut>
 ) -> Result<Ending, Fault>
     requires { O.failure_count out.old < 2 ^ 63 }
 {
-    let fragments = fragments_of(rt, words, 0)?;
+    let share = Share::all();
+    let sieve = Sieve {
+        topo,
+        share: &share,
+    };
+    let fragments = fragments_of(rt, words, sieve, 0)?;
     doctor_of(rt.alloc(), topo, &fragments, out)
 }
 

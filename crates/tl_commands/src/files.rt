@@ -4,15 +4,15 @@ ghost use Rattle.std.specs.Prelude.{◌≤◌, ◌^◌};
 
 use crate::fault::Fault;
 use crate::paths::files_of;
-use std::alloc::Global;
+use std::alloc::{AllocError, Global};
 use std::rt::Files;
 use std::sync::Arc;
 use std::thread::Threads;
 use std::{fs, io};
 use tl_advice::Role;
-use tl_beats::{Fragment, FragmentFault, read_fragment};
+use tl_beats::{Fragment, FragmentFault, parse_whole_fragment};
 use tl_script::read_script;
-use tl_stream::Parsers;
+use tl_stream::{Parsers, Sieve};
 use tl_text::{CountedReader, TextFault, read_text};
 use tl_topology::{Topo, TopoFault, read_topo};
 
@@ -46,35 +46,6 @@ pub(crate) fn whole_topology(alloc: Global, text: &[u8]) -> Result<Topo, TopoFau
     }
 }
 
-/// The fragment that a file's whole text is.
-fn fragment_of<R: Files + AllocGlobal>(rt: &R, path: &str) -> Result<Fragment, Fault> {
-    let Ok(file) = fs::open(rt, path) else {
-        return Err(Fault::FILE);
-    };
-    let fragment = read_fragment(rt.alloc(), &mut CountedReader::new(file))?;
-    Ok(fragment)
-}
-
-/// The fragments of files, each read and parsed before the next is opened.
-fn fragments_in<R: Files + AllocGlobal>(
-    rt: &R,
-    files: &[String],
-) -> Result<Vec<Arc<Fragment>>, Fault> {
-    let mut fragments = Vec::new(rt.alloc());
-    for path in files {
-        let fragment = Arc::new(rt.alloc(), fragment_of(rt, path.as_str())?)?;
-        fragments.push(fragment)?;
-    }
-    Ok(fragments)
-}
-
-/// The texts of some files, up to one that can't be read, and why it can't.
-#[derive(Drop)]
-struct Round {
-    texts: Vec<Vec<u8>>,
-    fault: Option<Fault>,
-}
-
 /// The text of a fragment's file.
 fn fragment_text<R: Files + AllocGlobal>(rt: &R, path: &str) -> Result<Vec<u8>, Fault> {
     let Ok(file) = fs::open(rt, path) else {
@@ -85,6 +56,49 @@ fn fragment_text<R: Files + AllocGlobal>(rt: &R, path: &str) -> Result<Vec<u8>, 
         Ok(text) => Ok(text),
         Err(fault) => Err(FragmentFault::from(fault).into()),
     }
+}
+
+/// Whether a whole text is that of a fragment that is not checked.
+pub(crate) fn is_passed(alloc: Global, sieve: Sieve<'_>, text: &[u8]) -> Result<bool, AllocError> {
+    match sieve.share.passed(alloc, sieve.topo, text)? {
+        Some(passed) => Ok(passed.bytes == text.len()),
+        None => Ok(false),
+    }
+}
+
+/// Puts the fragment that a whole text is after others, if it is checked.
+fn push_fragment(
+    alloc: Global,
+    sieve: Sieve<'_>,
+    text: &[u8],
+    fragments: &mut Vec<Arc<Fragment>>,
+) -> Result<(), Fault> {
+    if !is_passed(alloc, sieve, text)? {
+        let fragment = parse_whole_fragment(alloc, text)?;
+        fragments.push(Arc::new(alloc, fragment)?)?;
+    }
+    Ok(())
+}
+
+/// The fragments of files that are checked, each read and parsed before the next is opened.
+fn fragments_in<R: Files + AllocGlobal>(
+    rt: &R,
+    files: &[String],
+    sieve: Sieve<'_>,
+) -> Result<Vec<Arc<Fragment>>, Fault> {
+    let mut fragments = Vec::new(rt.alloc());
+    for path in files {
+        let text = fragment_text(rt, path.as_str())?;
+        push_fragment(rt.alloc(), sieve, &text, &mut fragments)?;
+    }
+    Ok(fragments)
+}
+
+/// The texts of some files, up to one that can't be read, and why it can't.
+#[derive(Drop)]
+struct Round {
+    texts: Vec<Vec<u8>>,
+    fault: Option<Fault>,
 }
 
 /// The texts of the first of these files, of one at least, until they have as many bytes as are read before any is parsed.
@@ -111,6 +125,21 @@ fn next_round<R: Files + AllocGlobal>(rt: &R, files: &[String]) -> Result<Round,
     Ok(Round { texts, fault: None })
 }
 
+/// The texts of the fragments that are checked.
+fn checked(
+    alloc: Global,
+    sieve: Sieve<'_>,
+    texts: Vec<Vec<u8>>,
+) -> Result<Vec<Vec<u8>>, AllocError> {
+    let mut kept = Vec::new(alloc);
+    for text in texts {
+        if !is_passed(alloc, sieve, &text)? {
+            kept.push(text)?;
+        }
+    }
+    Ok(kept)
+}
+
 /// The fragments that texts are, parsed by several threads. The fault is that of the first that is none.
 fn parsed_beside<R: Threads + Sync + AllocGlobal>(
     parsers: &Parsers<'_, R>,
@@ -132,6 +161,7 @@ fn parsed_beside<R: Threads + Sync + AllocGlobal>(
 fn fragments_beside<R: Files + Threads + Sync + AllocGlobal>(
     rt: &R,
     files: &[String],
+    sieve: Sieve<'_>,
     workers: u8,
 ) -> Result<Vec<Arc<Fragment>>, Fault> {
     let parsers = Parsers::new(rt, workers);
@@ -140,7 +170,8 @@ fn fragments_beside<R: Files + Threads + Sync + AllocGlobal>(
     for _ in 0..files.len() {
         let round = next_round(rt, rest)?;
         rest = rest.get(round.texts.len()..).unwrap_or(&[]);
-        all.append(&mut parsed_beside(&parsers, &round.texts)?)?;
+        let texts = checked(rt.alloc(), sieve, round.texts)?;
+        all.append(&mut parsed_beside(&parsers, &texts)?)?;
         if let Some(fault) = round.fault {
             return Err(fault);
         }
@@ -166,18 +197,19 @@ fn listed<R: Files + AllocGlobal + Clone + Drop>(
     Ok((all, None))
 }
 
-/// The fragments of the files that words stand for, read by so many threads beside this one. The fault is that of the first file or
-/// word that has one.
+/// The fragments of the files that words stand for, of those that are checked, read by so many threads beside this one. The fault is
+/// that of the first file or word that has one.
 pub(crate) fn fragments_of<R: Files + Threads + Sync + AllocGlobal + Clone + Drop>(
     rt: &R,
     words: &[&str],
+    sieve: Sieve<'_>,
     workers: u8,
 ) -> Result<Vec<Arc<Fragment>>, Fault> {
     let (files, fault) = listed(rt, words)?;
     let fragments = if workers == 0 {
-        fragments_in(rt, &files)?
+        fragments_in(rt, &files, sieve)?
     } else {
-        fragments_beside(rt, &files, workers)?
+        fragments_beside(rt, &files, sieve, workers)?
     };
     match fault {
         Some(fault) => Err(fault),

@@ -1,6 +1,6 @@
 //! Runs of which the words choose the rows that are written.
 
-ghost use Rattle.std.specs.Prelude.{◌<◌, ◌^◌, length};
+ghost use Rattle.std.specs.Prelude.{◌<◌, ◌≤◌, ◌^◌, length};
 ghost use Rattle.std.specs.List.{All};
 
 use crate::fault::Fault;
@@ -91,20 +91,31 @@ fn links_of(alloc: Global, topo: &Topo, names: &[&str]) -> Result<Vec<u16>, Trou
     Ok(links)
 }
 
-/// The text of a file of waivers.
-fn file_text<R: Files + AllocGlobal>(rt: &R, path: &str) -> Result<Vec<u8>, TextFault> {
+/// The text of a file with at most so many bytes.
+pub(crate) fn file_text<R: Files + AllocGlobal>(
+    rt: &R,
+    path: &str,
+    most: u64,
+) -> Result<Vec<u8>, TextFault>
+    requires { most ≤ 2 ^ 32 }
+{
     let Ok(file) = fs::open(rt, path) else {
         return Err(TextFault::ReadFault);
     };
-    read_text(rt.alloc(), &mut CountedReader::new(file), MOST_WAIVERS)
+    read_text(rt.alloc(), &mut CountedReader::new(file), most)
 }
 
-/// Why the text of a file of waivers can't be had.
-fn waiver_trouble(alloc: Global, path: &str, fault: TextFault) -> Result<Trouble, AllocError> {
+/// Why the text of a file with at most so many bytes can't be had.
+pub(crate) fn text_trouble(
+    alloc: Global,
+    path: &str,
+    most: &str,
+    fault: TextFault,
+) -> Result<Trouble, AllocError> {
     let text = match fault {
         TextFault::Memory => return Ok(Trouble::Fault(Fault::MEMORY)),
         TextFault::ReadFault => format!(in alloc; "tlcheck: {path} can't be read\n")?,
-        TextFault::TooLong => format!(in alloc; "tlcheck: {path} has more than 1,048,576 bytes\n")?,
+        TextFault::TooLong => format!(in alloc; "tlcheck: {path} has more than {most} bytes\n")?,
     };
     Ok(Trouble::Objection(text))
 }
@@ -117,9 +128,9 @@ fn with_newline(mut text: Vec<u8>) -> Result<Vec<u8>, AllocError> {
 
 /// The text of a file of waivers, with a newline after it, which its last line may lack.
 fn waiver_text<R: Files + AllocGlobal>(rt: &R, path: &str) -> Result<Vec<u8>, Trouble> {
-    match file_text(rt, path) {
+    match file_text(rt, path, MOST_WAIVERS) {
         Ok(text) => Ok(with_newline(text)?),
-        Err(fault) => Err(waiver_trouble(rt.alloc(), path, fault)?),
+        Err(fault) => Err(text_trouble(rt.alloc(), path, "1,048,576", fault)?),
     }
 }
 

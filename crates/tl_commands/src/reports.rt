@@ -6,15 +6,17 @@ use crate::denial::{Denial, denial_of_audit, denial_of_fragments};
 use crate::fault::Fault;
 use crate::files::{fragments_of, script_of, topology_of};
 use crate::picking::{Trouble, Written, order_of, write_audit, write_once};
+use crate::share::share_of;
 use std::rt::Files;
 use std::sync::Arc;
 use std::thread::Threads;
 use tl_beats::Fragment;
 use tl_check::{run_once, run_once_as};
 use tl_formats::Format;
-use tl_options::{How, View};
+use tl_options::{Capture, How, View};
 use tl_script::{Outcome, audit_script, audit_script_as};
 use tl_show::Shown;
+use tl_stream::Sieve;
 use tl_text::ByteOut;
 use tl_topology::Topo;
 
@@ -131,29 +133,52 @@ fn once_denied<R: Files + AllocGlobal, O: ByteOut>(
     Ok(ending.denied_by(denial_of_fragments(how.deny, fragments)))
 }
 
-/// The report of the fragments of files on a topology; words stand for their files.
-fn once_on<R: Files + Threads + Sync + AllocGlobal + Clone + Drop, O: ByteOut>(
+/// The report of the fragments of files on a topology, of those of a share; words stand for their files.
+fn once_shared<R: Files + Threads + Sync + AllocGlobal + Clone + Drop, O: ByteOut>(
     rt: &R,
-    topo: &Topo,
-    fragments: &[&str],
+    sieve: Sieve<'_>,
+    words: &[&str],
     how: How,
     view: &View<'_>,
     out: &mut O,
 ) -> Result<Ending, Fault>
     requires { O.failure_count out.old < 2 ^ 63 }
 {
-    let fragments = fragments_of(rt, fragments, how.workers)?;
-    once_denied(rt, topo, &fragments, how, view, out)
+    let fragments = fragments_of(rt, words, sieve, how.workers)?;
+    once_denied(rt, sieve.topo, &fragments, how, view, out)
 }
 
-/// Writes the report of the fragments of files on a file's topology. A word stands for its file, `-` for standard input, a folder for
-/// its files, and `@LIST` for the files that the lines of LIST name. With workers, so many threads read files beside this one. The fault
-/// of the first file that has one, that of the first fragment that is refused after those before it, want of memory, or a write that
-/// fails.
+/// The report of the fragments of a capture's files on a topology.
+fn once_on<R: Files + Threads + Sync + AllocGlobal + Clone + Drop, O: ByteOut>(
+    rt: &R,
+    topo: &Topo,
+    capture: &Capture<'_>,
+    how: How,
+    view: &View<'_>,
+    out: &mut O,
+) -> Result<Ending, Fault>
+    requires { O.failure_count out.old < 2 ^ 63 }
+{
+    match share_of(rt.alloc(), topo, &capture.managers) {
+        Ok(share) => {
+            let sieve = Sieve {
+                topo,
+                share: &share,
+            };
+            once_shared(rt, sieve, &capture.fragments, how, view, out)
+        }
+        Err(trouble) => ending_without(trouble),
+    }
+}
+
+/// Writes the report of the fragments of a capture's files on a file's topology. A word stands for its file, `-` for standard input, a
+/// folder for its files, and `@LIST` for the files that the lines of LIST name. Where managers are named, the fragments of other known
+/// links are passed over. With workers, so many threads read files beside this one. The fault of the first file that has one, that of
+/// the first fragment that is refused after those before it, want of memory, or a write that fails.
 pub fn once_of_files<R: Files + Threads + Sync + AllocGlobal + Clone + Drop, O: ByteOut>(
     rt: &R,
     topology: &str,
-    fragments: &[&str],
+    capture: &Capture<'_>,
     how: How,
     view: &View<'_>,
     out: &mut O,
@@ -161,7 +186,7 @@ pub fn once_of_files<R: Files + Threads + Sync + AllocGlobal + Clone + Drop, O: 
     requires { O.failure_count out.old < 2 ^ 63 }
 {
     let topo = topology_of(rt, topology)?;
-    once_on(rt, &topo, fragments, how, view, out)
+    once_on(rt, &topo, capture, how, view, out)
 }
 
 /// The edits that an audit looks at.

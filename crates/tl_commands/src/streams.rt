@@ -6,8 +6,9 @@ use crate::chain::Chain;
 use crate::fault::Fault;
 use crate::files::topology_of;
 use crate::paths::files_of;
-use crate::reports::{Ending, report_of};
+use crate::reports::{Ending, ending_without, report_of};
 use crate::setup::{Setup, setup_of};
+use crate::share::share_of;
 use std::alloc::{AllocError, Global};
 use std::rt::Files;
 use std::sync::Arc;
@@ -16,7 +17,7 @@ use tl_beats::Watch;
 use tl_options::StreamOptions;
 use tl_show::ShownStream;
 use tl_stream::{
-    Parsers, PlainRows, RowForm, Source, Stream, StreamStop, TellFault, Teller, stream_end,
+    Parsers, PlainRows, RowForm, Share, Source, Stream, StreamStop, TellFault, Teller, stream_end,
     stream_input, stream_sources,
 };
 use tl_text::{ByteIn, ByteOut, CountedReader, write_all};
@@ -47,14 +48,16 @@ fn sources_of<'a, R: Files + Threads + Sync + AllocGlobal + Clone + Drop>(
     Ok(sources)
 }
 
-/// What is told of a stream of which no fragment has come, in a form, with the watches of monitors.
+/// What is told of a stream of which no fragment has come, in a form, with the watches of monitors, of a share of managers.
 fn teller_of<'f, F: RowForm>(
     alloc: Global,
     stream: Stream,
+    share: Share,
     watches: &[(u32, Watch)],
     form: &'f mut F,
 ) -> Result<Teller<'f, F>, AllocError> {
     let mut teller = Teller::new(alloc, stream, form)?;
+    teller.check_only(share);
     for (number, watch) in watches {
         teller.watch(*number, *watch)?;
     }
@@ -145,9 +148,9 @@ struct Streams<'a> {
 }
 
 /// Streams the fragments of files, or of standard input where none is named or `-` alone, and writes each row once it is certain. A
-/// word is one input: its file, or the files of a folder or of a list one after another. With workers, so many threads parse fragments
-/// beside this one. The fault of the topology, of the setup, or of the first file of an input that can't be opened; want of memory, or
-/// a write that fails.
+/// word is one input: its file, or the files of a folder or of a list one after another. Where managers are named, the fragments of
+/// other known links are passed over. With workers, so many threads parse fragments beside this one. The fault of the topology, of the
+/// setup, or of the first file of an input that can't be opened; want of memory, or a write that fails.
 pub fn stream_of_files<
     R: Files + Threads + Sync + AllocGlobal + Clone + Drop,
     I: ByteIn,
@@ -167,6 +170,10 @@ pub fn stream_of_files<
 {
     let alloc = rt.alloc();
     let topo = Arc::new(alloc, topology_of(rt, topology)?)?;
+    let share = match share_of(alloc, &topo, &options.managers) {
+        Ok(share) => share,
+        Err(trouble) => return ending_without(trouble),
+    };
     let Setup {
         regions,
         watches,
@@ -182,12 +189,12 @@ pub fn stream_of_files<
     if options.show {
         let mut form = ShownStream::new(alloc, &topo)?;
         let stream = Stream::new(alloc, topo, regions)?;
-        let teller = teller_of(alloc, stream, &watches, &mut form)?;
+        let teller = teller_of(alloc, stream, share, &watches, &mut form)?;
         stream_in_form(rt, teller, streams, input, out, err)
     } else {
         let stream = Stream::new(alloc, topo, regions)?;
         let mut form = PlainRows;
-        let teller = teller_of(alloc, stream, &watches, &mut form)?;
+        let teller = teller_of(alloc, stream, share, &watches, &mut form)?;
         stream_in_form(rt, teller, streams, input, out, err)
     }
 }

@@ -1,9 +1,10 @@
 //! Which file a fault is of, and its sentence.
 
 use crate::fault::Fault;
-use crate::files::{Seen, line_after, seen_at, whole_topology};
+use crate::files::{Seen, is_passed, line_after, seen_at, whole_topology};
 use crate::paths::{files_of, list_of};
-use std::alloc::Global;
+use crate::share::share_of;
+use std::alloc::{AllocError, Global};
 use std::rt::Files;
 use std::sync::Arc;
 use tl_advice::{
@@ -14,6 +15,7 @@ use tl_beats::{Fragment, FragmentFault, parse_whole_fragment};
 use tl_edits::{Change, Edit, EditFault, Log};
 use tl_options::StreamOptions;
 use tl_script::log_of;
+use tl_stream::{Share, Sieve};
 use tl_topology::{Topo, TopoFault, read_topo};
 
 /// The most refused commands of a script that are told.
@@ -226,14 +228,25 @@ fn fragment_text(
     Ok(Some(sentence))
 }
 
+/// Whether a text is that of a fragment that is not checked.
+fn is_left(alloc: Global, log: &Log, share: &Share, text: &[u8]) -> Result<bool, AllocError> {
+    let sieve = Sieve {
+        topo: log.inputs().topo(),
+        share,
+    };
+    is_passed(alloc, sieve, text)
+}
+
 /// The sentence of a fragment's file that is read again and added, if the fault is its.
 fn fragment_again<R: Files + AllocGlobal>(
     rt: &R,
     suspect: Suspect<'_>,
     before: &[String],
+    share: &Share,
     log: &mut Log,
 ) -> Result<Option<String>, Fault> {
     match &seen_at(rt, suspect.path, Role::Fragment)? {
+        Seen::Text(text) if is_left(rt.alloc(), log, share, text)? => Ok(None),
         Seen::Text(text) => fragment_text(rt.alloc(), suspect, before, text, log),
         seen => seen_sentence(rt.alloc(), suspect, seen, Role::Fragment),
     }
@@ -244,12 +257,13 @@ fn first_again<R: Files + AllocGlobal>(
     rt: &R,
     topology: Suspect<'_>,
     files: &[String],
+    share: &Share,
     log: &mut Log,
 ) -> Result<Option<String>, Fault> {
     for (place, path) in files.iter().enumerate() {
         let suspect = Suspect::new(path.as_str(), topology.fault, topology.look);
         let before = files.get(..place).unwrap_or(files);
-        if let Some(sentence) = fragment_again(rt, suspect, before, log)? {
+        if let Some(sentence) = fragment_again(rt, suspect, before, share, log)? {
             return Ok(Some(sentence));
         }
     }
@@ -261,10 +275,11 @@ fn fragments_again<R: Files + AllocGlobal>(
     rt: &R,
     topology: Suspect<'_>,
     files: &[String],
+    share: &Share,
     topo: Topo,
 ) -> Result<Option<String>, Fault> {
     let mut log = Log::new(rt.alloc(), topo)?;
-    first_again(rt, topology, files, &mut log)
+    first_again(rt, topology, files, share, &mut log)
 }
 
 /// The sentence of a word whose folder or list can't be read.
@@ -299,24 +314,41 @@ fn words_again<R: Files + AllocGlobal + Clone + Drop>(
     rt: &R,
     topology: Suspect<'_>,
     words: &[&str],
+    share: &Share,
     topo: Topo,
 ) -> Result<Option<String>, Fault> {
     let (files, lost) = files_before(rt, words)?;
-    match (fragments_again(rt, topology, &files, topo)?, lost) {
+    match (fragments_again(rt, topology, &files, share, topo)?, lost) {
         (None, Some(word)) => word_again(rt, topology, word),
         (sentence, _) => Ok(sentence),
     }
 }
 
-/// The sentence of a fault of `once`, whose files are read again: that of the first that it is of. None where it is of none.
+/// The same of those that are checked where these managers are named.
+fn share_again<R: Files + AllocGlobal + Clone + Drop>(
+    rt: &R,
+    topology: Suspect<'_>,
+    words: &[&str],
+    managers: &[&str],
+    topo: Topo,
+) -> Result<Option<String>, Fault> {
+    match share_of(rt.alloc(), &topo, managers) {
+        Ok(share) => words_again(rt, topology, words, &share, topo),
+        Err(_) => Ok(None),
+    }
+}
+
+/// The sentence of a fault of `once`, whose files are read again: that of the first that it is of, of those that are checked where these
+/// managers are named. None where it is of none.
 pub fn once_sentence<R: Files + AllocGlobal + Clone + Drop>(
     rt: &R,
     topology: Suspect<'_>,
     words: &[&str],
+    managers: &[&str],
 ) -> Result<Option<String>, Fault> {
     match topology_again(rt, topology)? {
         Again::Told(sentence) => Ok(Some(sentence)),
-        Again::Sound(topo) => words_again(rt, topology, words, topo),
+        Again::Sound(topo) => share_again(rt, topology, words, managers, topo),
         Again::Unknown => Ok(None),
     }
 }
@@ -332,7 +364,7 @@ pub fn stream_sentence<R: Files + AllocGlobal + Clone + Drop>(
         Some(script) if topology.fault.code != Fault::FILE.code => {
             script_sentence(rt, topology, script)
         }
-        _ => once_sentence(rt, topology, &options.inputs),
+        _ => once_sentence(rt, topology, &options.inputs, &options.managers),
     }
 }
 

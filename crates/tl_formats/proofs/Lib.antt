@@ -1,2 +1,4 @@
 pub mod Lines
 pub mod Kept
+pub mod PartLaws
+pub mod MergeLaws

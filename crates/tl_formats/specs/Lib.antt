@@ -2,3 +2,5 @@ pub mod Picks
 pub mod Waivers
 pub mod Printed
 pub mod Reasons
+pub mod Merging
+pub mod Parts

@@ -1,4 +1,4 @@
-//! Which rows are written, and how: filters and waivers, JSON, JUnit.
+//! Which rows are written, and how: filters and waivers, JSON, JUnit; reports that are read, and merged.
 #![tactic(auto)]
 
 mod beat;
@@ -6,10 +6,15 @@ mod format;
 mod html;
 mod json;
 mod junit;
+mod merging;
 mod output;
 mod page;
 mod page_script;
+pub mod parts;
 mod pick;
+mod report_fault;
+mod report_reading;
+mod report_row;
 mod rule_names;
 mod waiver_fault;
 mod waivers;
@@ -18,8 +23,12 @@ pub use format::Format;
 pub use html::html_text;
 pub use json::{json_text, place_of};
 pub use junit::junit_text;
+pub use merging::{MergedText, merge_texts};
 pub use output::{Printed, Title, print_rows};
 pub use pick::{Cycles, Pick, Waiver};
+pub use report_fault::{MergeFault, ReportFault, TextsFault};
+pub use report_reading::{ReportText, read_report};
+pub use report_row::ReportRow;
 pub use rule_names::rule_named;
 pub use waiver_fault::WaiverFault;
 pub use waivers::read_waivers;

@@ -1,7 +1,8 @@
 //! The words of `doctor`.
 
+use crate::capture::fragments;
 use crate::usage::Draft;
-use crate::words::{Command, described, explain_faults, fragments, paths_asked, topology};
+use crate::words::{Command, described, explain_faults, paths_asked, topology};
 use clap::{ArgMatches, Error};
 use std::alloc::Global;
 

@@ -1,10 +1,12 @@
 //! The words of the command line, and the entries that `explain` writes.
 #![tactic(auto)]
 
+mod capture;
 mod doctor;
 mod explain;
 mod flow_entries;
 mod format_entries;
+mod merge;
 mod permission_entries;
 mod picture;
 mod refusal_entries;
@@ -14,6 +16,7 @@ mod usage;
 mod view;
 mod words;
 
+pub use capture::Capture;
 pub use explain::{entry_of, titles};
 pub use picture::Picture;
 pub use stream::StreamOptions;

@@ -1,5 +1,6 @@
 //! The words of `stream`.
 
+use crate::capture::managers;
 use crate::usage::{Draft, setting};
 use crate::words::{
     Command, described, explain_faults, paths_asked, show, topology, workers, workers_of,
@@ -12,6 +13,8 @@ use std::alloc::Global;
 pub struct StreamOptions<'a> {
     /// The words that name the inputs; none are standard input.
     pub inputs: Vec<&'a str>,
+    /// The names of the managers of which the links are checked; none are all.
+    pub managers: Vec<&'a str>,
     /// The path of a script of regions and monitors that stand before the first beat.
     pub setup: Option<&'a str>,
     /// Whether rows are shown.
@@ -56,6 +59,7 @@ pub(crate) fn stream<'a>(alloc: Global) -> Draft<'a> {
             "How many threads parse fragments beside the first, 0 to 16; 0 without this option",
         ))
         .arg(stream_setup(alloc))
+        .arg(managers(alloc))
         .arg(show(alloc))
         .arg(explain_faults(alloc))
 }
@@ -69,6 +73,7 @@ pub(crate) fn stream_asked<'a>(
         topology: found.get_str("TOPO").unwrap_or(""),
         options: StreamOptions {
             inputs: paths_asked(alloc, found, "FILE")?,
+            managers: paths_asked(alloc, found, "manager")?,
             setup: found.get_str("setup"),
             show: found.get_flag("show"),
             explain_faults: found.get_flag("explain-faults"),

@@ -1,7 +1,9 @@
 //! The words of the command line.
 
+use crate::capture::{Capture, capture_asked, fragments, managers};
 use crate::doctor::{doctor, doctor_asked};
 use crate::explain::entry_of;
+use crate::merge::{merge, merge_asked};
 use crate::picture::{Picture, picture_asked, view};
 use crate::stream::{StreamOptions, stream, stream_asked};
 use crate::usage::{Draft, flag, setting, word};
@@ -43,7 +45,7 @@ pub enum Command<'a> {
     /// The report of fragments, from files.
     Once {
         topology: &'a str,
-        fragments: Vec<&'a str>,
+        capture: Capture<'a>,
         how: How,
         view: View<'a>,
     },
@@ -65,6 +67,12 @@ pub enum Command<'a> {
     Stream {
         topology: &'a str,
         options: StreamOptions<'a>,
+    },
+    /// The report of all managers, from files of reports of some.
+    Merge {
+        topology: &'a str,
+        reports: Vec<&'a str>,
+        explain_faults: bool,
     },
     /// What looks wrong in a topology or in how fragments were made, from files.
     Doctor {
@@ -94,6 +102,7 @@ impl Command<'_> {
             }
             Command::Input
             | Command::Stream { .. }
+            | Command::Merge { .. }
             | Command::Doctor { .. }
             | Command::View { .. }
             | Command::Explain { .. } => None,
@@ -112,9 +121,9 @@ impl Command<'_> {
     pub fn explains_faults(&self) -> bool {
         match self {
             Command::Stream { options, .. } => options.explain_faults,
-            Command::Doctor { explain_faults, .. } | Command::View { explain_faults, .. } => {
-                *explain_faults
-            }
+            Command::Merge { explain_faults, .. }
+            | Command::Doctor { explain_faults, .. }
+            | Command::View { explain_faults, .. } => { *explain_faults }
             _ => self.how().is_some_and(|how| how.explain_faults),
         }
     }
@@ -204,17 +213,6 @@ pub(crate) fn described<'a>(
     )
 }
 
-pub(crate) fn fragments<'a>(alloc: Global) -> Arg<'a> {
-    word(
-        alloc,
-        "FRAGMENT",
-        "Path of a fragment text, at most 8,388,608 bytes, each one edit; a folder stands for its files in order of name, @LIST for the \
-paths in the file LIST, - for standard input",
-    )
-    .action(ArgAction::Append)
-    .num_args(1..)
-}
-
 fn once<'a>(alloc: Global) -> Draft<'a> {
     let about = "Checks the fragments of a capture together and writes the report";
     let once = described(alloc, "once", about, ONCE_EXAMPLE)
@@ -223,7 +221,8 @@ fn once<'a>(alloc: Global) -> Draft<'a> {
         .arg(workers(
             alloc,
             "How many threads read files beside the first, 0 to 16; 0 without this option",
-        ));
+        ))
+        .arg(managers(alloc));
     with_view(alloc, with_how(alloc, once))
 }
 
@@ -292,6 +291,7 @@ fn program<'a>(alloc: Global) -> Result<clap::Command<'a>, AllocError> {
         .subcommand(run(alloc))
         .subcommand(audit(alloc))
         .subcommand(stream(alloc))
+        .subcommand(merge(alloc))
         .subcommand(doctor(alloc))
         .subcommand(view(alloc))
         .subcommand(explain(alloc))
@@ -316,6 +316,7 @@ of at most 1,048,576 bytes, each FRAGMENT a fragment text of at most 8,388,608 b
 tlcheck run TOPO SCRIPT runs a script of at most 67,108,864 bytes: edits of fragments, regions and monitors, and \
 reports between them; with - for SCRIPT commands are carried out as they come. tlcheck audit TOPO SCRIPT EDIT checks anew what its first EDIT accepted edits leave.\n\
 tlcheck stream TOPO [FILE..] checks fragments as they come: of each link with rising numbers and ranges, as long as they come.\n\
+tlcheck merge TOPO REPORT.. makes one report of those that once --manager wrote of different managers.\n\
 tlcheck doctor TOPO FRAGMENT.. says what looks wrong in a topology or in how the capture was made: status 1 where something does.\n\
 tlcheck view TOPO FRAGMENT.. --row ROW draws a row of the report with the messages that led to it: status 0 where it is drawn.\n\
 Without words tlcheck reads a topology and a script right after it from standard input, at most 67,108,864 bytes, \
@@ -347,7 +348,7 @@ fn how_asked(found: &ArgMatches<'_>, workers: u8) -> How {
     }
 }
 
-/// The paths that words name.
+/// The paths or names that words have.
 pub(crate) fn paths_asked<'a>(
     alloc: Global,
     found: &ArgMatches<'a>,
@@ -367,10 +368,10 @@ fn once_asked<'a>(
     found: &ArgMatches<'a>,
 ) -> Result<Command<'a>, Error> {
     let view = view_asked(alloc, program, found)?;
-    let fragments = paths_asked(alloc, found, "FRAGMENT")?;
+    let capture = capture_asked(alloc, found)?;
     Ok(Command::Once {
         topology: found.get_str("TOPO").unwrap_or(""),
-        fragments,
+        capture,
         how: how_asked(found, workers_of(found)),
         view,
     })
@@ -457,6 +458,8 @@ fn command_named<'a>(
         audit_asked(alloc, program, found)
     } else if name == "stream" {
         stream_asked(alloc, found)
+    } else if name == "merge" {
+        merge_asked(alloc, found)
     } else if name == "doctor" {
         doctor_asked(alloc, found)
     } else if name == "view" {

@@ -4,20 +4,40 @@ ghost use Rattle.std.specs.Prelude.{◌≡◌, ◌++◌, ◌+◌, ◌<◌, ◌�
 ghost use Rattle.std.specs.List.{flat_map};
 ghost use Rattle.std.specs.Io.KnownBytes.{Keeps, IsAtEnd};
 ghost use Rattle.tl_beats.specs.Text.{fragment_text};
-ghost use Rattle.tl_stream.specs.Feeds.{all_left, Gives};
+ghost use Rattle.tl_stream.specs.Feeds.{all_left, Gives, IsCut};
 ghost use Rattle.tl_stream.specs.Parts.{joined_texts, BeginsWith};
 
 use crate::ahead::Ahead;
 use crate::parsers::Parsers;
+use crate::share::{Passed, Share};
 use std::alloc::{AllocError, Global};
 use std::collections::VecDeque;
 use std::marker::Model;
 use std::thread::Threads;
 use tl_beats::{Fragment, FragmentFault, parse_fragment};
 use tl_text::{ByteIn, line};
+use tl_topology::Topo;
 
 /// The most bytes of a fragment's text.
 const MOST_BYTES: usize = 8_388_608;
+
+/// What comes next in an input.
+#[derive(Drop)]
+pub enum Cut {
+    /// A fragment.
+    Fragment(Fragment),
+    /// The text of one that is not checked.
+    Passed(Passed),
+}
+
+/// Which fragments are checked.
+#[derive(Clone, Copy)]
+pub struct Sieve<'a> {
+    /// The topology.
+    pub topo: &'a Topo,
+    /// The managers of which the links are checked.
+    pub share: &'a Share,
+}
 
 /// What was read of an input of fragments and that no fragment had that was taken.
 #[derive(Drop)]
@@ -87,13 +107,17 @@ fn byte_count(texts: &[Vec<u8>]) -> usize
 }
 
 /// The fragment at the front of what was read.
-fn cut(alloc: Global, ahead: &mut Ahead) -> Result<Fragment, FragmentFault>
-    ensures ok { IfOk result (λ f. ahead.old ≡ fragment_text f ++ ahead.new) }
+fn cut(alloc: Global, sieve: Sieve<'_>, ahead: &mut Ahead) -> Result<Cut, FragmentFault>
+    ensures ok { IfOk result (λ cut. IsCut ahead.old ahead.new cut) }
     ensures err { OnErr result (ahead.new ≡ ahead.old) }
 {
+    if let Some(passed) = sieve.share.passed(alloc, sieve.topo, ahead.left())? {
+        ahead.pass(passed.bytes);
+        return Ok(Cut::Passed(passed));
+    }
     let (fragment, used) = parse_fragment(alloc, ahead.left())?;
     ahead.pass(used);
-    Ok(fragment)
+    Ok(Cut::Fragment(fragment))
 }
 
 /// The fragments at the front of what was read, where there are workers, the texts of several are whole: each thread parses its share.
@@ -164,14 +188,15 @@ impl Feed {
         self.ahead.left()
     }
 
-    /// The next fragment, read in at most 8,388,610 reads; None where nothing is left. Its fault where what is left does not begin
-    /// with the text of a fragment, TooLong where that has more than 8,388,608 bytes, ReadFault where a read fails; then, and at want
-    /// of memory, what was read is lost.
+    /// The next fragment, read in at most 8,388,610 reads; None where nothing is left. Of one that is not checked its first line is
+    /// read and its line `end` found. Its fault where what is left does not begin with the text of a fragment, TooLong where that has
+    /// more than 8,388,608 bytes, ReadFault where a read fails; then, and at want of memory, what was read is lost.
     pub fn next<R: Threads + Sync + AllocGlobal, I: ByteIn>(
         &mut self,
         parsers: &Parsers<'_, R>,
+        sieve: Sieve<'_>,
         input: &mut I,
-    ) -> Result<Option<Fragment>, FragmentFault>
+    ) -> Result<Option<Cut>, FragmentFault>
         requires reads { I.read_count input.old < 2 ^ 62 }
         requires failures { I.failure_count input.old < 2 ^ 63 }
         ensures given { IfOk result (Gives (all_left self.old (I.remaining input.old)) (all_left self.new (I.remaining input.new))) }
@@ -179,16 +204,18 @@ impl Feed {
         ensures reads { I.read_count input.new ≤ I.read_count input.old + 8388610 }
     {
         if let Some(fragment) = self.parsed.pop_front() {
-            return Ok(Some(fragment));
+            return Ok(Some(Cut::Fragment(fragment)));
         }
         let is_end = fill(&mut self.ahead, input)?;
-        self.parsed = VecDeque::from(cut_beside(parsers, &mut self.ahead)?);
-        if let Some(fragment) = self.parsed.pop_front() {
-            return Ok(Some(fragment));
+        if sieve.share.is_all() {
+            self.parsed = VecDeque::from(cut_beside(parsers, &mut self.ahead)?);
+            if let Some(fragment) = self.parsed.pop_front() {
+                return Ok(Some(Cut::Fragment(fragment)));
+            }
         }
         if is_end && self.ahead.left().is_empty() {
             return Ok(None);
         }
-        Ok(Some(cut(parsers.alloc(), &mut self.ahead)?))
+        Ok(Some(cut(parsers.alloc(), sieve, &mut self.ahead)?))
     }
 }

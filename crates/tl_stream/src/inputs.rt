@@ -2,9 +2,10 @@
 
 ghost use Rattle.std.specs.Prelude.{◌≡◌, ◌<◌, ◌^◌, OnOk};
 
-use crate::feed::Feed;
+use crate::feed::{Cut, Feed};
 use crate::form::RowForm;
 use crate::parsers::Parsers;
+use crate::share::Passed;
 use crate::teller::{TellFault, Teller};
 use std::alloc::Global;
 use std::thread::Threads;
@@ -28,7 +29,7 @@ pub struct StreamStop {
 /// What one more step on an input came to.
 #[derive(Drop)]
 enum Step {
-    /// A fragment was read that ends with this cycle.
+    /// A fragment was read that ends with this cycle, and checked if it is to be.
     Took(u64),
     /// Nothing is left.
     Ended,
@@ -56,6 +57,11 @@ impl Place {
     fn pass(&mut self, fragment: &Fragment) {
         let lines = fragment.beats().len() as u64 + 2;
         self.lines = self.lines.saturating_add(lines);
+    }
+
+    /// Goes on after one that is not checked.
+    fn pass_over(&mut self, passed: Passed) {
+        self.lines = self.lines.saturating_add(passed.lines);
     }
 
     /// Where the fragment that comes next is at fault: on its first line where the fault names none.
@@ -87,12 +93,16 @@ fn take_step<R: Threads + Sync + AllocGlobal, I: ByteIn, F: RowForm, O: ByteOut,
         return Ok(Step::Ended);
     }
     let alloc = parsers.alloc();
-    match place.feed.next(parsers, input) {
-        Ok(Some(fragment)) => {
+    match place.feed.next(parsers, teller.sieve(), input) {
+        Ok(Some(Cut::Fragment(fragment))) => {
             let last = fragment.last();
             place.pass(&fragment);
             teller.take(alloc, fragment, out, err)?;
             Ok(Step::Took(last))
+        }
+        Ok(Some(Cut::Passed(passed))) => {
+            place.pass_over(passed);
+            Ok(Step::Took(passed.last))
         }
         Ok(None) => Ok(Step::Ended),
         Err(FragmentFault::Memory) => Err(TellFault::Memory),
@@ -147,13 +157,7 @@ fn next_of<I: ByteIn>(sources: &[Source<I>]) -> Option<usize> {
 }
 
 /// Streams one input, up to its end or to the first fault of its text.
-pub fn stream_input<
-    R: Threads + Sync + AllocGlobal,
-    I: ByteIn,
-    F: RowForm,
-    O: ByteOut,
-    E: ByteOut,
->(
+pub fn stream_input<R: Threads + Sync + AllocGlobal, I: ByteIn, F: RowForm, O: ByteOut, E: ByteOut>(
     parsers: &Parsers<'_, R>,
     teller: &mut Teller<'_, F>,
     input: &mut I,

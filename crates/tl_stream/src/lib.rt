@@ -11,15 +11,17 @@ mod inputs;
 pub mod laws;
 mod lookout;
 mod parsers;
+mod share;
 mod stream;
 mod teller;
 
 pub use ahead::Ahead;
 pub use fault::StreamFault;
-pub use feed::Feed;
+pub use feed::{Cut, Feed, Sieve};
 pub use form::{Completed, PlainRows, RowForm};
 pub use inputs::{Source, StreamStop, stream_end, stream_input, stream_sources};
 pub use lookout::Lookout;
 pub use parsers::{Parsed, Parsers};
+pub use share::{Passed, Share};
 pub use stream::Stream;
 pub use teller::{StreamCount, TellFault, Teller};

@@ -4,8 +4,10 @@ ghost use Rattle.std.specs.Prelude.{◌≡◌, ◌<◌, ◌^◌, IfOk, OnOk, len
 ghost use Rattle.std.specs.List.{All};
 
 use crate::fault::StreamFault;
+use crate::feed::Sieve;
 use crate::form::{Completed, RowForm};
 use crate::lookout::{Lookout, placed};
+use crate::share::Share;
 use crate::stream::Stream;
 use std::alloc::{AllocError, AllocFailed, Global};
 use std::sync::Arc;
@@ -94,6 +96,7 @@ pub struct Teller<'f, F: RowForm> {
     kept: Present,
     // How many beats came of each manager while one of its links had no fragment.
     waits: Vec<u64>,
+    share: Share,
 }
 
 /// The line of a refusal.
@@ -253,7 +256,21 @@ impl<'f, F: RowForm> Teller<'f, F> {
             lookouts: Vec::new(alloc),
             kept: Present::new(alloc),
             waits,
+            share: Share::all(),
         })
+    }
+
+    /// Checks the links of these managers alone from now on.
+    pub fn check_only(&mut self, share: Share) {
+        self.share = share;
+    }
+
+    /// Which fragments it checks.
+    pub(crate) fn sieve(&self) -> Sieve<'_> {
+        Sieve {
+            topo: self.stream.topo(),
+            share: &self.share,
+        }
     }
 
     /// Watches the beats that come from now on too, for the monitor of this number. AllocError where memory is refused.

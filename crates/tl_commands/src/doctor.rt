@@ -3,7 +3,7 @@
 ghost use Rattle.std.specs.Prelude.{◌<◌, ◌^◌};
 
 use crate::fault::Fault;
-use crate::files::{fragments_of, topology_of};
+use crate::files::{all_fragments_of, topology_of};
 use crate::reports::{Ending, report_of};
 use std::alloc::Global;
 use std::rt::Files;
@@ -13,7 +13,6 @@ use tl_advice::diagnose;
 use tl_beats::Fragment;
 use tl_check::all_added;
 use tl_edits::Inputs;
-use tl_stream::{Share, Sieve};
 use tl_text::{ByteOut, write_all};
 use tl_topology::Topo;
 
@@ -49,12 +48,7 @@ fn doctor_on<R: Files + Threads + Sync + AllocGlobal + Clone + Drop, O: ByteOut>
 ) -> Result<Ending, Fault>
     requires { O.failure_count out.old < 2 ^ 63 }
 {
-    let share = Share::all();
-    let sieve = Sieve {
-        topo,
-        share: &share,
-    };
-    let fragments = fragments_of(rt, words, sieve, 0)?;
+    let fragments = all_fragments_of(rt, topo, words)?;
     doctor_of(rt.alloc(), topo, &fragments, out)
 }
 

@@ -12,7 +12,7 @@ use std::{fs, io};
 use tl_advice::Role;
 use tl_beats::{Fragment, FragmentFault, parse_whole_fragment};
 use tl_script::read_script;
-use tl_stream::{Parsers, Sieve};
+use tl_stream::{Parsers, Share, Sieve};
 use tl_text::{CountedReader, TextFault, read_text};
 use tl_topology::{Topo, TopoFault, read_topo};
 
@@ -215,6 +215,20 @@ pub(crate) fn fragments_of<R: Files + Threads + Sync + AllocGlobal + Clone + Dro
         Some(fault) => Err(fault),
         None => Ok(fragments),
     }
+}
+
+/// The fragments of the files that words stand for, whatever their managers are, read by this thread alone.
+pub(crate) fn all_fragments_of<R: Files + Threads + Sync + AllocGlobal + Clone + Drop>(
+    rt: &R,
+    topo: &Topo,
+    words: &[&str],
+) -> Result<Vec<Arc<Fragment>>, Fault> {
+    let share = Share::all();
+    let sieve = Sieve {
+        topo,
+        share: &share,
+    };
+    fragments_of(rt, words, sieve, 0)
 }
 
 /// The script that a file is; its commands are not looked at. FILE where it can't be opened or read.

@@ -3,7 +3,7 @@
 ghost use Rattle.std.specs.Prelude.{◌<◌, ◌^◌};
 
 use crate::fault::Fault;
-use crate::files::{fragments_of, topology_of};
+use crate::files::{all_fragments_of, topology_of};
 use crate::picking::{Trouble, link_of};
 use crate::reports::{Ending, ending_without, report_of};
 use std::alloc::{AllocError, Global};
@@ -206,7 +206,7 @@ fn view_on<R: Files + Threads + Sync + AllocGlobal + Clone + Drop, O: ByteOut>(
 ) -> Result<Ending, Fault>
     requires { O.failure_count out.old < 2 ^ 63 }
 {
-    let fragments = fragments_of(rt, words, 0)?;
+    let fragments = all_fragments_of(rt, topo, words)?;
     view_of(rt, topo, &fragments, picture, out)
 }
 

@@ -1,8 +1,9 @@
 //! The words of `view`.
 
+use crate::capture::fragments;
 use crate::usage::{Draft, setting};
 use crate::view::{refusal, rule_asked};
-use crate::words::{Command, described, explain_faults, fragments, paths_asked, topology};
+use crate::words::{Command, described, explain_faults, paths_asked, topology};
 use clap::{Arg, ArgMatches, Error};
 use std::alloc::Global;
 use tl_view::{Drawing, RowName};

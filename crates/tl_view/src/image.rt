@@ -6,8 +6,7 @@ use crate::steps::{
     Step, columns_of, cycle_of, gap_text, heading_of, note_of, reach_of, steps_of, title_of,
 };
 use std::alloc::{AllocError, Global};
-use tl_rows::rule_line;
-use tl_tables::rule_text;
+use tl_tables::{rule_line, rule_text};
 
 /// From one lane to the next, in pixels.
 const LANE: usize = 280;

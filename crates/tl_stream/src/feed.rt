@@ -107,7 +107,7 @@ fn byte_count(texts: &[Vec<u8>]) -> usize
 }
 
 /// The fragment at the front of what was read.
-fn cut(alloc: Global, sieve: Sieve<'_>, ahead: &mut Ahead) -> Result<Cut, FragmentFault>
+fn cut_one(alloc: Global, sieve: Sieve<'_>, ahead: &mut Ahead) -> Result<Cut, FragmentFault>
     ensures ok { IfOk result (λ cut. IsCut ahead.old ahead.new cut) }
     ensures err { OnErr result (ahead.new ≡ ahead.old) }
 {
@@ -120,16 +120,17 @@ fn cut(alloc: Global, sieve: Sieve<'_>, ahead: &mut Ahead) -> Result<Cut, Fragme
     Ok(Cut::Fragment(fragment))
 }
 
-/// The fragments at the front of what was read, where there are workers, the texts of several are whole: each thread parses its share.
-/// A text that is none ends them. AllocError where memory is refused.
+/// The fragments at the front of what was read, where there are workers, all fragments are checked, and the texts of several are whole:
+/// each thread parses its share. A text that is none ends them. AllocError where memory is refused.
 fn cut_beside<R: Threads + Sync + AllocGlobal>(
     parsers: &Parsers<'_, R>,
+    sieve: Sieve<'_>,
     ahead: &mut Ahead,
 ) -> Result<Vec<Fragment>, AllocError>
     ensures { IfOk result (λ fs. ahead.old ≡ flat_map fragment_text fs.items ++ ahead.new) }
 {
     let alloc = parsers.alloc();
-    if parsers.workers() == 0 {
+    if parsers.workers() == 0 || !sieve.share.is_all() {
         return Ok(Vec::new(alloc));
     }
     let texts = whole_texts(alloc, ahead.left())?;
@@ -207,15 +208,13 @@ impl Feed {
             return Ok(Some(Cut::Fragment(fragment)));
         }
         let is_end = fill(&mut self.ahead, input)?;
-        if sieve.share.is_all() {
-            self.parsed = VecDeque::from(cut_beside(parsers, &mut self.ahead)?);
-            if let Some(fragment) = self.parsed.pop_front() {
-                return Ok(Some(Cut::Fragment(fragment)));
-            }
+        self.parsed = VecDeque::from(cut_beside(parsers, sieve, &mut self.ahead)?);
+        if let Some(fragment) = self.parsed.pop_front() {
+            return Ok(Some(Cut::Fragment(fragment)));
         }
         if is_end && self.ahead.left().is_empty() {
             return Ok(None);
         }
-        Ok(Some(cut(parsers.alloc(), sieve, &mut self.ahead)?))
+        Ok(Some(cut_one(parsers.alloc(), sieve, &mut self.ahead)?))
     }
 }

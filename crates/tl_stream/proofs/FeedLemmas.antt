@@ -1,13 +1,17 @@
 -- What an input of fragments has left, before and after one is taken.
-use Rattle.std.proofs.Common.{◌≡◌, ℕ, List, [], ◌++◌, Option, Some, None, sym, ap, subst, ◌∙◌}
+use Rattle.std.proofs.Common.{◌≡◌, ℕ, List, [], ◌++◌, Option, Some, None, take, drop, sym, ap, subst, ◌∙◌}
 use Rattle.std.specs.List.{flat_map}
 use Rattle.std.specs.Io.KnownBytes.{Keeps, Consumes}
-use Rattle.std.proofs.lemmas.List.{append_assoc}
+use Rattle.std.proofs.lemmas.List.{append_assoc, take-append-drop}
 use Rattle.tl_beats.specs.Fragments.{Frag}
 use Rattle.tl_beats.specs.Text.{fragment_text}
 use Rattle.tl_stream.specs.Feeds.{all_left, IsCut, Gives}
 use Rattle.tl_stream.specs.declared.feed.Cut.{Cut}
 use Rattle.tl_stream.specs.declared.feed.Cut.TheVariants as cut
+
+-- A front that is dropped stood before the rest.
+pub front_before : (n : ℕ) (old new : List ℕ) → new ≡ drop n old → old ≡ take n old ++ new
+front_before n old new is = sym (take-append-drop n old) ∙ ap (λ (ys : List ℕ). take n old ++ ys) (sym is)
 
 -- What was kept is consumed.
 kept_consumes : (old kept new : Option (List ℕ)) (text : List ℕ) → Keeps old kept → Consumes kept new text → Consumes old new text

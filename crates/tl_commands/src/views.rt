@@ -62,7 +62,9 @@ fn missing_row(
     let rule = rule_text(picture.row.rule);
     let rules = rules_there(alloc, rows, link, picture)?;
     if rules.is_empty() {
-        return format!(in alloc; "tlcheck: the report has no row {name} {fragment} {line} {rule}\n");
+        return format!(in alloc;
+            "tlcheck: the report has no row {name} {fragment} {line} {rule}\n"
+        );
     }
     format!(in alloc;
         "tlcheck: the report has no row {name} {fragment} {line} {rule}; that line breaks {rules}\n"
@@ -106,9 +108,9 @@ fn drawing_text(alloc: Global, scene: &Scene, drawing: Drawing) -> Result<String
 fn save<R: Files + AllocGlobal>(rt: &R, path: &str, text: &str) -> Result<(), Trouble> {
     match fs::write(rt, path, text) {
         Ok(()) => Ok(()),
-        Err(_) => Err(Trouble::Objection(
-            format!(in rt.alloc(); "tlcheck: {path} can't be written\n")?,
-        )),
+        Err(_) => Err(Trouble::Objection(format!(in rt.alloc();
+            "tlcheck: {path} can't be written\n"
+        )?)),
     }
 }
 

@@ -83,7 +83,9 @@ fn row_words(text: &str) -> Option<RowWords<'_>> {
 
 /// What is told of words that are no row.
 fn no_row(alloc: Global, program: &mut clap::Command<'_>, text: &str) -> Result<Error, Error> {
-    let text = format!(in alloc; "'{text}' is no row: LINK FRAGMENT LINE RULE, as the report writes it")?;
+    let text = format!(in alloc;
+        "'{text}' is no row: LINK FRAGMENT LINE RULE, as the report writes it"
+    )?;
     refusal(program, text.as_str())
 }
 

@@ -134,12 +134,7 @@ fn bit_value(alloc: Global, bit: bool) -> Result<String, AllocError> {
 }
 
 /// The value of a field of a beat, before its code.
-fn value_of(
-    alloc: Global,
-    level: Level,
-    beat: &Beat,
-    field: Field,
-) -> Result<String, AllocError> {
+fn value_of(alloc: Global, level: Level, beat: &Beat, field: Field) -> Result<String, AllocError> {
     let found = op_of(level, beat.chan, beat.opcode);
     match field {
         Field::Valid => bit_value(alloc, true),

@@ -1,9 +1,7 @@
 //! A scene as an image, with time downwards.
 
 use crate::scene::{Lane, Part, Scene, Shown};
-use crate::shapes::{
-    Point, arrow_head, cross_at, curve_down, image_around, line_from, text_at,
-};
+use crate::shapes::{Point, arrow_head, cross_at, curve_down, image_around, line_from, text_at};
 use crate::steps::{
     Step, columns_of, cycle_of, gap_text, heading_of, note_of, reach_of, steps_of, title_of,
 };
@@ -120,9 +118,7 @@ fn arrow_shapes(
         (right, line_from(alloc, class, left, right.minus(8, 0))?)
     };
     let head = arrow_head(alloc, head_class_of(shown.part), tip, reach.is_leftward())?;
-    let middle = grid
-        .point(high.saturating_sub(1), row)
-        .plus(LANE / 2, 0);
+    let middle = grid.point(high.saturating_sub(1), row).plus(LANE / 2, 0);
     let cross = cross_on(alloc, shown.part, middle)?;
     let label = text_at(alloc, "label", middle.minus(0, 12), shown.label.as_str())?;
     format!(in alloc; "{line}{head}{cross}{label}")
@@ -146,7 +142,12 @@ fn message_shapes(
     let cycle = cycle_shape(alloc, grid, row, shown.place.beat.cycle)?;
     let arrow = arrow_shapes(alloc, scene, grid, row, shown)?;
     let note = note_of(alloc, scene, shown)?;
-    let beside = text_at(alloc, note_class_of(shown.part), grid.note(row), note.as_str())?;
+    let beside = text_at(
+        alloc,
+        note_class_of(shown.part),
+        grid.note(row),
+        note.as_str(),
+    )?;
     format!(in alloc; "{cycle}{arrow}{beside}")
 }
 
@@ -283,7 +284,10 @@ fn size_of_image(
     let below = widest(scene.lines.as_str()).max(width_of(heading));
     let lines = scene.lines.lines().count().saturating_mul(20);
     Ok(Point {
-        x: below.saturating_add(MARGIN).max(beside).saturating_add(MARGIN),
+        x: below
+            .saturating_add(MARGIN)
+            .max(beside)
+            .saturating_add(MARGIN),
         y: grid.bottom().saturating_add(lines).saturating_add(8),
     })
 }

@@ -139,13 +139,7 @@ impl Context {
     }
 
     /// The block of what a reply answers.
-    fn asked_block(
-        &self,
-        topo: &Topo,
-        clients: &[u16],
-        level: Level,
-        place: &Placed,
-    ) -> Option<u64>
+    fn asked_block(&self, topo: &Topo, clients: &[u16], level: Level, place: &Placed) -> Option<u64>
         requires beat { IsWellFormed place.now.beat }
         requires link { place.now.link < links_in self.now.origins }
         requires declared { place.now.link < length topo.now.links }

@@ -45,10 +45,7 @@ fn channel_lines(alloc: Global, lane: &Lane, chan: Chan) -> Result<String, Alloc
 
 /// Whether a beat that is shown is on a channel of a link.
 fn has_beat(scene: &Scene, lane: &Lane, chan: Chan) -> bool {
-    scene
-        .shown
-        .iter()
-        .any(|shown| shown.place.link == lane.link && shown.place.beat.chan == chan)
+    scene.shown.iter().any(|shown| shown.place.link == lane.link && shown.place.beat.chan == chan)
 }
 
 /// The channels of a link that have a beat.

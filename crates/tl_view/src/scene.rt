@@ -106,12 +106,7 @@ impl Shown {
 }
 
 /// A beat that is shown, with its words.
-fn shown_as(
-    alloc: Global,
-    topo: &Topo,
-    moment: &Moment,
-    part: Part,
-) -> Result<Shown, AllocError>
+fn shown_as(alloc: Global, topo: &Topo, moment: &Moment, part: Part) -> Result<Shown, AllocError>
     requires declared { moment.now.place.link < length topo.now.links }
     requires beat { IsWellFormed moment.now.place.beat }
 {

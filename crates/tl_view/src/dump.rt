@@ -54,10 +54,15 @@ fn channel_lines(alloc: Global, lane: usize, chan: Chan) -> Result<String, Alloc
 }
 
 /// The declarations of a link.
-fn lane_lines(alloc: Global, place: usize, lane: &Lane) -> Result<String, AllocError> {
+fn lane_lines(
+    alloc: Global,
+    scene: &Scene,
+    place: usize,
+    lane: &Lane,
+) -> Result<String, AllocError> {
     let mut text = String::new(alloc);
     for chan in &CHANNELS {
-        if has_channel(lane.level, *chan) {
+        if has_channel(scene, lane, *chan) {
             let lines = channel_lines(alloc, place, *chan)?;
             text.push_str(lines.as_str())?;
         }
@@ -67,10 +72,10 @@ fn lane_lines(alloc: Global, place: usize, lane: &Lane) -> Result<String, AllocE
 }
 
 /// The declarations of all links.
-fn lanes_lines(alloc: Global, lanes: &[Lane]) -> Result<String, AllocError> {
+fn lanes_lines(alloc: Global, scene: &Scene) -> Result<String, AllocError> {
     let mut text = String::new(alloc);
-    for (place, lane) in lanes.iter().enumerate() {
-        let lines = lane_lines(alloc, place, lane)?;
+    for (place, lane) in scene.lanes.iter().enumerate() {
+        let lines = lane_lines(alloc, scene, place, lane)?;
         text.push_str(lines.as_str())?;
     }
     Ok(text)
@@ -81,7 +86,7 @@ fn header_text(alloc: Global, scene: &Scene) -> Result<String, AllocError> {
     let row = scene.lines.lines().next().unwrap_or("");
     let heading = heading_of(alloc, scene)?;
     let broken = broken_name(alloc, scene)?;
-    let lanes = lanes_lines(alloc, &scene.lanes)?;
+    let lanes = lanes_lines(alloc, scene)?;
     format!(in alloc;
         "$version tlcheck $end\n\
 $comment {row}: {heading}; a cycle is 1 ns $end\n\
@@ -330,10 +335,15 @@ fn changes_text(alloc: Global, scene: &Scene) -> Result<String, AllocError> {
 }
 
 /// The lines that make the valid of each channel of a link low.
-fn idle_lines(alloc: Global, place: usize, lane: &Lane) -> Result<String, AllocError> {
+fn idle_lines(
+    alloc: Global,
+    scene: &Scene,
+    place: usize,
+    lane: &Lane,
+) -> Result<String, AllocError> {
     let mut text = String::new(alloc);
     for chan in &CHANNELS {
-        if has_channel(lane.level, *chan) {
+        if has_channel(scene, lane, *chan) {
             let signal = Signal {
                 lane: place,
                 chan: *chan,
@@ -347,10 +357,10 @@ fn idle_lines(alloc: Global, place: usize, lane: &Lane) -> Result<String, AllocE
 }
 
 /// The values before the first beat: nothing is valid.
-fn idle_values(alloc: Global, lanes: &[Lane]) -> Result<String, AllocError> {
+fn idle_values(alloc: Global, scene: &Scene) -> Result<String, AllocError> {
     let mut text = String::new(alloc);
-    for (place, lane) in lanes.iter().enumerate() {
-        let lines = idle_lines(alloc, place, lane)?;
+    for (place, lane) in scene.lanes.iter().enumerate() {
+        let lines = idle_lines(alloc, scene, place, lane)?;
         text.push_str(lines.as_str())?;
     }
     Ok(text)
@@ -367,7 +377,7 @@ fn begin_text(alloc: Global, first: u64) -> Result<String, AllocError> {
 /// The values before the first beat, at the cycle before it.
 fn first_text(alloc: Global, scene: &Scene) -> Result<String, AllocError> {
     let begin = begin_text(alloc, cycle_of(scene.shown.first()))?;
-    let idle = idle_values(alloc, &scene.lanes)?;
+    let idle = idle_values(alloc, scene)?;
     format!(in alloc; "{begin}$dumpvars\n0{BROKEN_CODE}\n0{EARLIER_CODE}\n{idle}$end\n")
 }
 

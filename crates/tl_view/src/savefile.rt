@@ -1,7 +1,7 @@
 //! How GTKWave lays out the waveform of a scene.
 
 use crate::scene::{Lane, Part, Scene};
-use crate::signals::{CHANNELS, FIELDS, Field, Kind, broken_name, has_channel, path_of};
+use crate::signals::{CHANNELS, FIELDS, Field, Kind, broken_name, has_beat, path_of};
 use crate::steps::cycle_of;
 use std::alloc::{AllocError, Global};
 use tl_rows::chan_text;
@@ -43,16 +43,11 @@ fn channel_lines(alloc: Global, lane: &Lane, chan: Chan) -> Result<String, Alloc
     format!(in alloc; "@800200\n-{link} {chan}\n{text}@1000200\n-{link} {chan}\n")
 }
 
-/// Whether a beat that is shown is on a channel of a link.
-fn has_beat(scene: &Scene, lane: &Lane, chan: Chan) -> bool {
-    scene.shown.iter().any(|shown| shown.place.link == lane.link && shown.place.beat.chan == chan)
-}
-
 /// The channels of a link that have a beat.
 fn lane_lines(alloc: Global, scene: &Scene, lane: &Lane) -> Result<String, AllocError> {
     let mut text = String::new(alloc);
     for chan in &CHANNELS {
-        if has_channel(lane.level, *chan) && has_beat(scene, lane, *chan) {
+        if has_beat(scene, lane, *chan) {
             let lines = channel_lines(alloc, lane, *chan)?;
             text.push_str(lines.as_str())?;
         }

@@ -111,9 +111,14 @@ impl Field {
     }
 }
 
-/// Whether links of a level have a channel.
-pub(crate) fn has_channel(level: Level, chan: Chan) -> bool {
-    level == Level::C || matches!(chan, Chan::A | Chan::D)
+/// Whether a beat that is shown is on a channel of a link.
+pub(crate) fn has_beat(scene: &Scene, lane: &Lane, chan: Chan) -> bool {
+    scene.shown.iter().any(|shown| shown.place.link == lane.link && shown.place.beat.chan == chan)
+}
+
+/// Whether a link has a channel: by its level, or since a beat that is shown is on it.
+pub(crate) fn has_channel(scene: &Scene, lane: &Lane, chan: Chan) -> bool {
+    lane.level == Level::C || matches!(chan, Chan::A | Chan::D) || has_beat(scene, lane, chan)
 }
 
 /// A field of a channel of a link.

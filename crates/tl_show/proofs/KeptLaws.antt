@@ -144,17 +144,9 @@ module _ (P : Placed → Type 0) where
     head_reason_kept p o broken = link_kept m.exponent (origins_on m.links p.link before) (own_kept p.link) p broken
 
     later_kept : (found : Option Placed) (broken : Rule) → IfSome found P → IsKept P (later_reason found broken)
-    later_kept None rule.F1 h = tt
-    later_kept None _ h = tt
-    later_kept (Some p) rule.F1 h = h
-    later_kept (Some p) _ h = h
     later_kept found rule.X1 h = tt
-    later_kept None rule.M1 h = tt
-    later_kept (Some p) rule.M1 h = h
-    later_kept None rule.M2 h = tt
-    later_kept (Some p) rule.M2 h = h
-    later_kept None rule.M3 h = tt
-    later_kept (Some p) rule.M3 h = h
+    later_kept None _ h = tt
+    later_kept (Some p) _ h = h
 
     pub reason_kept : (p : Placed) (broken : Rule) → IsKept P (reason_at m before p broken)
     reason_kept p broken =

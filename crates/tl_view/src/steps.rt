@@ -48,10 +48,10 @@ fn steps_with<'a>(alloc: Global, arrows: &[&'a Shown]) -> Result<Vec<Step<'a>>, 
         push_arrows(arrows, &mut steps)?;
         return Ok(steps);
     }
-    let after = arrows.len() - HALF;
-    push_arrows(&arrows[..HALF], &mut steps)?;
-    steps.push(Step::Gap(after - HALF))?;
-    push_arrows(&arrows[after..], &mut steps)?;
+    let after = arrows.len().saturating_sub(HALF);
+    push_arrows(arrows.get(..HALF).unwrap_or(arrows), &mut steps)?;
+    steps.push(Step::Gap(after.saturating_sub(HALF)))?;
+    push_arrows(arrows.get(after..).unwrap_or(&[]), &mut steps)?;
     Ok(steps)
 }
 

@@ -22,14 +22,6 @@ pub(crate) enum Step<'a> {
     Gap(usize),
 }
 
-/// Puts these arrows after others.
-fn push_arrows<'a>(arrows: &[&'a Shown], steps: &mut Vec<Step<'a>>) -> Result<(), AllocError> {
-    for arrow in arrows {
-        steps.push(Step::Arrow(*arrow))?;
-    }
-    Ok(())
-}
-
 /// The arrows of a scene.
 fn arrows_of<'a>(alloc: Global, scene: &'a Scene) -> Result<Vec<&'a Shown>, AllocError> {
     let mut arrows = Vec::new(alloc);
@@ -43,15 +35,16 @@ fn arrows_of<'a>(alloc: Global, scene: &'a Scene) -> Result<Vec<&'a Shown>, Allo
 
 /// These arrows, without those in the middle where they are too many.
 fn steps_with<'a>(alloc: Global, arrows: &[&'a Shown]) -> Result<Vec<Step<'a>>, AllocError> {
+    let left_out = arrows.len().saturating_sub(MOST_ARROWS);
+    let after = HALF.saturating_add(left_out);
     let mut steps = Vec::new(alloc);
-    if arrows.len() <= MOST_ARROWS {
-        push_arrows(arrows, &mut steps)?;
-        return Ok(steps);
+    for (place, arrow) in arrows.iter().enumerate() {
+        if place < HALF || place >= after {
+            steps.push(Step::Arrow(*arrow))?;
+        } else if place == HALF {
+            steps.push(Step::Gap(left_out))?;
+        }
     }
-    let after = arrows.len() - HALF;
-    push_arrows(&arrows[..HALF], &mut steps)?;
-    steps.push(Step::Gap(after - HALF))?;
-    push_arrows(&arrows[after..], &mut steps)?;
     Ok(steps)
 }
 

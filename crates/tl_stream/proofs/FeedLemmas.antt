@@ -32,5 +32,5 @@ cut_given old ahead filled after rest before during left known kept f view none 
     let here : Keeps (all_left old known) (all_left filled kept) = subst (λ (t : List ℕ). Keeps (all_left t known) (all_left filled kept)) (sym (none_before before ahead none) ∙ view) keeps in
     let taken : Consumes (all_left filled kept) (all_left rest kept) (fragment_text f) = front_consumed filled (fragment_text f) rest kept (is ∙ none_before during after gone ∙ cut) in
     let new : Consumes (all_left filled kept) (all_left (flat_map fragment_text left ++ rest) kept) (fragment_text f) =
-        subst (λ (t : List ℕ). Consumes (all_left filled kept) (all_left t kept) (fragment_text f)) (sym (none_before left rest spent)) taken in
+    subst (λ (t : List ℕ). Consumes (all_left filled kept) (all_left t kept) (fragment_text f)) (sym (none_before left rest spent)) taken in
     kept_gives (all_left old known) (all_left filled kept) (all_left (flat_map fragment_text left ++ rest) kept) (Some f) here new

@@ -118,7 +118,7 @@ module _ {A : Type 0} where
   front_within bytes texts n begins =
       let all : length bytes ≡ length (joined_texts texts) + length begins.0 = ap length begins.1 ∙ length-append (joined_texts texts) begins.0 in
       let split : length (joined_texts texts) ≡ length (joined_texts (take n texts)) + length (joined_texts (drop n texts)) =
-          ap length (joined_split n texts) ∙ length-append (joined_texts (take n texts)) (joined_texts (drop n texts)) in
+      ap length (joined_split n texts) ∙ length-append (joined_texts (take n texts)) (joined_texts (drop n texts)) in
       omega (arith, all, split)
 
   -- and without the texts of the fragments that are read the others are left.
@@ -128,9 +128,9 @@ module _ {A : Type 0} where
       let fs = parsed.fragments.items in
       let n : ℕ = length fs in
       let front : joined_texts (take n texts) ≡ flat_map fragment_text fs =
-          subst (λ (w : Outcome). joined_texts (take (length w.0) texts) ≡ flat_map fragment_text w.0) are (front_texts texts) in
+      subst (λ (w : Outcome). joined_texts (take (length w.0) texts) ≡ flat_map fragment_text w.0) are (front_texts texts) in
       let all : bytes ≡ joined_texts (take n texts) ++ (joined_texts (drop n texts) ++ begins.0) =
-          begins.1 ∙ ap (λ (t : List ℕ). t ++ begins.0) (joined_split n texts) ∙ append_assoc (joined_texts (take n texts)) (joined_texts (drop n texts)) begins.0 in
+      begins.1 ∙ ap (λ (t : List ℕ). t ++ begins.0) (joined_split n texts) ∙ append_assoc (joined_texts (take n texts)) (joined_texts (drop n texts)) begins.0 in
       subst (λ (t : List ℕ). bytes ≡ t ++ drop (length (joined_texts (take n texts))) bytes) front (cut_front bytes (joined_texts (take n texts)) (joined_texts (drop n texts) ++ begins.0) all)
 
   pub parsed_count : (texts : List (Vec ℕ A)) (parsed : Parsed) → AreParsed texts parsed → length parsed.fragments.items ≤ length texts
@@ -165,7 +165,7 @@ module _ {A : Type 0} where
   pub counted_within : (texts : List (Vec ℕ A)) (n : ℕ) → length (joined_texts (take n texts)) ≤ length (joined_texts texts)
   counted_within texts n =
       let split : length (joined_texts texts) ≡ length (joined_texts (take n texts)) + length (joined_texts (drop n texts)) =
-          ap length (joined_split n texts) ∙ length-append (joined_texts (take n texts)) (joined_texts (drop n texts)) in
+      ap length (joined_split n texts) ∙ length-append (joined_texts (take n texts)) (joined_texts (drop n texts)) in
       omega (arith, split)
 
   -- one text more of those that are read
@@ -202,10 +202,13 @@ module _ {A : Type 0} where
         let chunk = take share (drop (n * share) texts) in
         let own : AreParsed chunk part = subst (λ (r : Result Parsed E). IfOk r (AreParsed chunk)) (sym head) (each n (Ok part) below) in
         let front : take ((n + 1) * share) texts ≡ take (n * share) texts ++ chunk =
-            ap (λ (k : ℕ). take k texts) (add-mul n 1 share ∙ ap (λ (k : ℕ). n * share + k) (one-mul share)) ∙ take-add (n * share) share texts in
-        (n + 1, omega (arith, below), tail,
+        ap (λ (k : ℕ). take k texts) (add-mul n 1 share ∙ ap (λ (k : ℕ). n * share + k) (one-mul share)) ∙ take-add (n * share) share texts in (
+          n + 1,
+          omega (arith, below),
+          tail,
           ap (λ (ts : List (Vec ℕ A)). read_texts ts) front ∙ texts_join (take (n * share) texts) chunk (ap (λ (w : Outcome). w.1) before.3)
-          ∙ ap (λ (w : Outcome). outcome_of (w.0 ++ (read_texts chunk).0) (read_texts chunk).1) before.3 ∙ ap (λ (w : Outcome). outcome_of (fs ++ w.0) w.1) own)
+              ∙ ap (λ (w : Outcome). outcome_of (w.0 ++ (read_texts chunk).0) (read_texts chunk).1) before.3 ∙ ap (λ (w : Outcome). outcome_of (fs ++ w.0) w.1) own,
+        )
 
     -- A part with a fault is the last that counts.
     pub joined_stops : (outcome : Outcome) (left : List (Result Parsed E)) → HasJoined left outcome → is_some outcome.1 ≡ true → read_texts texts ≡ outcome

@@ -147,13 +147,7 @@ fn next_of<I: ByteIn>(sources: &[Source<I>]) -> Option<usize> {
 }
 
 /// Streams one input, up to its end or to the first fault of its text.
-pub fn stream_input<
-    R: Threads + Sync + AllocGlobal,
-    I: ByteIn,
-    F: RowForm,
-    O: ByteOut,
-    E: ByteOut,
->(
+pub fn stream_input<R: Threads + Sync + AllocGlobal, I: ByteIn, F: RowForm, O: ByteOut, E: ByteOut>(
     parsers: &Parsers<'_, R>,
     teller: &mut Teller<'_, F>,
     input: &mut I,

@@ -100,7 +100,13 @@ impl<'a, R: Threads + Sync + AllocGlobal> Parsers<'a, R> {
     {
         let alloc = self.alloc();
         let share = texts.len().div_ceil(usize::from(self.workers) + 1).max(1);
-        let parts = map_chunks(self.rt, alloc, texts, share, &|_, part| parse_texts(alloc, part))?;
+        let parts = map_chunks(
+            self.rt,
+            alloc,
+            texts,
+            share,
+            &|_, part| parse_texts(alloc, part),
+        )?;
         joined(alloc, texts, share, parts)
     }
 }

@@ -26,5 +26,5 @@ returns g c =
     let are : AreParsed c.in_ok-texts.texts.items c.in_ok-parsed.parsed = subst (λ texts. AreParsed texts c.in_ok-parsed.parsed) c.deref.ensures.value c.in_ok-parsed.ensures in
     let cut = cut_is c.left.result.now c.in_ok-texts.texts.items c.in_ok-parsed.parsed c.in_ok-texts.ensures are in
     let count : length (joined_texts (take n c.in_ok-texts.texts.items)) ≡ c.byte_count.result = search rules in
-    let passed : drop c.byte_count.result c.left.result.now ≡ c.pass.new.ahead = search rules in
+    let passed : drop c.byte_count.result c.left.result.now ≡ c.pass.new.self = search rules in
     sym c.left.ensures ∙ cut ∙ ap (λ bytes. flat_map fragment_text c.in_ok-parsed.parsed.fragments.items ++ bytes) (ap (λ k. drop k c.left.result.now) count ∙ passed)

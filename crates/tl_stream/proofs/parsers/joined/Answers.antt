@@ -11,8 +11,8 @@ loop-part-init c = record {
   len = search rules;
   so_far =
       let whole : HasJoined c.args.texts.now c.args.share c.args.parts.items (into_iter_items c.into_iter-part-iterator.result) ([], None) =
-          subst (λ left. HasJoined c.args.texts.now c.args.share c.args.parts.items left ([], None)) (sym c.into_iter-part-iterator.ensures.into_iter_gives.0)
-          (joined_none c.args.texts.now c.args.share c.args.parts.items) in
+      subst (λ left. HasJoined c.args.texts.now c.args.share c.args.parts.items left ([], None)) (sym c.into_iter-part-iterator.ensures.into_iter_gives.0)
+      (joined_none c.args.texts.now c.args.share c.args.parts.items) in
       subst (λ fs. HasJoined c.args.texts.now c.args.share c.args.parts.items (into_iter_items c.into_iter-part-iterator.result) (fs, None)) (sym c.new-fragments.ensures.items) whole;
 }
 
@@ -23,14 +23,14 @@ loop-part-preserved c = record {
   len = search rules;
   so_far =
       let more = joined_more c.args.texts.now c.args.share c.args.parts.items c.loop-part.fragments.items c.in_ok-part.part (into_iter_items c.loop-part.part-iterator) (into_iter_items c.next.new.self)
-          c.loop-part.invariant.so_far (c.in-Some.ensures.steps.0 ∙ ap (λ part. part ∷ into_iter_items c.next.new.self) c.in_ok-part.was) c.requires.parsed in
+      c.loop-part.invariant.so_far (c.in-Some.ensures.steps.0 ∙ ap (λ part. part ∷ into_iter_items c.next.new.self) c.in_ok-part.was) c.requires.parsed in
       search rules;
 }
 
 pub returns-then-is_some : goal.returns-then-is_some
 returns-then-is_some c =
     let more = joined_more c.args.texts.now c.args.share c.args.parts.items c.loop-part.fragments.items c.in_ok-part.part (into_iter_items c.loop-part.part-iterator) (into_iter_items c.next.new.self)
-        c.loop-part.invariant.so_far (c.in-Some.ensures.steps.0 ∙ ap (λ part. part ∷ into_iter_items c.next.new.self) c.in_ok-part.was) c.requires.parsed in
+    c.loop-part.invariant.so_far (c.in-Some.ensures.steps.0 ∙ ap (λ part. part ∷ into_iter_items c.next.new.self) c.in_ok-part.was) c.requires.parsed in
     let all = joined_stops c.args.texts.now c.args.share c.args.parts.items _ (into_iter_items c.next.new.self) more (search rules) in
     search rules
 

@@ -5,3 +5,4 @@ pub mod StreamLemmas
 pub mod LawLemmas
 pub mod AcceptLemmas
 pub mod EndLemmas
+pub mod FeedLemmas

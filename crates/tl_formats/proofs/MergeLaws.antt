@@ -1,6 +1,6 @@
 -- There is one list of rows by link, and that of the reports of shares is the report of all.
 use Rattle.std.proofs.Common.{◌≡◌, ℕ, suc, ◌+◌, ◌<◌, ◌≤◌, ◌==◌, inl, inr, Bool, true, false, cond, List, [], ◌∷◌, ◌++◌, None, length, nat_lt, refl, sym, ap, subst, ◌∙◌, arith, zero-le, suc-le-suc}
-use Rattle.std.specs.Prelude.{count_by, filter, flat_map, map}
+use Rattle.std.specs.Prelude.{count_by, filter, map}
 use Rattle.std.specs.declared.cmp.Ordering.{Ordering}
 use Rattle.std.specs.declared.cmp.Ordering.TheVariants.{Less}
 use Rattle.std.specs.Ordering.{nat_cmp, ordering_then, is_lt}

@@ -9,6 +9,7 @@ use Rattle.std.specs.List.{Contains, AllByRecursion}
 use Rattle.std.specs.List.Sorted.{IsStrictlySortedBy, IsNonDecreasingBy, IsStableByKey, ties}
 use Rattle.std.proofs.lemmas.Bool.Decides.{nat_tests}
 use Rattle.std.proofs.lemmas.List.Elements.{filter-append, filter_agree}
+use Rattle.std.proofs.lemmas.List.Sums.{sum_by-cons}
 use Rattle.tl_tables.specs.declared.Rule.TheVariants as rule
 use Rattle.tl_topology.specs.Regions.{Area}
 use Rattle.tl_topology.specs.Topology.{Topology}
@@ -43,7 +44,7 @@ on link row = row.link == link
 itself : (n : ℕ) → (n == n) ≡ true
 itself n = grind (arith, nat_tests)
 
-tail_of : List ReportRow → List ReportRow
+abbrev tail_of : List ReportRow → List ReportRow
 tail_of [] = []
 tail_of (x ∷ xs) = xs
 
@@ -155,7 +156,7 @@ module _ (topo : Topology) (fs : List Recorded) (regions : List (List (ℕ × Ar
         filter-append (on link) (map line_of part) (lines_in parts)
         ∙ ap (λ ys. ys ++ filter (on link) (lines_in parts)) (part_at share part h.0 ∙ ap (map line_of) (share_lacks topo share link whole e))
         ∙ none_here shares parts h.1 rest)
-  ] refl n
+  ] refl (sym (sum_by-cons (λ (s : Share). cond (has s) 1 0) share shares) ∙ n)
 
   one_here : (shares : List Share) (parts : List (List Row)) → Of shares parts → count_by has shares ≡ 1 → filter (on link) (lines_in parts) ≡ all
   one_here [] [] h n = absurd (let none : 0 ≡ 1 = n in omega arith)
@@ -170,7 +171,7 @@ module _ (topo : Topology) (fs : List Recorded) (regions : List (List (ℕ × Ar
         filter-append (on link) (map line_of part) (lines_in parts)
         ∙ ap (λ ys. ys ++ filter (on link) (lines_in parts)) (part_at share part h.0 ∙ ap (map line_of) (share_lacks topo share link whole e))
         ∙ one_here shares parts h.1 rest)
-  ] refl n
+  ] refl (sym (sum_by-cons (λ (s : Share). cond (has s) 1 0) share shares) ∙ n)
     where
       append_none : (xs : List ReportRow) → xs ++ [] ≡ xs
       append_none [] = refl

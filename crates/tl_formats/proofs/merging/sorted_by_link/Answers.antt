@@ -1,0 +1,16 @@
+use Rattle.std.proofs.Common.{◌≡◌, ◌<◌, rules}
+use Rattle.std.proofs.lemmas.Fn.{always_returns_same}
+use Rattle.std.proofs.lemmas.List.Sorted.{All-permutation, IsNonDecreasingBy-from_sort_by_key}
+use Rattle.tl_formats.specs.declared.report_row.ReportRow.{ReportRow}
+use Rattle.tl_formats.proofs.MergeLaws.{sorted_by_link}
+use Rattle.tl_formats.proofs.merging.sorted_by_link.Goals as goal
+
+pub returns-clause-sorted : goal.returns-clause-sorted
+returns-clause-sorted c =
+    sorted_by_link c.args.rows.items c.sort_by_key.new.self.items
+    (IsNonDecreasingBy-from_sort_by_key (λ (row : ReportRow). row.link) _ c.in_ok-sort_by_key.ensures.sorted (λ a r q k. search rules))
+    (c.sort_by_key.ensures.stable (λ (row : ReportRow). row.link) (always_returns_same _ (λ a r. r ≡ a.0.now.link) _ (λ a r q k. search rules)))
+
+pub returns-clause-links : goal.returns-clause-links
+returns-clause-links c =
+    λ count all. All-permutation (λ (row : ReportRow). row.link < count) c.args.rows.items c.sort_by_key.new.self.items c.sort_by_key.ensures.permutation all

@@ -96,8 +96,8 @@ fn cut(alloc: Global, ahead: &mut Ahead) -> Result<Fragment, FragmentFault>
     Ok(fragment)
 }
 
-/// The fragments at the front of what was read, where there are workers, the texts of several are whole: each thread parses its share.
-/// A text that is none ends them. AllocError where memory is refused.
+/// The fragments whose texts are whole at the front of what was read, parsed by several threads; none without workers, or where only
+/// one text is whole. A text that is none ends them. AllocError where memory is refused.
 fn cut_beside<R: Threads + Sync + AllocGlobal>(
     parsers: &Parsers<'_, R>,
     ahead: &mut Ahead,

@@ -1,6 +1,6 @@
 -- What texts of fragments are, part by part.
-use Rattle.std.proofs.Common.{◌≡◌, ◌≤◌, ◌<◌, ◌+◌, ◌-◌, ◌*◌, ◌/◌, ◌%◌, min, ℕ, zero, suc, List, [], ◌∷◌, ◌++◌, Option, Some, None, Result, Ok, Err, true, false, refl, sym, ap, subst, ◌∙◌, arith, length, take, drop, get_or, length-append, length-drop}
-use Rattle.std.specs.Prelude.{IfOk, Vec, nat_lt, if◌then◌else◌}
+use Rattle.std.proofs.Common.{◌≡◌, ◌≤◌, ◌<◌, ◌+◌, ◌-◌, ◌*◌, ◌/◌, ◌%◌, min, ℕ, zero, suc, List, [], ◌∷◌, ◌++◌, Option, Some, None, Result, Ok, Err, Bool, true, false, refl, sym, ap, subst, ◌∙◌, arith, length, take, drop, get_or, length-append, length-drop}
+use Rattle.std.specs.Prelude.{IfOk, Vec, nat_lt, slice_index_or, if◌then◌else◌}
 use Rattle.std.specs.List.{flat_map}
 use Rattle.std.proofs.lemmas.Grind.{flat_map-append}
 use Rattle.std.specs.Option.{is_some}
@@ -71,6 +71,10 @@ parts_cover count len share some is =
 pub some_is : {X : Type 0} (o : Option X) → is_some o ≡ true → (x : X) × (o ≡ Some x)
 some_is (Some x) h = (x, refl)
 some_is None h = let wrong : false ≡ true = h in cc
+
+pub none_is : {X : Type 0} (o : Option X) → is_some o ≡ false → o ≡ None
+none_is (Some x) h = let wrong : true ≡ false = h in cc
+none_is None h = refl
 
 -- What stands after a front is what is left without so many bytes.
 cut_front : (bytes xs ys : List ℕ) → bytes ≡ xs ++ ys → bytes ≡ xs ++ drop (length xs) bytes

@@ -1,6 +1,6 @@
 //! Texts of fragments that several threads parse.
 
-ghost use Rattle.std.specs.Prelude.{◌≡◌, ◌<◌, ◌/◌, ◌%◌, ◌+◌, min, IfOk, length};
+ghost use Rattle.std.specs.Prelude.{◌≡◌, ◌<◌, ◌*◌, ◌/◌, ◌%◌, ◌+◌, ℕ, min, IfOk, length};
 ghost use Rattle.tl_stream.specs.Parts.{AreParsed, ArePartsParsed};
 
 use std::alloc::{AllocError, Global};

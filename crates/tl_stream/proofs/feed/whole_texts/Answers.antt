@@ -1,4 +1,4 @@
-use Rattle.std.proofs.Common.{rules, ap, ◌∙◌}
+use Rattle.std.proofs.Common.{rules, sym, ap, ◌∙◌}
 use Rattle.tl_stream.specs.Parts.{joined_texts}
 use Rattle.tl_stream.proofs.PartLemmas.{text_taken, begins_with}
 use Rattle.tl_stream.proofs.feed.whole_texts.Goals as goal

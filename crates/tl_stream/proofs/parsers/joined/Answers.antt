@@ -1,6 +1,7 @@
-use Rattle.std.proofs.Common.{◌∷◌, [], None, rules, sym, ap, subst, ◌∙◌}
-use Rattle.std.specs.Vec.Iter.{into_iter_items}
-use Rattle.tl_stream.proofs.PartLemmas.{HasJoined, joined_none, joined_more, joined_stops, joined_all}
+use Rattle.std.proofs.Common.{◌≡◌, ◌≤◌, ◌∷◌, ◌++◌, [], length, take, Ok, Err, None, Some, rules, sym, ap, subst, ◌∙◌, arith}
+use Rattle.std.specs.Vec.Iter.{into_iter_items, into_iter_len}
+use Rattle.tl_stream.specs.Parts.{read_texts}
+use Rattle.tl_stream.proofs.PartLemmas.{HasJoined, joined_none, joined_more, joined_stops, joined_all, none_is}
 use Rattle.tl_stream.proofs.parsers.joined.Goals as goal
 
 pub loop-part-init : goal.loop-part-init

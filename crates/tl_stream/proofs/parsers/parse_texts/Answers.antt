@@ -1,4 +1,4 @@
-use Rattle.std.proofs.Common.{◌≤◌, length, Ok, None, rules, sym, ap, ◌∙◌, arith}
+use Rattle.std.proofs.Common.{◌≡◌, ◌≤◌, ◌∷◌, ◌++◌, [], length, take, Ok, Err, None, Some, rules, sym, ap, subst, ◌∙◌, arith}
 use Rattle.std.proofs.lemmas.List.{take_all}
 use Rattle.tl_stream.specs.Parts.{read_texts}
 use Rattle.tl_stream.proofs.PartLemmas.{outcome_of, reading_gives, text_read, text_stops}

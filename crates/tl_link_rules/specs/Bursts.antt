@@ -1,5 +1,5 @@
 -- What a state of bursts shows, and what it stands for.
-use Rattle.std.specs.Prelude.{◌≡◌, ℕ, List, Option, Some, None, if◌then◌else◌, slice_index_or}
+use Rattle.std.specs.Prelude.{◌≡◌, ℕ, List, ◌∷◌, Option, Some, None, if◌then◌else◌, slice_index_or}
 use Rattle.std.specs.Option.{option_map_or}
 use Rattle.tl_tables.specs.declared.Chan.{Chan}
 use Rattle.tl_tables.specs.Messages.{chan_number, same_chan}
@@ -32,6 +32,11 @@ slot_at state chan = slice_index_or state.slots (chan_number chan) None
 -- The state shows what these beats leave unfinished on each channel of the link with this number.
 pub record StandsFor (state : BurstState) (link : LinkDecl) (number : ℕ) (before : List Placed) : Type 0 where
   pub slots : (chan : Chan) → slot_at state chan ≡ unfinished link (before_on number chan before)
+
+-- Where the old state stands for beats of a link, the new one stands for them and this beat, wherever that is written.
+abbrev pub StandsWith : BurstState → BurstState → LinkDecl → Beat → Type 0
+StandsWith old new link beat = (number fragment line : ℕ) (before : List Placed) → StandsFor old link number before
+    → StandsFor new link number (record { link = number; fragment = fragment; line = line; beat = beat } ∷ before)
 
 -- Both show the same on each channel.
 abbrev pub SameBursts : BurstState → BurstState → Type 0

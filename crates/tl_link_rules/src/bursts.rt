@@ -1,6 +1,6 @@
 //! Heads and later beats: which beat of a link begins a message, and which belongs to an earlier one.
 
-ghost use Rattle.std.specs.Prelude.{◌≡◌, ◌≤◌, ℕ, List, [], ◌∷◌, option_map};
+ghost use Rattle.std.specs.Prelude.{◌≡◌, ◌≤◌, ℕ, List, [], option_map};
 ghost use Rattle.tl_topology.specs.Topology.{IsSound};
 ghost use Rattle.tl_beats.specs.Beats.{IsWellFormed};
 ghost use Rattle.tl_definitions.specs.Heads.{beat_count};
@@ -46,7 +46,7 @@ impl BurstState {
     ghost use Rattle.tl_tables.specs.declared.Chan.{Chan as AnyChan};
     ghost use Rattle.tl_beats.specs.declared.Placed.{Placed};
     ghost use Rattle.tl_definitions.specs.Heads.{before_on};
-    ghost use Rattle.tl_link_rules.specs.Bursts.{place_of, place_in, slots_after, slot_at, StandsFor};
+    ghost use Rattle.tl_link_rules.specs.Bursts.{place_of, place_in, slots_after, slot_at, StandsFor, StandsWith};
 
     /// The state of a link without beats.
     pub fn new() -> BurstState
@@ -100,8 +100,7 @@ impl BurstState {
         // Where the state stands for beats, the answer is the definition's, and the state then stands for them and this one.
         ensures place { (number : ℕ) (before : List Placed) → StandsFor self.old link.now number before
             → result ≡ place_of link.now (before_on number beat.now.chan before) }
-        ensures stands { (number fragment line : ℕ) (before : List Placed) → StandsFor self.old link.now number before
-            → StandsFor self.new link.now number (record { link = number; fragment = fragment; line = line; beat = beat.now } ∷ before) }
+        ensures stands { StandsWith self.old self.new link.now beat.now }
     {
         let place = self.place(beat.chan);
         self.pass(link, beat);

@@ -13,12 +13,14 @@ use Rattle.tl_beats.specs.declared.Placed.{Placed}
 use Rattle.tl_beats.specs.declared.Request.{Request}
 use Rattle.tl_topology.specs.declared.LinkDecl.{LinkDecl}
 use Rattle.tl_tables.specs.Kinds.{is_acquire, is_probe, is_probe_ack, is_release, is_grant, is_release_ack, is_grant_ack}
+use Rattle.tl_definitions.specs.Heads.{message_of}
 use Rattle.tl_definitions.specs.OpenTables.{Table, entry_after, count_after, passes}
-use Rattle.tl_definitions.specs.Messages.{Message, Links, as_request, sources, releases, sinks, probes, round_down, granted_block, claim, claimed_or, message_at, messages_on}
+use Rattle.tl_definitions.specs.Messages.{Message, Links, as_request, sources, releases, sinks, probes, round_down, granted_block, claim, claimed_or, message_at, messages_on, with_message}
 use Rattle.tl_definitions.specs.Past.{ClientPast, LinkPast, past_of, client_past, grants_block}
 use Rattle.tl_definitions.specs.Rules.{breaks_permission, permission_order}
-use Rattle.tl_definitions.specs.Judging.{request_in, message_in}
+use Rattle.tl_definitions.specs.Judging.{request_in, message_in, past_with}
 use Rattle.tl_link_rules.specs.Entries.{entry_of}
+use Rattle.tl_link_rules.specs.Flow.{answered}
 use Rattle.tl_client_rules.specs.OpenBlocks.{block_at, open_on}
 use Rattle.tl_client_rules.specs.Bounds.{bound_at}
 use Rattle.tl_client_rules.specs.declared.client.ClientState.{ClientState}
@@ -84,6 +86,24 @@ rules_in strict exponent past head found =
 
 abbrev pub answered_in : LinkPast → Beat → Option Op → Option Request
 answered_in past head found = option_and_then (λ o. request_in past.flow o head) found
+
+-- The messages of a link with one more head of it.
+abbrev pub messages_with_head : List Message → LinkDecl → Beat → List Message
+messages_with_head before link head = with_message head (message_of link head) before
+
+-- The past of a link with one more head of it.
+abbrev pub past_with_head : ℕ → LinkPast → LinkDecl → Beat → LinkPast
+past_with_head exponent past link head = past_with exponent past head (message_of link head)
+
+-- This holds of whatever messages of the link the state stands for after which the head answers this request.
+abbrev pub AfterMessages : ClientState → LinkDecl → Beat → Option Request → (ℕ → List Message → Type 0) → Type 0
+AfterMessages state link head request Holds = (exponent : ℕ) (before : List Message) → StandsFor exponent state before
+    → request ≡ answered before head (message_of link head) → Holds exponent before
+
+-- This holds of whatever past the state shows by which the head answers this request.
+abbrev pub ForShown : ClientState → LinkDecl → Beat → Option Request → (ℕ → LinkPast → Type 0) → Type 0
+ForShown state link head request Holds = (exponent : ℕ) (past : LinkPast) → Shows exponent state past
+    → request ≡ answered_in past head (message_of link head) → Holds exponent past
 
 -- How many are open on a block after one more message, from what was open on its key.
 abbrev pub opened_after : Table Message → (Message → Option ℕ) → Message → (ℕ → Option (Option ℕ)) → (ℕ → ℕ) → ℕ → ℕ

@@ -4,10 +4,9 @@ ghost use Rattle.std.specs.Prelude.{◌≡◌, ◌≤◌, ℕ, List, [], None, f
 ghost use Rattle.std.specs.Bool.{Decides};
 ghost use Rattle.std.specs.Option.{option_copied, option_map_or};
 ghost use Rattle.tl_definitions.specs.Heads.{message_of};
-ghost use Rattle.tl_definitions.specs.Messages.{Message, with_message, bound_of};
+ghost use Rattle.tl_definitions.specs.Messages.{Message, bound_of};
 ghost use Rattle.tl_definitions.specs.Past.{LinkPast, client_past};
 ghost use Rattle.tl_definitions.specs.Rules.{breaks_permission, permission_order, is_wrong, claims_wrongly, keeps_above};
-ghost use Rattle.tl_definitions.specs.Judging.{past_with};
 ghost use Rattle.tl_client_rules.specs.Client.{SameClient};
 
 use crate::bounds::Bounds;
@@ -47,8 +46,7 @@ fn is_wrong(strict: bool, bound: Perm, from: Perm) -> bool
 }
 
 impl ClientState {
-    ghost use Rattle.tl_link_rules.specs.Flow.{answered};
-    ghost use Rattle.tl_client_rules.specs.Client.{ClientView, StandsFor, Shows, shown, probe_at, permission_rules, rules_in, answered_in, view_after, view_with, view_rules, head_with, can_carry, IsOpened, IsView};
+    ghost use Rattle.tl_client_rules.specs.Client.{ClientView, StandsFor, Shows, AfterMessages, ForShown, shown, probe_at, permission_rules, rules_in, messages_with_head, past_with_head, view_after, view_with, view_rules, head_with, can_carry, IsOpened, IsView};
     ghost use Rattle.tl_client_rules.specs.Bounds.{IsSettled};
     ghost use Rattle.tl_client_rules.specs.OpenBlocks.{block_at, open_on};
 
@@ -194,15 +192,13 @@ impl ClientState {
         // stands for them and this head.
         ensures rules { (exponent : ℕ) (before : List Message) → StandsFor exponent self.old before
             → IfOk result (λ rules. rules ≡ permission_rules link.now.strict exponent before head.now (message_of link.now head.now)) }
-        ensures stands { (exponent : ℕ) (before : List Message) → StandsFor exponent self.old before
-            → option_copied request.entry ≡ answered before head.now (message_of link.now head.now)
-            → OnOk result (StandsFor exponent self.new (with_message head.now (message_of link.now head.now) before)) }
+        ensures stands { AfterMessages self.old link.now head.now (option_copied request.entry)
+            (λ exponent before. OnOk result (StandsFor exponent self.new (messages_with_head before link.now head.now))) }
         // Whatever past the state shows, the head is judged by that.
         ensures shown { (exponent : ℕ) (past : LinkPast) → Shows exponent self.old past
             → IfOk result (λ rules. rules ≡ rules_in link.now.strict exponent past head.now (message_of link.now head.now)) }
-        ensures next { (exponent : ℕ) (past : LinkPast) → Shows exponent self.old past
-            → option_copied request.entry ≡ answered_in past head.now (message_of link.now head.now)
-            → OnOk result (Shows exponent self.new (past_with exponent past head.now (message_of link.now head.now))) }
+        ensures next { ForShown self.old link.now head.now (option_copied request.entry)
+            (λ exponent past. OnOk result (Shows exponent self.new (past_with_head exponent past link.now head.now))) }
         // Of eight rules there can be no more.
         ensures few { IfOk result (λ rules. length rules ≤ 8) }
         ensures err { OnErr result (shown self.new ≡ shown self.old) }

@@ -35,6 +35,10 @@ pub record StandsFor (m : Manager) (state : ManagerOrigins) (before : List Place
   pub exponent : state.exponent ≡ m.exponent
   pub each : (link : ℕ) → IsLink m.exponent m.links link (slice_get state.links.items link) before
 
+-- This holds of the manager and of whatever beats of it the state shows.
+abbrev pub OnBeats : Manager → ManagerOrigins → (Manager → List Placed → Type 0) → Type 0
+OnBeats m state Holds = (before : List Placed) → StandsFor m state before → Holds m before
+
 -- how many links the topology has that a state is of
 abbrev pub links_in : ManagerOrigins → ℕ
 links_in state = length state.links.items

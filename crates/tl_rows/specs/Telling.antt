@@ -16,6 +16,10 @@ is_of p row = ((row.link == p.link) && (row.cycle == p.beat.cycle)) && same_chan
 abbrev pub told_of : Manager → List Placed → Placed → Row → Told
 told_of m before p row = record { row = row; place = p; reason = reason_at m before p row.rule }
 
+-- Those of the rows that are of the next beat after others, each with what makes it so.
+abbrev pub told_at : Manager → List Row → List Placed → Placed → List Told
+told_at m rows before p = map (told_of m before p) (filter (is_of p) rows)
+
 -- The rows of beats in their order that come after others: of each beat those among these rows that are of it.
 abbrev pub told_after : Manager → List Row → List Placed → List Placed → List Told
 told_after m rows before [] = []

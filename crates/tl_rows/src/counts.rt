@@ -2,10 +2,9 @@
 
 ghost use Rattle.std.specs.Prelude.{◌≡◌, ◌+◌, ◌<◌, ◌≤◌, ℕ, List, length, IfOk};
 ghost use Rattle.std.specs.List.{All};
-ghost use Rattle.tl_beats.specs.declared.Placed.{Placed as AnyPlaced};
 ghost use Rattle.tl_definitions.specs.OpenTables.{one_if};
 ghost use Rattle.tl_rows.specs.Counts.{IsOpenCount, IsTotal, AreOpen};
-ghost use Rattle.tl_rows.specs.States.{StandsFor, manager_with};
+ghost use Rattle.tl_rows.specs.States.{OnBeats, manager_with};
 
 use crate::manager::ManagerOrigins;
 use std::alloc::AllocError;
@@ -64,8 +63,8 @@ impl ManagerOrigins {
     fn open_at(&self, topo: &Topo, client: u16, opened: Opened) -> usize
         requires link { client < length self.now.links.items }
         requires declared { client < length topo.now.links }
-        ensures { (exponent : ℕ) (clients : List ℕ) (before : List AnyPlaced) → StandsFor (manager_with topo.now exponent clients) self.now before
-            → IsOpenCount (manager_with topo.now exponent clients) before opened client result }
+        ensures { (exponent : ℕ) (clients : List ℕ) → OnBeats (manager_with topo.now exponent clients) self.now
+            (λ m before. IsOpenCount m before opened client result) }
     {
         let decl = topo.link(client).unwrap();
         self.links[client as usize].open_count(decl, client, opened)
@@ -75,8 +74,8 @@ impl ManagerOrigins {
     fn total(&self, topo: &Topo, clients: &[u16], opened: Opened) -> Result<usize, AllocError>
         requires links { All (λ client. client < length self.now.links.items) clients.now }
         requires declared { All (λ client. client < length topo.now.links) clients.now }
-        ensures { IfOk result (λ total. (exponent : ℕ) (before : List AnyPlaced) → StandsFor (manager_with topo.now exponent clients.now) self.now before
-            → IsTotal (IsOpenCount (manager_with topo.now exponent clients.now) before opened) clients.now total) }
+        ensures { IfOk result (λ total. (exponent : ℕ) → OnBeats (manager_with topo.now exponent clients.now) self.now
+            (λ m before. IsTotal (IsOpenCount m before opened) clients.now total)) }
     {
         let mut total: usize = 0;
         for client in clients {
@@ -90,8 +89,7 @@ impl ManagerOrigins {
     pub(crate) fn open_counts(&self, topo: &Topo, clients: &[u16]) -> Result<OpenCounts, AllocError>
         requires links { All (λ client. client < length self.now.links.items) clients.now }
         requires declared { All (λ client. client < length topo.now.links) clients.now }
-        ensures { IfOk result (λ counts. (exponent : ℕ) (before : List AnyPlaced) → StandsFor (manager_with topo.now exponent clients.now) self.now before
-            → AreOpen (manager_with topo.now exponent clients.now) before counts) }
+        ensures { IfOk result (λ counts. (exponent : ℕ) → OnBeats (manager_with topo.now exponent clients.now) self.now (λ m before. AreOpen m before counts)) }
     {
         let requests = self.total(topo, clients, Opened::Request)?;
         let releases = self.total(topo, clients, Opened::Release)?;

@@ -1,13 +1,12 @@
 //! One link, between two of its beats.
 
-ghost use Rattle.std.specs.Prelude.{◌≡◌, ℕ, List, [], ◌∷◌, OnOk};
+ghost use Rattle.std.specs.Prelude.{◌≡◌, ℕ, [], ◌∷◌, OnOk};
 ghost use Rattle.tl_topology.specs.Topology.{IsSound};
 ghost use Rattle.tl_beats.specs.Beats.{IsWellFormed};
-ghost use Rattle.tl_beats.specs.declared.Placed.{Placed as AnyPlaced};
 ghost use Rattle.tl_definitions.specs.Heads.{before_on, is_head};
 ghost use Rattle.tl_definitions.specs.Messages.{Links};
 ghost use Rattle.tl_rows.specs.Counts.{is_unfinished, unfinished_count, IsOpenOn};
-ghost use Rattle.tl_rows.specs.Links.{IsAt, head_at};
+ghost use Rattle.tl_rows.specs.Links.{IsAt, OnLink, head_at};
 
 use crate::counts::{Opened, one_if};
 use crate::openers::Openers;
@@ -42,8 +41,8 @@ impl LinkOrigins {
     pub(crate) fn is_head(&self, decl: &LinkDecl, place: &Placed) -> bool
         requires decl { IsSound decl.now }
         requires beat { IsWellFormed place.now.beat }
-        ensures { (exponent : ℕ) (links : Links) (before : List AnyPlaced) → links place.now.link ≡ decl.now → IsAt exponent links place.now.link self.now before
-            → result ≡ is_head decl.now (before_on place.now.link place.now.beat.chan before) }
+        ensures { (exponent : ℕ) → OnLink exponent self.now decl.now place.now.link
+            (λ links before. result ≡ is_head decl.now (before_on place.now.link place.now.beat.chan before)) }
     {
         let mut bursts = self.bursts;
         match bursts.step(decl, &place.beat) {
@@ -62,8 +61,7 @@ impl LinkOrigins {
     /// Whether a channel has a burst that misses beats: its next beat would be a later beat.
     fn is_unfinished(&self, decl: &LinkDecl, link: u16, chan: Chan) -> bool
         requires decl { IsSound decl.now }
-        ensures { (exponent : ℕ) (links : Links) (before : List AnyPlaced) → links link ≡ decl.now → IsAt exponent links link self.now before
-            → result ≡ is_unfinished links link before chan }
+        ensures { (exponent : ℕ) → OnLink exponent self.now decl.now link (λ links before. result ≡ is_unfinished links link before chan) }
     {
         let beat = Beat {
             cycle: 0,
@@ -92,8 +90,7 @@ impl LinkOrigins {
     /// How many channels have such a burst.
     fn unfinished_count(&self, decl: &LinkDecl, link: u16) -> usize
         requires decl { IsSound decl.now }
-        ensures { (exponent : ℕ) (links : Links) (before : List AnyPlaced) → links link ≡ decl.now → IsAt exponent links link self.now before
-            → result ≡ unfinished_count links link before }
+        ensures { (exponent : ℕ) → OnLink exponent self.now decl.now link (λ links before. result ≡ unfinished_count links link before) }
     {
         let requests = self.is_unfinished(decl, link, Chan::A);
         let probes = self.is_unfinished(decl, link, Chan::B);
@@ -106,8 +103,7 @@ impl LinkOrigins {
     /// How many are open on the link.
     pub(crate) fn open_count(&self, decl: &LinkDecl, link: u16, opened: Opened) -> usize
         requires decl { IsSound decl.now }
-        ensures { (exponent : ℕ) (links : Links) (before : List AnyPlaced) → links link ≡ decl.now → IsAt exponent links link self.now before
-            → IsOpenOn links exponent before opened link result }
+        ensures { (exponent : ℕ) → OnLink exponent self.now decl.now link (λ links before. IsOpenOn links exponent before opened link result) }
     {
         match opened {
             Opened::Request => self.openers.request_count(),
@@ -127,8 +123,8 @@ impl LinkOrigins {
     ) -> Result<(), AllocError>
         requires decl { IsSound decl.now }
         requires beat { IsWellFormed place.now.beat }
-        ensures { (links : Links) (before : List AnyPlaced) → links place.now.link ≡ decl.now → IsAt exponent links place.now.link self.old before
-            → OnOk result (IsAt exponent links place.now.link self.new (place.now ∷ before)) }
+        ensures { OnLink exponent self.old decl.now place.now.link
+            (λ links before. OnOk result (IsAt exponent links place.now.link self.new (place.now ∷ before))) }
     {
         match self.bursts.step(decl, &place.beat) {
             Place::Later(_) => Ok(()),

@@ -4,10 +4,9 @@ ghost use Rattle.std.specs.Prelude.{◌≡◌, ◌<◌, ◌≤◌, ◌∷◌, �
 ghost use Rattle.std.specs.List.{All, AllByRecursion};
 ghost use Rattle.tl_tables.specs.Kinds.{conflicts};
 ghost use Rattle.tl_beats.specs.Beats.{IsWellFormed};
-ghost use Rattle.tl_beats.specs.declared.Placed.{Placed as AnyPlaced};
 ghost use Rattle.tl_definitions.specs.Messages.{at_head};
 ghost use Rattle.tl_rows.specs.Reasons.{reason_at, head_reason, bound_by, first_some};
-ghost use Rattle.tl_rows.specs.States.{StandsFor, IsOpening, trail_at, sought_at, manager_with, links_in};
+ghost use Rattle.tl_rows.specs.States.{StandsFor, OnBeats, IsOpening, trail_at, sought_at, manager_with, links_in};
 
 use crate::link::LinkOrigins;
 use crate::origin::Origin;
@@ -193,8 +192,7 @@ impl ManagerOrigins {
         requires beat { IsWellFormed place.now.beat }
         requires link { place.now.link < links_in self.now }
         requires declared { place.now.link < length topo.now.links }
-        ensures { (exponent : ℕ) (before : List AnyPlaced) → StandsFor (manager_with topo.now exponent clients.now) self.now before
-            → result ≡ reason_at (manager_with topo.now exponent clients.now) before place.now rule }
+        ensures { (exponent : ℕ) → OnBeats (manager_with topo.now exponent clients.now) self.now (λ m before. result ≡ reason_at m before place.now rule) }
     {
         let decl = topo.link(place.link).unwrap();
         let link = &self.links[place.link as usize];
@@ -212,8 +210,7 @@ impl ManagerOrigins {
         requires beat { IsWellFormed place.now.beat }
         requires link { place.now.link < length self.now.links.items }
         requires declared { place.now.link < length topo.now.links }
-        ensures { (exponent : ℕ) (clients : List ℕ) (before : List AnyPlaced) → StandsFor (manager_with topo.now exponent clients) self.now before
-            → result ≡ at_head (manager_with topo.now exponent clients).links before place.now }
+        ensures { (exponent : ℕ) (clients : List ℕ) → OnBeats (manager_with topo.now exponent clients) self.now (λ m before. result ≡ at_head m.links before place.now) }
     {
         let decl = topo.link(place.link).unwrap();
         self.links[place.link as usize].is_head(decl, place)
@@ -224,8 +221,8 @@ impl ManagerOrigins {
         requires beat { IsWellFormed place.now.beat }
         requires link { place.now.link < links_in self.old }
         requires declared { place.now.link < length topo.now.links }
-        ensures stands { (exponent : ℕ) (clients : List ℕ) (before : List AnyPlaced) → StandsFor (manager_with topo.now exponent clients) self.old before
-            → OnOk result (StandsFor (manager_with topo.now exponent clients) self.new (place.now ∷ before)) }
+        ensures stands { (exponent : ℕ) (clients : List ℕ) → OnBeats (manager_with topo.now exponent clients) self.old
+            (λ m before. OnOk result (StandsFor m self.new (place.now ∷ before))) }
         ensures count { links_in self.new ≡ links_in self.old }
     {
         let decl = topo.link(place.link).unwrap();

@@ -1,14 +1,13 @@
 //! The rows of a manager's beats, each with what makes it so, in one pass over the beats.
 
-ghost use Rattle.std.specs.Prelude.{◌≡◌, ◌<◌, ◌==◌, ◌++◌, ℕ, List, [], filter, length, map, reverse, IfOk, OnOk};
+ghost use Rattle.std.specs.Prelude.{◌≡◌, ◌<◌, ◌==◌, ◌++◌, ℕ, [], length, reverse, IfOk, OnOk};
 ghost use Rattle.std.specs.BTreeSet.{contains};
 ghost use Rattle.std.specs.List.{All, list_any};
 ghost use Rattle.std.specs.Ordering.{nat_cmp};
 ghost use Rattle.tl_beats.specs.Beats.{IsWellFormed};
-ghost use Rattle.tl_beats.specs.declared.Placed.{Placed as AnyPlaced};
 ghost use Rattle.tl_rows.specs.Counts.{heads_after, AreOpen};
-ghost use Rattle.tl_rows.specs.States.{StandsFor, manager_with};
-ghost use Rattle.tl_rows.specs.Telling.{is_of, told_of, told_after};
+ghost use Rattle.tl_rows.specs.States.{OnBeats, manager_with};
+ghost use Rattle.tl_rows.specs.Telling.{is_of, told_at, told_after};
 
 use crate::counts::{OpenCounts, one_if};
 use crate::manager::ManagerOrigins;
@@ -70,8 +69,8 @@ fn tell_beat(
     requires beat { IsWellFormed place.now.beat }
     requires link { place.now.link < length state.now.links.items }
     requires declared { place.now.link < length topo.now.links }
-    ensures { (exponent : ℕ) (before : List AnyPlaced) → StandsFor (manager_with topo.now exponent clients.now) state.now before
-        → OnOk result (told.new.items ≡ told.old.items ++ map (told_of (manager_with topo.now exponent clients.now) before place.now) (filter (is_of place.now) rows.now)) }
+    ensures { (exponent : ℕ) → OnBeats (manager_with topo.now exponent clients.now) state.now
+        (λ m before. OnOk result (told.new.items ≡ told.old.items ++ told_at m rows.now before place.now)) }
 {
     for row in rows {
         if is_of(place, row) {

@@ -1,12 +1,11 @@
 //! The check of a monitor's window.
 
-ghost use Rattle.std.specs.Prelude.{◌≡◌, ◌++◌, List, IfOk, OnErr};
+ghost use Rattle.std.specs.Prelude.{◌≡◌, IfOk, OnErr};
 ghost use Rattle.std.specs.List.Sorted.{IsStrictlySortedBy};
-ghost use Rattle.tl_beats.specs.declared.Placed.{Placed as AnyPlaced};
-ghost use Rattle.tl_definitions.specs.Passes.{IsPass, left_after};
 ghost use Rattle.tl_definitions.specs.Positions.{position_order};
 ghost use Rattle.tl_definitions.specs.Watching.{flag_row};
-ghost use Rattle.tl_definitions.specs.Tallies.{watching, kept_tally, AreOfOneLink};
+ghost use Rattle.tl_definitions.specs.Tallies.{kept_tally, AreOfOneLink};
+ghost use Rattle.tl_monitor.specs.Held.{WatchFinds, StopsAmid};
 
 use crate::monitor::Monitor;
 use crate::watched::Watched;
@@ -51,12 +50,10 @@ pub fn monitor_check<M: Monitor>(
 ) -> Result<Checked, AllocError>
     requires link { AreOfOneLink beats.now }
     requires rises { IsStrictlySortedBy position_order beats.now }
-    ensures pass { IfOk result (λ checked. IsPass (watching number monitor.old.watch)
-        (record { entry = kept_tally monitor.old.watch tally; beats = beats.now; exit = checked.tally; rows = checked.rows.items })) }
+    ensures pass { IfOk result (λ checked. WatchFinds number monitor.old.watch tally beats.now checked.tally checked.rows.items) }
     ensures kept { IfOk result (λ checked. kept_tally monitor.old.watch checked.tally ≡ checked.tally) }
     ensures held { IfOk result (λ checked. monitor.new ≡ record monitor.old { tally = checked.tally }) }
-    ensures err { OnErr result ((seen rest : List AnyPlaced) × (beats.now ≡ seen ++ rest)
-        × (monitor.new ≡ record monitor.old { tally = left_after (watching number monitor.old.watch) (kept_tally monitor.old.watch tally) seen })) }
+    ensures err { OnErr result (StopsAmid number monitor.old tally beats.now monitor.new) }
 {
     monitor.restart(tally);
     let mut rows = Vec::new(alloc);

@@ -32,3 +32,7 @@ IsPut noted old new plain = (text : List ℕ) × Tells noted plain text × Appen
 
 abbrev pub IsPutFront : Bool → Option (List ℕ) → Option (List ℕ) → List ℕ → Type 0
 IsPutFront noted old new plain = (text : List ℕ) × Tells noted plain text × ((n : ℕ) × Appends old new (take n text))
+
+-- A front of the text was written.
+abbrev pub AppendsFront : Option (List ℕ) → Option (List ℕ) → List ℕ → Type 0
+AppendsFront old new text = (n : ℕ) × Appends old new (take n text)

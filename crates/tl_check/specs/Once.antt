@@ -1,6 +1,8 @@
 -- The report of fragments that are added one after the other.
-use Rattle.std.specs.Prelude.{◌≡◌, ◌+◌, ℕ, List, [], ◌∷◌, map, Option, Some, None}
+use Rattle.std.specs.Prelude.{◌≡◌, ◌+◌, ℕ, List, [], ◌∷◌, length, map, Option, Some, None}
+use Rattle.std.specs.Arc.{arc_value}
 use Rattle.std.specs.Option.{option_map_or}
+use Rattle.std.specs.declared.sync.Arc.{Arc}
 use Rattle.tl_topology.specs.Topology.{Topology}
 use Rattle.tl_beats.specs.Fragments.{Frag}
 use Rattle.tl_beats.specs.declared.Row.{Row}
@@ -42,3 +44,12 @@ text_once topo edits rows = report_bytes topo (record { version = 1; edit = edit
 -- Each fragment is added, and the rows are the report of what then stands.
 abbrev pub AreRowsOf : Topology → List Frag → List Row → Type 0
 AreRowsOf topo fs rows = (first_refusal topo fs ≡ None) × IsReport (captures_after (inputs_after topo (adds fs))) rows
+
+-- These fragments have a report of so many rows, and this holds of its text.
+abbrev pub HasReport : {Z : Type 0} → Topology → List (Arc Frag Z) → ℕ → (List ℕ → Type 0) → Type 0
+HasReport topo fragments count Holds = (rows : List Row) × AreRowsOf topo (map arc_value fragments) rows × (count ≡ length rows)
+    × Holds (text_once topo (length fragments) rows)
+
+-- They have a report, and this holds of its text.
+abbrev pub HasReportText : {Z : Type 0} → Topology → List (Arc Frag Z) → (List ℕ → Type 0) → Type 0
+HasReportText topo fragments Holds = (rows : List Row) × AreRowsOf topo (map arc_value fragments) rows × Holds (text_once topo (length fragments) rows)

@@ -1,5 +1,5 @@
 -- What the state of a manager shows between two of its beats, and what it stands for.
-use Rattle.std.specs.Prelude.{ℕ, ◌≡◌, List, [], length, Option, Some, ◌<◌, slice_get}
+use Rattle.std.specs.Prelude.{ℕ, ◌≡◌, List, [], length, map, Option, Some, ◌<◌, slice_get}
 use Rattle.std.specs.List.Sorted.{IsStrictlySortedBy}
 use Rattle.std.specs.Option.{option_and_then, option_map_or}
 use Rattle.std.specs.Ordering.{nat_cmp}
@@ -8,10 +8,12 @@ use Rattle.tl_topology.specs.Regions.{Area}
 use Rattle.tl_topology.specs.declared.LinkDecl.{LinkDecl}
 use Rattle.tl_beats.specs.Beats.{IsWellFormed}
 use Rattle.tl_beats.specs.declared.Placed.{Placed}
+use Rattle.tl_beats.specs.declared.Row.{Row}
 use Rattle.tl_definitions.specs.declared.Unfinished.{Unfinished}
 use Rattle.tl_definitions.specs.Past.{FlowPast, LinkPast, flow_past}
 use Rattle.tl_definitions.specs.Rules.{Manager}
-use Rattle.tl_definitions.specs.Judging.{Snapshot, snapshot}
+use Rattle.tl_definitions.specs.Breaks.{row_of}
+use Rattle.tl_definitions.specs.Judging.{Snapshot, snapshot, judged_rules}
 use Rattle.tl_link_rules.specs.Bursts.{slot_at}
 use Rattle.tl_link_rules.specs.Flow as flow
 use Rattle.tl_client_rules.specs.Clients.{place_of}
@@ -39,6 +41,10 @@ past_at state link = record { flow = flow_at state link; client = (managers.clie
 -- What a state shows.
 abbrev pub shown : SpanState → Snapshot
 shown state = record { burst = burst_at state; past = past_at state }
+
+-- The rows of what the next beat of a manager breaks, by what the state shows.
+abbrev pub rows_at : Manager → SpanState → Placed → List Row
+rows_at m state p = map (row_of p) (judged_rules m (shown state) p)
 
 -- The heads of unfinished bursts are well-formed.
 abbrev pub AreFormed : SpanState → Type 0

@@ -1,12 +1,11 @@
 //! The report of fragments.
 
-ghost use Rattle.std.specs.Prelude.{◌≡◌, ◌<◌, ◌+◌, ◌^◌, ℕ, List, Option, None, IfOk, IfErr, OnOk, length, take, map};
+ghost use Rattle.std.specs.Prelude.{◌≡◌, ◌<◌, ◌+◌, ◌^◌, ℕ, Option, None, IfOk, IfErr, OnOk, map};
 ghost use Rattle.std.specs.Arc.{arc_value};
 ghost use Rattle.std.specs.Result.{IsErrOf};
 ghost use Rattle.std.specs.Io.KnownBytes.{Appends};
-ghost use Rattle.tl_beats.specs.declared.Row.{Row as AnyRow};
-ghost use Rattle.tl_check.specs.Notes.{IsPut, IsPutFront};
-ghost use Rattle.tl_check.specs.Once.{adds, first_refusal, of_edit, text_once, AreRowsOf, IsRefusal};
+ghost use Rattle.tl_check.specs.Notes.{IsPut, IsPutFront, AppendsFront};
+ghost use Rattle.tl_check.specs.Once.{adds, first_refusal, of_edit, HasReport, HasReportText, IsRefusal};
 ghost use Rattle.tl_check.specs.declared.once.OnceFault.TheVariants.{Memory, WriteFault as Unwritten};
 
 use crate::form::{Form, Plain};
@@ -99,8 +98,7 @@ pub fn run_once<O: ByteOut>(
     out: &mut O,
 ) -> Result<u64, OnceFault>
     requires { O.failure_count out.old < 2 ^ 63 }
-    ensures written { IfOk result (λ count. (rows : List AnyRow) × AreRowsOf topo.now (map arc_value fragments.now) rows × (count ≡ length rows)
-        × Appends (O.contents out.old) (O.contents out.new) (text_once topo.now (length fragments.now) rows)) }
+    ensures written { IfOk result (λ count. HasReport topo.now fragments.now count (Appends (O.contents out.old) (O.contents out.new))) }
     ensures quiet { OnOk result (O.failure_count out.new ≡ O.failure_count out.old) }
 
     // A refusal and want of memory write nothing, and a write that fails leaves a front of the text.
@@ -108,8 +106,7 @@ pub fn run_once<O: ByteOut>(
         → IsRefusal topo.now (map arc_value fragments.now) code number × (out.new ≡ out.old) }
     ensures memory { IsErrOf result OnceFault.Memory → out.new ≡ out.old }
     ensures failed { IsErrOf result OnceFault.WriteFault → (O.failure_count out.new ≡ O.failure_count out.old + 1)
-        × ((rows : List AnyRow) × AreRowsOf topo.now (map arc_value fragments.now) rows
-        × ((n : ℕ) × Appends (O.contents out.old) (O.contents out.new) (take n (text_once topo.now (length fragments.now) rows)))) }
+        × HasReportText topo.now fragments.now (AppendsFront (O.contents out.old) (O.contents out.new)) }
 {
     run_once_as(alloc, topo, fragments, &Plain, out)
 }
@@ -123,15 +120,13 @@ pub fn run_once_as<F: Form, O: ByteOut>(
     out: &mut O,
 ) -> Result<u64, OnceFault>
     requires { O.failure_count out.old < 2 ^ 63 }
-    ensures written { IfOk result (λ count. (rows : List AnyRow) × AreRowsOf topo.now (map arc_value fragments.now) rows × (count ≡ length rows)
-        × IsPut F.noted (O.contents out.old) (O.contents out.new) (text_once topo.now (length fragments.now) rows)) }
+    ensures written { IfOk result (λ count. HasReport topo.now fragments.now count (IsPut F.noted (O.contents out.old) (O.contents out.new))) }
     ensures quiet { OnOk result (O.failure_count out.new ≡ O.failure_count out.old) }
     ensures refused { (code : ℕ) (number : Option ℕ) → IsErrOf result (OnceFault.Refused code number)
         → IsRefusal topo.now (map arc_value fragments.now) code number × (out.new ≡ out.old) }
     ensures memory { IsErrOf result OnceFault.Memory → out.new ≡ out.old }
     ensures failed { IsErrOf result OnceFault.WriteFault → (O.failure_count out.new ≡ O.failure_count out.old + 1)
-        × ((rows : List AnyRow) × AreRowsOf topo.now (map arc_value fragments.now) rows
-        × IsPutFront F.noted (O.contents out.old) (O.contents out.new) (text_once topo.now (length fragments.now) rows)) }
+        × HasReportText topo.now fragments.now (IsPutFront F.noted (O.contents out.old) (O.contents out.new)) }
 {
     let log = all_added(alloc, topo, fragments)?;
     let inputs = log.inputs();

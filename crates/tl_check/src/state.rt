@@ -1,18 +1,17 @@
 //! What the beats of a manager leave for those that come.
 
-ghost use Rattle.std.specs.Prelude.{◌≡◌, ◌<◌, ◌++◌, List, [], length, map, IfOk, OnOk};
+ghost use Rattle.std.specs.Prelude.{◌≡◌, ◌<◌, ◌++◌, List, [], length, IfOk, OnOk};
 ghost use Rattle.std.specs.Bool.{Decides};
 ghost use Rattle.tl_topology.specs.Regions.{Area, areas_of};
 ghost use Rattle.tl_topology.specs.Topology.{IsSound};
 ghost use Rattle.tl_beats.specs.Beats.{IsWellFormed};
-ghost use Rattle.tl_definitions.specs.Breaks.{row_of};
-ghost use Rattle.tl_definitions.specs.Judging.{judged_rules, judged_next};
+ghost use Rattle.tl_definitions.specs.Judging.{judged_next};
 ghost use Rattle.tl_definitions.specs.Managers.{manager_at};
 ghost use Rattle.tl_definitions.specs.Rules.{Manager};
 ghost use Rattle.tl_client_rules.specs.Manager.{AreSettled};
 ghost use Rattle.tl_state.specs.SameItems.{SameItems};
 ghost use Rattle.tl_check.specs.Links.{SameLink, AreOpening};
-ghost use Rattle.tl_check.specs.States.{shown, HasLink, IsOf, StandsFor, SameSpan, AreFormed, Serves};
+ghost use Rattle.tl_check.specs.States.{shown, rows_at, HasLink, IsOf, StandsFor, SameSpan, AreFormed, Serves};
 
 use crate::links::LinkState;
 use crate::rows::add_rows;
@@ -86,7 +85,7 @@ impl SpanState {
         requires link { HasLink self.old at.now.link }
         requires formed { AreFormed self.old }
         ensures rows { (m : Manager) → IsOf m self.old → Serves m at.now.link decl.now exponent (areas_of regions.now)
-            → OnOk result (rows.new.items ≡ rows.old.items ++ map (row_of at.now) (judged_rules m (shown self.old) at.now)) }
+            → OnOk result (rows.new.items ≡ rows.old.items ++ rows_at m self.old at.now) }
         ensures next { (m : Manager) → IsOf m self.old → Serves m at.now.link decl.now exponent (areas_of regions.now)
             → OnOk result (IsOf m self.new × (shown self.new ≡ judged_next m (shown self.old) at.now)) }
     {

@@ -28,6 +28,17 @@ pub record TaskData : Type 0 where
 abbrev pub manager_of : TaskData → Manager
 manager_of task = manager_at task.topo task.owner (areas_of task.regions)
 
+-- The window of a manager with these regions, the beats of these fragments that lie in it, and this entry.
+abbrev pub task_for : Topology → ℕ → List (ℕ × Area) → List Recorded → ℕ → SpanState → TaskData
+task_for topo manager regions fragments window entry = record {
+  topo = topo;
+  owner = manager;
+  window = window;
+  regions = regions;
+  beats = beats_in window (manager_beats topo fragments manager);
+  entry = entry;
+}
+
 -- The numbers of regions are below 256.
 abbrev pub HasNumbers : List (ℕ × Area) → Type 0
 HasNumbers regions = (number : ℕ) → is_some (area_at number regions) ≡ true → number < 256

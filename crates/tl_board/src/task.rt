@@ -3,12 +3,10 @@
 ghost use Rattle.std.specs.Prelude.{◌≡◌, ◌<◌, length, IfOk};
 ghost use Rattle.std.specs.Arc.{arc_value};
 ghost use Rattle.tl_topology.specs.Regions.{areas_of};
-ghost use Rattle.tl_definitions.specs.Captures.{manager_beats};
 ghost use Rattle.tl_definitions.specs.Managers.{manager_at};
 ghost use Rattle.tl_results.specs.Marks.{pass_of};
 ghost use Rattle.tl_check.specs.States.{IsOf};
-ghost use Rattle.tl_capture.specs.Windows.{beats_in};
-ghost use Rattle.tl_board.specs.Tasks.{IsPassOf, HasNumbers};
+ghost use Rattle.tl_board.specs.Tasks.{IsPassOf, HasNumbers, task_for};
 
 use crate::rows::Rows;
 use std::alloc::{AllocError, Global};
@@ -70,14 +68,7 @@ impl SpanTask {
         requires manager { manager < length (arc_value topo.now).managers }
         requires entry { IsOf (manager_at (arc_value topo.now) manager (areas_of regions.now)) (arc_value entry.now) }
         requires numbers { HasNumbers regions.now }
-        ensures { IfOk result (λ task. task ≡ record {
-          topo = arc_value topo.now;
-          owner = manager;
-          window = window;
-          regions = regions.now;
-          beats = beats_in window (manager_beats (arc_value topo.now) present.now manager);
-          entry = arc_value entry.now;
-        }) }
+        ensures { IfOk result (λ task. task ≡ task_for (arc_value topo.now) manager regions.now present.now window (arc_value entry.now)) }
     {
         let links = clients_of(alloc, topo, manager)?;
         Ok(SpanTask {

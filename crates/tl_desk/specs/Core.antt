@@ -40,6 +40,10 @@ AreLinked topo rows = All (λ row. row.link < length topo.links) rows
 abbrev pub IsOf : LogData → ReportData → Type 0
 IsOf log report = (report.edit ≤ length log.edits) × IsReport (captures_after (inputs_after log.topo (take report.edit log.edits))) report.rows × AreLinked log.topo report.rows
 
+-- The report names a number of edits of the log, and its rows are exactly those that the definitions find in what these leave.
+abbrev pub IsOfEdits : LogData → ReportData → Type 0
+IsOfEdits log report = (report.edit ≤ length log.edits) × IsReport (captures_after (inputs_after log.topo (take report.edit log.edits))) report.rows
+
 -- The versions are these numbers, one after the other.
 abbrev pub AreVersions : ℕ → List ReportData → Type 0
 AreVersions from [] = Unit {0}

@@ -105,6 +105,11 @@ pub record TakesWatch (old : Core) (ticket : ℕ) (key : PieceKey) (new : Core) 
     tickets = given (watch_window_of key) (length (log_of old).edits) old.tickets;
   }
 
+-- It goes out as this job, with what stands for it, and the monitor is as it was here.
+abbrev pub TakesJob : Core → MonitorJobData → Core → Type 0
+TakesJob old job new = TakesWatch old job.ticket (watch_key_for job) new × IsWatchTaskFor old.windows (watch_key_for job) (without_monitor job.task)
+    × (held_at job.task.number old.boxes.slots ≡ Some job.task.held)
+
 -- What a take gives: nothing exactly where no window is wanted that has no live ticket, of a manager or of a monitor that is here, and
 -- then all stays; else the first one with what stands for it, and of a monitor with the monitor itself, as it was here.
 abbrev pub Gives : {M : Type 0} → Core → Option (Job M) → Core → Type 0

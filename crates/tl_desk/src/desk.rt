@@ -1,15 +1,12 @@
 //! The desk, and what is read of it.
 
-ghost use Rattle.std.specs.Prelude.{◌≡◌, ◌≤◌, ◌++◌, map, length, take, IfOk, IfErr, IfSome, OnOk, None, Some};
+ghost use Rattle.std.specs.Prelude.{◌≡◌, ◌++◌, map, length, IfOk, IfErr, IfSome, OnOk, None, Some};
 ghost use Rattle.std.specs.Bool.{Decides};
 ghost use Rattle.std.specs.Option.{option_map};
-ghost use Rattle.tl_definitions.specs.Report.{IsReport};
-ghost use Rattle.tl_edits.specs.Log.{inputs_after};
-ghost use Rattle.tl_check.specs.Captured.{captures_after};
 ghost use Rattle.tl_board.specs.Spans as spans;
 ghost use Rattle.tl_board.specs.Watches.{AreWatches};
 ghost use Rattle.tl_monitor.specs.Boxes.{IsBoxes, told, here_in, first_out};
-ghost use Rattle.tl_desk.specs.Core.{log_of, standing, latest_of, report_of, AllSettled, AreLinked, IsNew, IsSound, IsDesk};
+ghost use Rattle.tl_desk.specs.Core.{log_of, standing, latest_of, report_of, AllSettled, AreLinked, IsOfEdits, IsNew, IsSound, IsDesk};
 ghost use Rattle.tl_desk.specs.Ends.{HaveEnded, AllHaveEnded};
 
 use crate::tickets::Tickets;
@@ -90,8 +87,7 @@ impl<M: Monitor> Desk<M> {
     /// what these leave.
     pub fn latest(&self) -> Option<&Report>
         ensures last { option_map (λ r. r.now) result ≡ latest_of self.now.reports }
-        ensures exact { IfSome result (λ report. (report.now.edit ≤ length self.now.windows.spans.log.edits)
-            × IsReport (captures_after (inputs_after self.now.windows.spans.log.topo (take report.now.edit self.now.windows.spans.log.edits))) report.now.rows) }
+        ensures exact { IfSome result (λ report. IsOfEdits (log_of self.now) report.now) }
         // The topology has the links of its rows.
         ensures links { IfSome result (λ report. AreLinked self.now.windows.spans.log.topo report.now.rows) }
     {
@@ -106,8 +102,7 @@ impl<M: Monitor> Desk<M> {
     pub fn report(&self, version: u64) -> Option<&Report>
         ensures found { option_map (λ r. r.now) result ≡ report_of version self.now.reports }
         ensures version { IfSome result (λ report. report.now.version ≡ version) }
-        ensures exact { IfSome result (λ report. (report.now.edit ≤ length self.now.windows.spans.log.edits)
-            × IsReport (captures_after (inputs_after self.now.windows.spans.log.topo (take report.now.edit self.now.windows.spans.log.edits))) report.now.rows) }
+        ensures exact { IfSome result (λ report. IsOfEdits (log_of self.now) report.now) }
         // The topology has the links of its rows.
         ensures links { IfSome result (λ report. AreLinked self.now.windows.spans.log.topo report.now.rows) }
     {

@@ -4,18 +4,15 @@ ghost use Rattle.std.specs.Prelude.{◌≡◌, ◌<◌, IfOk, IfErr, IfSome, OnO
 ghost use Rattle.std.specs.Bool.{Decides};
 ghost use Rattle.std.specs.Option.{option_map};
 ghost use Rattle.std.specs.Result.{IsErrOf};
-ghost use Rattle.tl_monitor.specs.Boxes.{held_at, away_at};
 ghost use Rattle.tl_desk.specs.declared.job.Done.TheVariants as a_done;
 ghost use Rattle.tl_results.specs.Pieces.{piece_at, IsFirstFree};
 ghost use Rattle.tl_check.specs.States.{SameSpan};
 ghost use Rattle.tl_board.specs.Windows.{key_of};
 ghost use Rattle.tl_desk.specs.declared.piece.Piece.TheVariants as piece;
 ghost use Rattle.tl_desk.specs.TicketData.{IsOutFor, most_tickets};
-ghost use Rattle.tl_board.specs.Outside.{IsWatchTaskFor};
-ghost use Rattle.tl_board.specs.WatchTasks.{without_monitor};
 ghost use Rattle.tl_board.specs.Tally.{SameTally};
 ghost use Rattle.tl_desk.specs.Core.{HaveNumbers};
-ghost use Rattle.tl_desk.specs.Jobs.{IsLiveAtWatch, IsFreshWatch, IsHere, IsFirstFreeHere, IsFirstFreeWatch, IsOwn, UnmarksWatch, TakesWatch, AcceptsWatch, EndsWatch, RecallsWatch, HandsBack, watch_key_for};
+ghost use Rattle.tl_desk.specs.Jobs.{IsLiveAtWatch, IsFreshWatch, IsHere, IsFirstFreeHere, IsFirstFreeWatch, IsOwn, UnmarksWatch, TakesJob, AcceptsWatch, EndsWatch, RecallsWatch, HandsBack};
 
 use crate::desk::Desk;
 use crate::tickets::Taken;
@@ -90,8 +87,7 @@ impl<M: Monitor> Desk<M> {
         requires first { IsFirstFreeWatch self.old (Some key) }
         requires there { is_some (piece_at key self.old.windows.board) ≡ true }
         requires here { IsHere self.old.boxes key.owner }
-        ensures step { IfOk result (λ job. TakesWatch self.old job.ticket (watch_key_for job) self.new × IsWatchTaskFor self.old.windows (watch_key_for job) (without_monitor job.task)
-            × (held_at job.task.number self.old.boxes.slots ≡ Some job.task.held)) }
+        ensures step { IfOk result (λ job. TakesJob self.old job self.new) }
         ensures spent { IsErrOf result TakeFault.TicketsSpent → self.old.tickets.last ≡ most_tickets }
         ensures memory { IsErrOf result TakeFault.Memory → self.old.tickets.last < most_tickets }
         ensures err { OnErr result (self.new ≡ self.old) }

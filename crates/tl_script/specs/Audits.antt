@@ -8,6 +8,7 @@ use Rattle.tl_edits.specs.Log.{inputs_after}
 use Rattle.tl_edits.specs.declared.fault.PastFault.{PastFault}
 use Rattle.tl_edits.specs.declared.fault.PastFault.TheVariants as past
 use Rattle.tl_check.specs.Captured.{captures_after}
+use Rattle.tl_check.specs.Output.{audit_bytes}
 use Rattle.tl_script.specs.Scripts.{commands_of, fault_of}
 use Rattle.tl_script.specs.declared.fault.ScriptFault.{ScriptFault}
 use Rattle.tl_script.specs.declared.audit.AuditFault.{AuditFault}
@@ -42,6 +43,14 @@ pub record IsAudit (topo : Topology) (bytes : List ℕ) (edit : ℕ) (rows : Lis
   pub whole : (commands_of bytes).fault ≡ None
   pub within : edit ≤ length (edits_of topo bytes)
   pub report : IsReport (captures_after (inputs_after topo (take edit (edits_of topo bytes)))) rows
+
+-- The audit has so many rows, and this holds of its text.
+abbrev pub HasAudit : Topology → List ℕ → ℕ → ℕ → (List ℕ → Type 0) → Type 0
+HasAudit topo bytes edit count Holds = (rows : List Row) × IsAudit topo bytes edit rows × (count ≡ length rows) × Holds (audit_bytes topo edit rows)
+
+-- The audit has rows, and this holds of its text.
+abbrev pub HasAuditText : Topology → List ℕ → ℕ → (List ℕ → Type 0) → Type 0
+HasAuditText topo bytes edit Holds = (rows : List Row) × IsAudit topo bytes edit rows × Holds (audit_bytes topo edit rows)
 
 -- The script is read to its end, and fewer edits are accepted.
 abbrev pub IsBeyond : Topology → List ℕ → ℕ → Type 0

@@ -1,14 +1,12 @@
 //! What checking everything anew finds after some edits of a script.
 
-ghost use Rattle.std.specs.Prelude.{◌≡◌, ◌+◌, ◌<◌, ◌≤◌, ◌^◌, [], ℕ, List, Option, Some, None, IfOk, IfErr, OnOk, length, take};
+ghost use Rattle.std.specs.Prelude.{◌≡◌, ◌+◌, ◌<◌, ◌≤◌, ◌^◌, [], ℕ, Option, Some, None, IfOk, IfErr, OnOk};
 ghost use Rattle.std.specs.Result.{IsErrOf};
 ghost use Rattle.std.specs.Io.KnownBytes.{Appends};
-ghost use Rattle.tl_beats.specs.declared.Row.{Row as AnyRow};
-ghost use Rattle.tl_check.specs.Notes.{IsPut, IsPutFront};
-ghost use Rattle.tl_check.specs.Output.{audit_bytes};
+ghost use Rattle.tl_check.specs.Notes.{IsPut, IsPutFront, AppendsFront};
 ghost use Rattle.tl_script.specs.Scripts.{commands_of};
 ghost use Rattle.tl_script.specs.Text.{IsCommand};
-ghost use Rattle.tl_script.specs.Audits.{audit_code_of, audit_number_of, of_past, edits_of, IsStopped, IsStopAt, IsAudit, IsBeyond};
+ghost use Rattle.tl_script.specs.Audits.{audit_code_of, audit_number_of, of_past, edits_of, IsStopped, IsStopAt, HasAudit, HasAuditText, IsBeyond};
 ghost use Rattle.tl_script.specs.Asked.{asked};
 ghost use Rattle.tl_script.specs.Accepted.{edits_with};
 ghost use Rattle.tl_script.specs.Causes.{of_script};
@@ -167,8 +165,7 @@ pub fn audit_script<O: ByteOut>(
     out: &mut O,
 ) -> Result<u64, AuditFault>
     requires { O.failure_count out.old < 2 ^ 63 }
-    ensures written { IfOk result (λ count. (rows : List AnyRow) × IsAudit topo.now script.now edit rows × (count ≡ length rows)
-        × Appends (O.contents out.old) (O.contents out.new) (audit_bytes topo.now edit rows)) }
+    ensures written { IfOk result (λ count. HasAudit topo.now script.now edit count (Appends (O.contents out.old) (O.contents out.new))) }
     ensures quiet { OnOk result (O.failure_count out.new ≡ O.failure_count out.old) }
 
     // What stops it writes nothing, and a write that fails leaves a front of the text.
@@ -176,8 +173,7 @@ pub fn audit_script<O: ByteOut>(
     ensures beyond { (n : ℕ) → IsErrOf result (AuditFault.NoSuchEdit n) → (n ≡ edit) × IsBeyond topo.now script.now edit × (out.new ≡ out.old) }
     ensures memory { IsErrOf result AuditFault.Memory → out.new ≡ out.old }
     ensures failed { IsErrOf result AuditFault.WriteFault → (O.failure_count out.new ≡ O.failure_count out.old + 1)
-        × ((rows : List AnyRow) × IsAudit topo.now script.now edit rows
-        × ((n : ℕ) × Appends (O.contents out.old) (O.contents out.new) (take n (audit_bytes topo.now edit rows)))) }
+        × HasAuditText topo.now script.now edit (AppendsFront (O.contents out.old) (O.contents out.new)) }
 {
     audit_script_as(alloc, topo, script, edit, &Plain, out)
 }
@@ -192,15 +188,13 @@ pub fn audit_script_as<F: Form, O: ByteOut>(
     out: &mut O,
 ) -> Result<u64, AuditFault>
     requires { O.failure_count out.old < 2 ^ 63 }
-    ensures written { IfOk result (λ count. (rows : List AnyRow) × IsAudit topo.now script.now edit rows × (count ≡ length rows)
-        × IsPut F.noted (O.contents out.old) (O.contents out.new) (audit_bytes topo.now edit rows)) }
+    ensures written { IfOk result (λ count. HasAudit topo.now script.now edit count (IsPut F.noted (O.contents out.old) (O.contents out.new))) }
     ensures quiet { OnOk result (O.failure_count out.new ≡ O.failure_count out.old) }
     ensures stopped { (stop : AnyStop) → IsErrOf result (AuditFault.Stop stop) → IsStopAt script.now stop × (out.new ≡ out.old) }
     ensures beyond { (n : ℕ) → IsErrOf result (AuditFault.NoSuchEdit n) → (n ≡ edit) × IsBeyond topo.now script.now edit × (out.new ≡ out.old) }
     ensures memory { IsErrOf result AuditFault.Memory → out.new ≡ out.old }
     ensures failed { IsErrOf result AuditFault.WriteFault → (O.failure_count out.new ≡ O.failure_count out.old + 1)
-        × ((rows : List AnyRow) × IsAudit topo.now script.now edit rows
-        × IsPutFront F.noted (O.contents out.old) (O.contents out.new) (audit_bytes topo.now edit rows)) }
+        × HasAuditText topo.now script.now edit (IsPutFront F.noted (O.contents out.old) (O.contents out.new)) }
 {
     let log = log_of(alloc, topo, script)?;
     let inputs = log.inputs_at(alloc, edit)?;

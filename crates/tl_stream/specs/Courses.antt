@@ -117,6 +117,10 @@ pub record HasCome (topo : Topology) (areas : List Area) (fs : List Recorded) (f
   pub are_fronts : (link : ℕ) → IsFrontOf link fs (front_at fronts link)
   pub was : WasCourse topo areas fs waiting course
 
+-- This holds of the areas and of whatever fragments came of which these wait.
+abbrev pub ForCome : Topology → List Area → List (Option Front) → List Recorded → Course → (List Area → List Recorded → Type 0) → Type 0
+ForCome topo areas fronts waiting course Holds = (fs : List Recorded) → HasCome topo areas fs fronts waiting course → Holds areas fs
+
 -- These fragments came, of which these wait, and the courses of all managers are judged up to what they completed.
 pub record HasEnded (topo : Topology) (regions : ℕ → List Area) (fs waiting : List Recorded) (courses : List Course) : Type 0 where
   pub present : IsPresent fs

@@ -3,9 +3,9 @@
 ghost use Rattle.std.specs.Prelude.{◌≡◌, ◌∷◌, [], IfOk, OnErr};
 ghost use Rattle.std.specs.Arc.{arc_value};
 ghost use Rattle.std.specs.List.Sorted.{IsStrictlySortedBy};
-ghost use Rattle.tl_definitions.specs.Passes.{IsPass};
 ghost use Rattle.tl_definitions.specs.Positions.{beats_of, position_order};
-ghost use Rattle.tl_definitions.specs.Tallies.{watching, kept_tally, AreOfOneLink};
+ghost use Rattle.tl_definitions.specs.Tallies.{AreOfOneLink};
+ghost use Rattle.tl_monitor.specs.Held.{WatchFinds};
 ghost use Rattle.tl_capture.specs.Present.{recorded};
 ghost use Rattle.tl_stream.specs.Lookouts.{IsLookedOut};
 
@@ -36,8 +36,7 @@ fn found_by<M: Monitor>(
 ) -> Result<Checked, AllocError>
     requires link { AreOfOneLink beats.now }
     requires rises { IsStrictlySortedBy position_order beats.now }
-    ensures { IfOk result (λ checked. IsPass (watching number (M.held monitor).watch)
-        (record { entry = kept_tally (M.held monitor).watch tally; beats = beats.now; exit = checked.tally; rows = checked.rows.items })) }
+    ensures { IfOk result (λ checked. WatchFinds number (M.held monitor).watch tally beats.now checked.tally checked.rows.items) }
 {
     let mut watched = Watched::new(monitor);
     monitor_check(alloc, number, &mut watched, tally, beats)
@@ -47,8 +46,7 @@ fn found_by<M: Monitor>(
 fn found(alloc: Global, lookout: &Lookout, beats: &[Placed]) -> Result<Checked, AllocError>
     requires link { AreOfOneLink beats.now }
     requires rises { IsStrictlySortedBy position_order beats.now }
-    ensures { IfOk result (λ checked. IsPass (watching lookout.now.number lookout.now.watch)
-        (record { entry = kept_tally lookout.now.watch lookout.now.tally; beats = beats.now; exit = checked.tally; rows = checked.rows.items })) }
+    ensures { IfOk result (λ checked. WatchFinds lookout.now.number lookout.now.watch lookout.now.tally beats.now checked.tally checked.rows.items) }
 {
     let cell = Arc::new(alloc, OnceLock::new())?;
     match lookout.watch {

@@ -9,7 +9,7 @@ ghost use Rattle.tl_definitions.specs.Positions.{Recorded};
 ghost use Rattle.tl_check.specs.Captured.{areas_at};
 ghost use Rattle.tl_capture.specs.Present.{IsPresent};
 ghost use Rattle.tl_stream.specs.declared.fault.StreamFault.{StreamFault};
-ghost use Rattle.tl_stream.specs.Courses.{IsRunning, HasCome, HasEnded, Advances, AreNewRows, AreNewCourses, Loses};
+ghost use Rattle.tl_stream.specs.Courses.{IsRunning, ForCome, HasEnded, Advances, AreNewRows, AreNewCourses, Loses};
 ghost use Rattle.tl_stream.specs.Fronts.{refusal_of, IsFrontOf};
 ghost use Rattle.tl_stream.specs.Streams.{HasAccepted, Accepts, Refuses, IsThrough, areas_in};
 ghost use Rattle.tl_stream.specs.Told.{untold_of};
@@ -107,10 +107,10 @@ fn advance(
     course: &mut Course,
 ) -> Result<Vec<Row>, AllocError>
     requires { IsRunning topo.now (areas_at regions.now course.old.manager) course.old }
-    ensures all { (fs : List Recorded) → HasCome topo.now (areas_at regions.now course.old.manager) fs fronts.now waiting.old course.old
-        → Advances topo.now (areas_at regions.now course.old.manager) fs course.old waiting.old course.new waiting.new }
-    ensures ok { (fs : List Recorded) → HasCome topo.now (areas_at regions.now course.old.manager) fs fronts.now waiting.old course.old
-        → IfOk result (λ rows. AreNewRows topo.now (areas_at regions.now course.old.manager) fs course.old rows.items) }
+    ensures all { ForCome topo.now (areas_at regions.now course.old.manager) fronts.now waiting.old course.old
+        (λ areas fs. Advances topo.now areas fs course.old waiting.old course.new waiting.new) }
+    ensures ok { ForCome topo.now (areas_at regions.now course.old.manager) fronts.now waiting.old course.old
+        (λ areas fs. IfOk result (λ rows. AreNewRows topo.now areas fs course.old rows.items)) }
     ensures run { OnOk result (is_some course.old.state ≡ true) }
 {
     if course.is_lost() {

@@ -39,7 +39,7 @@ pub struct ClientState {
 }
 
 /// Whether a claim to have held this is above the bound, or on a strict link below it.
-fn is_wrong(strict: bool, bound: Perm, from: Perm) -> bool
+pub fn is_wrong(strict: bool, bound: Perm, from: Perm) -> bool
     ensures { result ≡ is_wrong strict bound from }
 {
     is_above(from, bound) || (strict && is_above(bound, from))

@@ -12,7 +12,8 @@ mod manager;
 pub mod manager_laws;
 mod open_blocks;
 
-pub use claims::{block_of, claim, granted_block};
-pub use client::ClientState;
+pub use claims::{acquired_block, block_of, claim, granted_block};
+pub use client::{ClientState, is_wrong};
 pub use clients::clients_of;
-pub use manager::ManagerState;
+pub use manager::{ManagerState, conflicts};
+pub use open_blocks::OpenBlocks;

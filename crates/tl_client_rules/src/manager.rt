@@ -38,7 +38,7 @@ pub struct ManagerState {
 }
 
 /// Whether two clients may not have these permissions beside each other.
-fn conflicts(set: Perm, bound: Perm) -> bool
+pub fn conflicts(set: Perm, bound: Perm) -> bool
     ensures { result ≡ conflicts set bound }
 {
     match (set, bound) {

@@ -52,7 +52,7 @@ impl OpenBlocks {
 
     /// The key has this open from now on, or nothing. Only where something is opened can there be no memory, and then nothing
     /// has changed.
-    fn set(&mut self, key: u16, entry: Option<Option<u64>>) -> Result<(), AllocError>
+    pub fn set(&mut self, key: u16, entry: Option<Option<u64>>) -> Result<(), AllocError>
         ensures blocks { OnOk result ((other : ℕ) → block_at self.new other ≡ (if key == other then entry else block_at self.old other)) }
         ensures counts { OnOk result ((block : ℕ) → open_on self.new block
             ≡ one_if (passes (grants_block block) entry) + (open_on self.old block - one_if (passes (grants_block block) (block_at self.old key)))) }

@@ -41,7 +41,7 @@ pub struct FlowAnswer {
 }
 
 /// What is kept of a head that asks for a reply.
-fn request_from(op: Op, head: &Beat) -> Request
+pub fn request_from(op: Op, head: &Beat) -> Request
     ensures { result ≡ record { op = op; param = head.now.param; size = head.now.size; source = head.now.source; address = head.now.address } }
 {
     Request {
@@ -234,7 +234,7 @@ impl Same for FlowState {
 }
 
 /// Whether the message is no reply to the request.
-fn is_unlike(request: &Option<Request>, op: Op) -> bool
+pub fn is_unlike(request: &Option<Request>, op: Op) -> bool
     ensures { result ≡ option_map_or (λ request. not (replies_to request.op op)) request.now false }
 {
     match request {
@@ -244,7 +244,7 @@ fn is_unlike(request: &Option<Request>, op: Op) -> bool
 }
 
 /// Whether the request has another size than the head.
-fn has_other_size(request: &Option<Request>, head: &Beat) -> bool
+pub fn has_other_size(request: &Option<Request>, head: &Beat) -> bool
     ensures { result ≡ option_map_or (λ request. not (request.size == head.now.size)) request.now false }
 {
     match request {

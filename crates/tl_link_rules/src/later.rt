@@ -14,8 +14,8 @@ use tl_beats::Beat;
 use tl_tables::{Chan, Op, Rule, op_of};
 use tl_topology::LinkDecl;
 
-/// Whether a later beat has the fields that all beats of its burst share.
-fn is_alike(head: &Beat, beat: &Beat) -> bool
+/// Whether a later beat has the fields that all beats of its burst share. [TileLink 1.8: serialization]
+pub fn is_alike(head: &Beat, beat: &Beat) -> bool
     ensures { result ≡ is_alike head.now beat.now }
 {
     let same_message = head.opcode == beat.opcode
@@ -29,8 +29,9 @@ fn is_alike(head: &Beat, beat: &Beat) -> bool
     }
 }
 
-/// Whether a later beat of a head with this message breaks the rule.
-fn breaks(link: &LinkDecl, op: Op, head: &Beat, beat: &Beat, rule: Rule) -> bool
+/// Whether a later beat of a head with this message breaks the rule: F5, F7 or U1, and no other. [TileLink 1.8: serialization,
+/// byte lanes, denied and corrupt]
+pub fn breaks(link: &LinkDecl, op: Op, head: &Beat, beat: &Beat, rule: Rule) -> bool
     requires link { IsSound link.now }
     requires head { IsWellFormed head.now }
     ensures { result ≡ breaks_later link.now op head.now beat.now rule }

@@ -20,7 +20,7 @@ use crate::stop::Stop;
 use crate::{Command, ScriptFault, Spot, Visitor, visit_all};
 use std::alloc::{AllocError, Global};
 use thiserror::Error;
-use tl_check::{Form, Plain, scratch};
+use tl_check::{Alone, Form, Judging, Plain};
 use tl_edits::{Edit, EditFault, Log, PastFault};
 use tl_text::{ByteOut, WriteFault, write_all};
 use tl_topology::Topo;
@@ -179,12 +179,12 @@ pub fn audit_script<O: ByteOut>(
         × ((rows : List AnyRow) × IsAudit topo.now script.now edit rows
         × ((n : ℕ) × Appends (O.contents out.old) (O.contents out.new) (take n (audit_bytes topo.now edit rows)))) }
 {
-    audit_script_as(alloc, topo, script, edit, &Plain, out)
+    audit_script_as(&Alone::new(alloc), topo, script, edit, &Plain, out)
 }
 
-/// The same in a form: with notes, if the form has any.
-pub fn audit_script_as<F: Form, O: ByteOut>(
-    alloc: Global,
+/// The same in a form, with notes if the form has any; and by one thread or several.
+pub fn audit_script_as<J: Judging, F: Form, O: ByteOut>(
+    judging: &J,
     topo: &Topo,
     script: &[u8],
     edit: u64,
@@ -202,9 +202,10 @@ pub fn audit_script_as<F: Form, O: ByteOut>(
         × ((rows : List AnyRow) × IsAudit topo.now script.now edit rows
         × IsPutFront F.noted (O.contents out.old) (O.contents out.new) (audit_bytes topo.now edit rows)) }
 {
+    let alloc = judging.alloc();
     let log = log_of(alloc, topo, script)?;
     let inputs = log.inputs_at(alloc, edit)?;
-    let rows = scratch(alloc, &inputs)?;
+    let rows = judging.scratch(&inputs)?;
     let text = form.audit(alloc, &inputs, edit, &rows)?;
     write_all(out, text.as_bytes())?;
     Ok(rows.len() as u64)

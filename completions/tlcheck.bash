@@ -5,7 +5,7 @@ _tlcheck() {
     1:*) words='once run audit stream merge doctor view explain help --help --version' ;;
     *:once) words='--workers --manager --show --explain-faults --summary --deny --format --rule --link --from --to --waive --help' ;;
     *:run) words='--workers --show --explain-faults --summary --deny --help' ;;
-    *:audit) words='--show --explain-faults --summary --deny --format --rule --link --from --to --waive --help' ;;
+    *:audit) words='--workers --show --explain-faults --summary --deny --format --rule --link --from --to --waive --help' ;;
     *:stream) words='--workers --setup --manager --show --explain-faults --help' ;;
     *:merge) words='--explain-faults --help' ;;
     *:doctor) words='--explain-faults --help' ;;

@@ -16,3 +16,4 @@ pub mod LinkStateLaws
 pub mod CleanHeadLaws
 pub mod PassLaws
 pub mod FoundLaws
+pub mod Chunks

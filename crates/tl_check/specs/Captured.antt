@@ -12,8 +12,12 @@ use Rattle.tl_definitions.specs.Positions.{Recorded, beats_of}
 use Rattle.tl_definitions.specs.Report.{Capture, of_monitor}
 use Rattle.tl_edits.specs.Inputs.{InputData, attached}
 
+-- The regions of all managers, by number, each with its own number.
+abbrev pub AllRegions : Type 0
+AllRegions = List (List (ℕ × Area))
+
 -- The regions of a manager, from a list of those of all managers by number. A manager without an entry has none.
-abbrev pub areas_at : List (List (ℕ × Area)) → ℕ → List Area
+abbrev pub areas_at : AllRegions → ℕ → List Area
 areas_at regions manager = option_map_or areas_of (slice_get regions manager) []
 
 -- The beats of the link that a watch names: none where the topology has no such link.

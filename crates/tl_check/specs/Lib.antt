@@ -12,3 +12,4 @@ pub mod Requests
 pub mod Apart
 pub mod Managers
 pub mod CleanHeads
+pub mod Beside

@@ -3,7 +3,9 @@
 ghost use Rattle.std.specs.Prelude.{◌<◌, IfOk, length};
 ghost use Rattle.std.specs.List.{All};
 ghost use Rattle.tl_definitions.specs.Report.{IsReport};
-ghost use Rattle.tl_check.specs.Captured.{captures_with};
+ghost use Rattle.tl_definitions.specs.Captures.{captures_of};
+ghost use Rattle.tl_check.specs.Captured.{areas_at, captures_with, AllRegions};
+ghost use Rattle.tl_check.specs.Found.{AreFound};
 
 use crate::managers::managers_rows;
 use crate::sorted::sort_rows;
@@ -12,6 +14,27 @@ use std::alloc::{AllocError, Global};
 use tl_beats::{Row, Watch};
 use tl_capture::Present;
 use tl_topology::{RegionMap, Topo};
+
+/// The report of what stands, of which these are the rows of managers: those of the watches of monitors are put after them, and all are put
+/// in order. AllocError where memory is refused.
+pub(crate) fn with_watches(
+    alloc: Global,
+    topo: &Topo,
+    present: &Present,
+    watches: &[(u32, Watch)],
+    managers: Vec<Row>,
+) -> Result<Vec<Row>, AllocError>
+    ensures report { (regions : AllRegions) → AreFound (captures_of topo.now (areas_at regions) present.now) managers.items
+        → IfOk result (λ rows. IsReport (captures_with topo.now present.now regions watches.now) rows.items) }
+    ensures links { (regions : AllRegions) → AreFound (captures_of topo.now (areas_at regions) present.now) managers.items
+        → IfOk result (λ rows. All (λ row. row.link < length topo.now.links) rows.items) }
+{
+    let _ = present.is_empty();
+    let flagged = watches_rows(alloc, topo, present, watches)?;
+    let mut rows = managers;
+    rows.extend_from_slice(&flagged)?;
+    Ok(sort_rows(rows))
+}
 
 /// The report of what stands: of the fragments that are present on the links of a topology, with the regions of its managers,
 /// by number, and the watches of the monitors that are attached, each with its monitor's number. A manager without an entry has
@@ -26,9 +49,7 @@ pub fn check_all(
     ensures report { IfOk result (λ rows. IsReport (captures_with topo.now present.now regions.now watches.now) rows.items) }
     ensures links { IfOk result (λ rows. All (λ row. row.link < length topo.now.links) rows.items) }
 {
-    let _ = present.is_empty();
-    let mut rows = managers_rows(alloc, topo, present, regions)?;
-    let flagged = watches_rows(alloc, topo, present, watches)?;
-    rows.extend_from_slice(&flagged)?;
-    Ok(sort_rows(rows))
+    let managers = managers_rows(alloc, topo, present, regions)?;
+    let rows = with_watches(alloc, topo, present, watches, managers)?;
+    Ok(rows)
 }

@@ -2,6 +2,7 @@
 #![tactic(auto)]
 
 mod apart;
+mod beside;
 mod checking;
 mod clean;
 mod form;
@@ -19,6 +20,7 @@ mod walked;
 mod watching;
 pub mod window_laws;
 
+pub use beside::{Alone, Judges, Judging};
 pub use checking::check_all;
 pub use form::{Form, Plain};
 pub use once::{OnceFault, all_added, run_once, run_once_as};

@@ -1,16 +1,15 @@
 //! The rows of managers, from their first beats on.
 
-ghost use Rattle.std.specs.Prelude.{◌≡◌, ◌<◌, [], ◌∷◌, IfOk, length};
+ghost use Rattle.std.specs.Prelude.{◌≡◌, ◌<◌, IfOk, length};
 ghost use Rattle.std.specs.List.{All};
 ghost use Rattle.tl_topology.specs.Regions.{areas_of};
-ghost use Rattle.tl_definitions.specs.Captures.{captures_of, manager_beats};
+ghost use Rattle.tl_definitions.specs.Captures.{captures_of};
 ghost use Rattle.tl_definitions.specs.Managers.{declared_links, manager_at};
 ghost use Rattle.tl_definitions.specs.Positions.{beats_of_all, clients_of};
-ghost use Rattle.tl_definitions.specs.Report.{of_manager};
 ghost use Rattle.tl_check.specs.Captured.{areas_at};
 ghost use Rattle.tl_check.specs.Found.{AreFound};
 ghost use Rattle.tl_check.specs.Apart.{rows_of_links};
-ghost use Rattle.tl_check.specs.Managers.{has_caches, cached_links, plain_links, IsPlain, AreMerged};
+ghost use Rattle.tl_check.specs.Managers.{has_caches, cached_links, plain_links, captures_at, numbered, IsPlain, AreMerged, ArePlainRows, AreOfManager};
 
 use crate::apart::add_link;
 use crate::{SpanState, check_window};
@@ -55,7 +54,7 @@ fn plain_links(alloc: Global, topo: &Topo, links: &[u16]) -> Result<Vec<u16>, Al
 
 /// The rows of links below the level of caches with the regions of their manager, one link after the other, each from its first beat
 /// on. AllocError where memory is refused.
-fn links_rows(
+pub(crate) fn links_rows(
     alloc: Global,
     topo: &Topo,
     present: &Present,
@@ -98,6 +97,44 @@ fn merged_rows(
     Ok(rows)
 }
 
+/// The links of a manager that have no caches, in rising order. AllocError where memory is refused.
+pub(crate) fn plain_links_of(
+    alloc: Global,
+    topo: &Topo,
+    manager: u16,
+) -> Result<Vec<u16>, AllocError>
+    ensures exact { IfOk result (λ links. links.items ≡ plain_links topo.now (clients_of manager (declared_links topo.now))) }
+    ensures plain { IfOk result (λ links. All (IsPlain topo.now) links.items) }
+    ensures within { IfOk result (λ links. All (λ link. link < length topo.now.links) links.items) }
+{
+    let links = clients_of(alloc, topo, manager)?;
+    let plain = plain_links(alloc, topo, &links)?;
+    Ok(plain)
+}
+
+/// The rows of a manager with its regions, of which these are those of its links without caches: those of its links with caches are judged
+/// and put after them.
+pub(crate) fn with_caches(
+    alloc: Global,
+    topo: &Topo,
+    present: &Present,
+    manager: u16,
+    regions: &RegionMap,
+    plain: Vec<Row>,
+) -> Result<Vec<Row>, AllocError>
+    requires manager { manager < length topo.now.managers }
+    requires plain { ArePlainRows topo.now manager (areas_of regions.now) present.now plain.items }
+    ensures { IfOk result (λ rows. AreOfManager topo.now manager (areas_of regions.now) present.now rows.items) }
+{
+    let _ = present.is_empty();
+    let links = clients_of(alloc, topo, manager)?;
+    let cached = cached_links(alloc, topo, &links)?;
+    let merged = merged_rows(alloc, topo, present, manager, regions, &cached)?;
+    let mut rows = plain;
+    rows.extend_from_slice(&merged)?;
+    Ok(rows)
+}
+
 /// The rows of a manager with its regions, from its first beat on. Each link without caches is judged by itself, and those with caches
 /// together.
 fn manager_rows(
@@ -108,15 +145,43 @@ fn manager_rows(
     regions: &RegionMap,
 ) -> Result<Vec<Row>, AllocError>
     requires { manager < length topo.now.managers }
-    ensures { IfOk result (λ rows. AreFound (of_manager (manager_at topo.now manager (areas_of regions.now)) (manager_beats topo.now present.now manager) ∷ []) rows.items) }
+    ensures { IfOk result (λ rows. AreOfManager topo.now manager (areas_of regions.now) present.now rows.items) }
 {
-    let _ = present.is_empty();
-    let links = clients_of(alloc, topo, manager)?;
-    let plain = plain_links(alloc, topo, &links)?;
-    let cached = cached_links(alloc, topo, &links)?;
-    let mut rows = links_rows(alloc, topo, present, manager, regions, &plain)?;
-    let merged = merged_rows(alloc, topo, present, manager, regions, &cached)?;
-    rows.extend_from_slice(&merged)?;
+    let links = plain_links_of(alloc, topo, manager)?;
+    let plain = links_rows(alloc, topo, present, manager, regions, &links)?;
+    with_caches(alloc, topo, present, manager, regions, plain)
+}
+
+/// The numbers of all managers. AllocError where memory is refused.
+pub(crate) fn manager_numbers(alloc: Global, topo: &Topo) -> Result<Vec<u16>, AllocError>
+    ensures exact { IfOk result (λ managers. managers.items ≡ numbered 0 topo.now.managers) }
+    ensures within { IfOk result (λ managers. All (λ manager. manager < length topo.now.managers) managers.items) }
+{
+    let mut managers = Vec::new(alloc);
+    for manager in 0..topo.manager_count() {
+        managers.push(manager as u16)?;
+    }
+    Ok(managers)
+}
+
+/// The rows of these managers with their regions, one manager after the other. AllocError where memory is refused.
+pub(crate) fn rows_of_managers(
+    alloc: Global,
+    topo: &Topo,
+    present: &Present,
+    regions: &[RegionMap],
+    managers: &[u16],
+) -> Result<Vec<Row>, AllocError>
+    requires { All (λ manager. manager < length topo.now.managers) managers.now }
+    ensures { IfOk result (λ rows. AreFound (captures_at topo.now (areas_at regions.now) present.now managers.now) rows.items) }
+{
+    let none = RegionMap::new(alloc);
+    let mut rows = Vec::new(alloc);
+    for manager in managers {
+        let own = regions.get(usize::from(*manager)).unwrap_or(&none);
+        let found = manager_rows(alloc, topo, present, *manager, own)?;
+        rows.extend_from_slice(&found)?;
+    }
     Ok(rows)
 }
 
@@ -129,12 +194,7 @@ pub fn managers_rows(
 ) -> Result<Vec<Row>, AllocError>
     ensures { IfOk result (λ rows. AreFound (captures_of topo.now (areas_at regions.now) present.now) rows.items) }
 {
-    let none = RegionMap::new(alloc);
-    let mut rows = Vec::new(alloc);
-    for manager in 0..topo.manager_count() {
-        let own = regions.get(manager).unwrap_or(&none);
-        let found = manager_rows(alloc, topo, present, manager as u16, own)?;
-        rows.extend_from_slice(&found)?;
-    }
+    let managers = manager_numbers(alloc, topo)?;
+    let rows = rows_of_managers(alloc, topo, present, regions, &managers)?;
     Ok(rows)
 }

@@ -8,9 +8,9 @@ ghost use Rattle.tl_check.specs.Notes.{IsPut, IsPutFront, AppendsFront};
 ghost use Rattle.tl_check.specs.Once.{adds, first_refusal, of_edit, HasReport, HasReportText, IsRefusal};
 ghost use Rattle.tl_check.specs.declared.once.OnceFault.TheVariants.{Memory, WriteFault as Unwritten};
 
+use crate::beside::{Alone, Judging};
 use crate::form::{Form, Plain};
 use crate::report::Report;
-use crate::standing::scratch;
 use std::alloc::{AllocError, Global};
 use std::sync::Arc;
 use thiserror::Error;
@@ -108,12 +108,12 @@ pub fn run_once<O: ByteOut>(
     ensures failed { IsErrOf result OnceFault.WriteFault → (O.failure_count out.new ≡ O.failure_count out.old + 1)
         × HasReportText topo.now fragments.now (AppendsFront (O.contents out.old) (O.contents out.new)) }
 {
-    run_once_as(alloc, topo, fragments, &Plain, out)
+    run_once_as(&Alone::new(alloc), topo, fragments, &Plain, out)
 }
 
-/// The same in a form: with notes, if the form has any.
-pub fn run_once_as<F: Form, O: ByteOut>(
-    alloc: Global,
+/// The same in a form, with notes if the form has any; and by one thread or several.
+pub fn run_once_as<J: Judging, F: Form, O: ByteOut>(
+    judging: &J,
     topo: &Topo,
     fragments: &[Arc<Fragment>],
     form: &F,
@@ -128,9 +128,10 @@ pub fn run_once_as<F: Form, O: ByteOut>(
     ensures failed { IsErrOf result OnceFault.WriteFault → (O.failure_count out.new ≡ O.failure_count out.old + 1)
         × HasReportText topo.now fragments.now (IsPutFront F.noted (O.contents out.old) (O.contents out.new)) }
 {
+    let alloc = judging.alloc();
     let log = all_added(alloc, topo, fragments)?;
     let inputs = log.inputs();
-    let rows = scratch(alloc, inputs)?;
+    let rows = judging.scratch(inputs)?;
     let report = Report::new(alloc, 1, fragments.len() as u64, rows)?;
     let text = form.report(alloc, inputs, &report)?;
     write_all(out, text.as_bytes())?;

@@ -11,10 +11,10 @@ use std::rt::Files;
 use std::sync::Arc;
 use std::thread::Threads;
 use tl_beats::Fragment;
-use tl_check::{run_once, run_once_as};
+use tl_check::{Judges, Plain, run_once_as};
 use tl_formats::Format;
 use tl_options::{Capture, How, View};
-use tl_script::{Outcome, audit_script, audit_script_as};
+use tl_script::{Outcome, audit_script_as};
 use tl_show::Shown;
 use tl_stream::Sieve;
 use tl_text::ByteOut;
@@ -81,7 +81,7 @@ fn ending_with(written: Result<Written, Fault>) -> Result<Ending, Fault> {
 }
 
 /// The rows of the report of fragments that are wanted.
-fn once_picked<R: Files + AllocGlobal, O: ByteOut>(
+fn once_picked<R: Files + Threads + Sync + AllocGlobal, O: ByteOut>(
     rt: &R,
     topo: &Topo,
     fragments: &[Arc<Fragment>],
@@ -91,14 +91,15 @@ fn once_picked<R: Files + AllocGlobal, O: ByteOut>(
 ) -> Result<Ending, Fault>
     requires { O.failure_count out.old < 2 ^ 63 }
 {
+    let judges = Judges::new(rt, how.workers);
     match order_of(rt, topo, how, view) {
-        Ok(order) => ending_with(write_once(rt.alloc(), topo, fragments, &order, out)),
+        Ok(order) => ending_with(write_once(&judges, topo, fragments, &order, out)),
         Err(trouble) => ending_without(trouble),
     }
 }
 
 /// The report of fragments.
-fn once_of<R: Files + AllocGlobal, O: ByteOut>(
+fn once_of<R: Files + Threads + Sync + AllocGlobal, O: ByteOut>(
     rt: &R,
     topo: &Topo,
     fragments: &[Arc<Fragment>],
@@ -111,15 +112,16 @@ fn once_of<R: Files + AllocGlobal, O: ByteOut>(
     if how.summary || !view.is_whole() {
         return once_picked(rt, topo, fragments, how, view, out);
     }
+    let judges = Judges::new(rt, how.workers);
     let rows = match view.format {
-        Format::Shown => run_once_as(rt.alloc(), topo, fragments, &Shown, out)?,
-        _ => run_once(rt.alloc(), topo, fragments, out)?,
+        Format::Shown => run_once_as(&judges, topo, fragments, &Shown, out)?,
+        _ => run_once_as(&judges, topo, fragments, &Plain, out)?,
     };
     Ok(Ending::Came(report_of(rows)))
 }
 
 /// The report of fragments, which is denied or not.
-fn once_denied<R: Files + AllocGlobal, O: ByteOut>(
+fn once_denied<R: Files + Threads + Sync + AllocGlobal, O: ByteOut>(
     rt: &R,
     topo: &Topo,
     fragments: &[Arc<Fragment>],
@@ -173,8 +175,8 @@ fn once_on<R: Files + Threads + Sync + AllocGlobal + Clone + Drop, O: ByteOut>(
 
 /// Writes the report of the fragments of a capture's files on a file's topology. A word stands for its file, `-` for standard input, a
 /// folder for its files, and `@LIST` for the files that the lines of LIST name. Where managers are named, the fragments of other known
-/// links are passed over. With workers, so many threads read files beside this one. The fault of the first file that has one, that of
-/// the first fragment that is refused after those before it, want of memory, or a write that fails.
+/// links are passed over. With workers, so many threads read files and judge beside this one. The fault of the first file that has one,
+/// that of the first fragment that is refused after those before it, want of memory, or a write that fails.
 pub fn once_of_files<R: Files + Threads + Sync + AllocGlobal + Clone + Drop, O: ByteOut>(
     rt: &R,
     topology: &str,
@@ -212,7 +214,7 @@ struct Audit<'a> {
 }
 
 /// The rows of an audit that are wanted.
-fn audit_picked<R: Files + AllocGlobal, O: ByteOut>(
+fn audit_picked<R: Files + Threads + Sync + AllocGlobal, O: ByteOut>(
     rt: &R,
     audit: Audit<'_>,
     how: How,
@@ -222,14 +224,15 @@ fn audit_picked<R: Files + AllocGlobal, O: ByteOut>(
     requires { O.failure_count out.old < 2 ^ 63 }
 {
     let Audit { topo, script, edit } = audit;
+    let judges = Judges::new(rt, how.workers);
     match order_of(rt, topo, how, view) {
-        Ok(order) => ending_with(write_audit(rt.alloc(), topo, script, edit, &order, out)),
+        Ok(order) => ending_with(write_audit(&judges, topo, script, edit, &order, out)),
         Err(trouble) => ending_without(trouble),
     }
 }
 
 /// What checking everything anew finds after so many accepted edits of a script.
-fn audit_of<R: Files + AllocGlobal, O: ByteOut>(
+fn audit_of<R: Files + Threads + Sync + AllocGlobal, O: ByteOut>(
     rt: &R,
     audit: Audit<'_>,
     how: How,
@@ -242,15 +245,16 @@ fn audit_of<R: Files + AllocGlobal, O: ByteOut>(
         return audit_picked(rt, audit, how, view, out);
     }
     let Audit { topo, script, edit } = audit;
+    let judges = Judges::new(rt, how.workers);
     let rows = match view.format {
-        Format::Shown => audit_script_as(rt.alloc(), topo, script, edit, &Shown, out)?,
-        _ => audit_script(rt.alloc(), topo, script, edit, out)?,
+        Format::Shown => audit_script_as(&judges, topo, script, edit, &Shown, out)?,
+        _ => audit_script_as(&judges, topo, script, edit, &Plain, out)?,
     };
     Ok(Ending::Came(report_of(rows)))
 }
 
 /// What an audit finds, which is denied or not.
-fn audit_denied<R: Files + AllocGlobal, O: ByteOut>(
+fn audit_denied<R: Files + Threads + Sync + AllocGlobal, O: ByteOut>(
     rt: &R,
     audit: Audit<'_>,
     how: How,
@@ -265,7 +269,7 @@ fn audit_denied<R: Files + AllocGlobal, O: ByteOut>(
 }
 
 /// What checking everything anew finds after so many accepted edits of a file's script, on a topology.
-fn audit_on<R: Files + AllocGlobal, O: ByteOut>(
+fn audit_on<R: Files + Threads + Sync + AllocGlobal, O: ByteOut>(
     rt: &R,
     topo: &Topo,
     past: Past<'_>,
@@ -284,9 +288,9 @@ fn audit_on<R: Files + AllocGlobal, O: ByteOut>(
     audit_denied(rt, audit, how, view, out)
 }
 
-/// Writes what checking everything anew finds after so many accepted edits of a file's script, on a file's topology. The fault of the
-/// topology or of the script, want of memory, or a write that fails.
-pub fn audit_of_files<R: Files + AllocGlobal, O: ByteOut>(
+/// Writes what checking everything anew finds after so many accepted edits of a file's script, on a file's topology. With workers, so
+/// many threads judge beside this one. The fault of the topology or of the script, want of memory, or a write that fails.
+pub fn audit_of_files<R: Files + Threads + Sync + AllocGlobal, O: ByteOut>(
     rt: &R,
     past: Past<'_>,
     how: How,

@@ -220,7 +220,7 @@ fn once<'a>(alloc: Global) -> Draft<'a> {
         .arg(fragments(alloc))
         .arg(workers(
             alloc,
-            "How many threads read files beside the first, 0 to 16; 0 without this option",
+            "How many threads read files and judge beside the first, 0 to 16; 0 without this option",
         ))
         .arg(managers(alloc));
     with_view(alloc, with_how(alloc, once))
@@ -265,7 +265,11 @@ fn audit<'a>(alloc: Global) -> Draft<'a> {
     let audit = described(alloc, "audit", about, AUDIT_EXAMPLE)
         .arg(topology(alloc))
         .arg(script(alloc))
-        .arg(edit(alloc));
+        .arg(edit(alloc))
+        .arg(workers(
+            alloc,
+            "How many threads judge beside the first, 0 to 16; 0 without this option",
+        ));
     with_view(alloc, with_how(alloc, audit))
 }
 
@@ -415,7 +419,7 @@ fn audit_asked<'a>(
         topology: found.get_str("TOPO").unwrap_or(""),
         script: found.get_str("SCRIPT").unwrap_or(""),
         edit: found.get_one("EDIT").unwrap_or(0),
-        how: how_asked(found, 0),
+        how: how_asked(found, workers_of(found)),
         view,
     })
 }

@@ -18,7 +18,7 @@ use crate::stop::Stop;
 use crate::{Command, ScriptFault, Spot, Visitor, visit_all};
 use std::alloc::{AllocError, Global};
 use thiserror::Error;
-use tl_check::{Form, Plain, scratch};
+use tl_check::{Alone, Form, Judging, Plain};
 use tl_edits::{Edit, EditFault, Log, PastFault};
 use tl_text::{ByteOut, WriteFault, write_all};
 use tl_topology::Topo;
@@ -175,12 +175,12 @@ pub fn audit_script<O: ByteOut>(
     ensures failed { IsErrOf result AuditFault.WriteFault → (O.failure_count out.new ≡ O.failure_count out.old + 1)
         × HasAuditText topo.now script.now edit (AppendsFront (O.contents out.old) (O.contents out.new)) }
 {
-    audit_script_as(alloc, topo, script, edit, &Plain, out)
+    audit_script_as(&Alone::new(alloc), topo, script, edit, &Plain, out)
 }
 
-/// The same in a form: with notes, if the form has any.
-pub fn audit_script_as<F: Form, O: ByteOut>(
-    alloc: Global,
+/// The same in a form, with notes if the form has any; and by one thread or several.
+pub fn audit_script_as<J: Judging, F: Form, O: ByteOut>(
+    judging: &J,
     topo: &Topo,
     script: &[u8],
     edit: u64,
@@ -196,9 +196,10 @@ pub fn audit_script_as<F: Form, O: ByteOut>(
     ensures failed { IsErrOf result AuditFault.WriteFault → (O.failure_count out.new ≡ O.failure_count out.old + 1)
         × HasAuditText topo.now script.now edit (IsPutFront F.noted (O.contents out.old) (O.contents out.new)) }
 {
+    let alloc = judging.alloc();
     let log = log_of(alloc, topo, script)?;
     let inputs = log.inputs_at(alloc, edit)?;
-    let rows = scratch(alloc, &inputs)?;
+    let rows = judging.scratch(&inputs)?;
     let text = form.audit(alloc, &inputs, edit, &rows)?;
     write_all(out, text.as_bytes())?;
     Ok(rows.len() as u64)

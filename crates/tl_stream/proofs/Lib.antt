@@ -7,3 +7,4 @@ pub mod StreamLemmas
 pub mod LawLemmas
 pub mod AcceptLemmas
 pub mod EndLemmas
+pub mod ShareLemmas

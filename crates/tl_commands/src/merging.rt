@@ -89,6 +89,21 @@ fn merge_trouble(
     Ok(Trouble::Objection(text))
 }
 
+/// Why files are no reports of one kind: the first in JSON, and the first that is text.
+fn mixed_trouble(
+    alloc: Global,
+    paths: &[String],
+    json: usize,
+    plain: usize,
+) -> Result<Trouble, AllocError> {
+    let json = path_at(paths, json);
+    let plain = path_at(paths, plain);
+    let text = format!(in alloc;
+        "tlcheck: {json} is JSON, or empty, and {plain} is text: the reports of a merge are of one kind\n"
+    )?;
+    Ok(Trouble::Objection(text))
+}
+
 /// Why the texts of files can't be merged.
 fn texts_trouble(
     alloc: Global,
@@ -98,6 +113,7 @@ fn texts_trouble(
 ) -> Result<Trouble, AllocError> {
     match fault {
         TextsFault::Merge(fault) => merge_trouble(alloc, topo, paths, fault),
+        TextsFault::Mixed { json, plain } => mixed_trouble(alloc, paths, json, plain),
         TextsFault::Report {
             fault: ReportFault::Memory,
             ..
@@ -110,7 +126,7 @@ fn texts_trouble(
     }
 }
 
-/// The merge of the reports of files, as text.
+/// The merge of the reports of files, as it is written.
 fn merged_at<R: Files + AllocGlobal>(
     rt: &R,
     topo: &Topo,
@@ -127,7 +143,7 @@ fn merged_at<R: Files + AllocGlobal>(
 fn write_merged<O: ByteOut>(merged: &MergedText, out: &mut O) -> Result<Ending, Fault>
     requires { O.failure_count out.old < 2 ^ 63 }
 {
-    write_all(out, merged.text.as_bytes())?;
+    write_all(out, &merged.text)?;
     Ok(Ending::Came(report_of(merged.rows)))
 }
 

@@ -2,3 +2,4 @@ pub mod Lines
 pub mod Kept
 pub mod PartLaws
 pub mod MergeLaws
+pub mod JsonLines

@@ -3,4 +3,5 @@ pub mod Waivers
 pub mod Printed
 pub mod Reasons
 pub mod Merging
+pub mod JsonReports
 pub mod Parts

@@ -9,13 +9,13 @@ use Rattle.tl_check.specs.Once.{text_once}
 use Rattle.tl_formats.specs.declared.report_reading.ReportText.{ReportText}
 use Rattle.tl_formats.specs.declared.report_row.ReportRow.{ReportRow}
 
--- What the line of a row tells of it.
-abbrev pub line_of : Row → ReportRow
-line_of row = record { link = row.link; fragment = row.fragment; line = row.line; rule = row.rule; monitor = row.monitor }
-
 -- A row with this line, of a beat of which no more is known.
 abbrev pub as_row : ReportRow → Row
 as_row row = record { link = row.link; cycle = 0; chan = chan.A; rule = row.rule; monitor = row.monitor; fragment = row.fragment; line = row.line }
+
+-- The number of its link.
+abbrev pub link_in : ReportRow → ℕ
+link_in row = row.link
 
 abbrev pub rows_in : ReportText → List ReportRow
 rows_in report = report.rows.items
@@ -29,16 +29,16 @@ text_of topo report = text_once topo report.edits (map as_row report.rows.items)
 
 -- All rows are of links of the topology.
 abbrev pub AreOnLinks : Topology → List ReportText → Type 0
-AreOnLinks topo reports = All (λ (row : ReportRow). row.link < length topo.links) (flat_map rows_in reports)
+AreOnLinks topo reports = All (λ row. link_in row < length topo.links) (flat_map rows_in reports)
 
 -- The same rows in the order of their links, those of one link as they stood. There is one such list.
-pub record IsByLink (rows sorted : List ReportRow) : Type 0 where
-  pub rises : IsNonDecreasingBy (λ row. row.link) sorted
-  pub same : (link : ℕ) → filter (λ row. row.link == link) sorted ≡ filter (λ row. row.link == link) rows
+pub record IsByLink {X : Type 0} (of : X → ℕ) (rows sorted : List X) : Type 0 where
+  pub rises : IsNonDecreasingBy of sorted
+  pub same : (link : ℕ) → filter (λ row. of row == link) sorted ≡ filter (λ row. of row == link) rows
 
 -- The rows of reports by link, and as many edits as they have together.
 pub record IsMerge (reports : List ReportText) (merged : ReportText) : Type 0 where
-  pub rows : IsByLink (flat_map rows_in reports) merged.rows.items
+  pub rows : IsByLink link_in (flat_map rows_in reports) merged.rows.items
   pub edits : merged.edits ≡ sum_by edits_in reports
 
 -- The texts are those of the reports, one of each.

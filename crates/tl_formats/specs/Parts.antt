@@ -14,8 +14,7 @@ use Rattle.tl_definitions.specs.Report.{IsReport, row_order}
 use Rattle.tl_capture.specs.Present.{IsPresent}
 use Rattle.tl_check.specs.Captured.{areas_at, captures_with}
 use Rattle.tl_stream.specs.Laws.{IsTold}
-use Rattle.tl_formats.specs.Merging.{IsByLink, line_of}
-use Rattle.tl_formats.specs.declared.report_row.ReportRow.{ReportRow}
+use Rattle.tl_formats.specs.Merging.{IsByLink}
 
 -- The managers of a share, by number.
 abbrev pub Share : Type 0
@@ -75,11 +74,13 @@ AreParts topo fragments regions watches (share ∷ shares) [] = ⊥
 AreParts topo fragments regions watches (share ∷ shares) (part ∷ parts) = IsPart topo fragments regions watches share part × AreParts topo fragments regions watches shares parts
 
 -- The lines of their rows, one report after the other.
-abbrev pub lines_in : List (List Row) → List ReportRow
-lines_in parts = flat_map (map line_of) parts
+abbrev pub lines_in : {X : Type 0} → (Row → X) → List (List Row) → List X
+lines_in line parts = flat_map (map line) parts
 
--- The report of all is the merge of theirs, whichever shares the managers are cut into: the same rows by link, line by line.
-abbrev pub PartsMakeTheWhole : Type 0
-PartsMakeTheWhole = (topo : Topology) (fragments : List Recorded) (regions : List (List (ℕ × Area))) (watches : List (ℕ × Watch)) (shares : List Share) (whole : List Row)
-    (parts : List (List Row)) (merged : List ReportRow) → IsPartition topo shares → IsReport (captures_with topo fragments regions watches) whole
-    → AreParts topo fragments regions watches shares parts → IsByLink (lines_in parts) merged → merged ≡ map line_of whole
+-- The report of all is the merge of theirs, whichever shares the managers are cut into, and whatever the line of a row is, if it tells
+-- the row's link: the same lines by link, line by line.
+abbrev pub PartsMakeTheWhole : Type 0 → Type 0
+PartsMakeTheWhole X = (line : Row → X) (of : X → ℕ) (topo : Topology) (fragments : List Recorded) (regions : List (List (ℕ × Area))) (watches : List (ℕ × Watch))
+    (shares : List Share) (whole : List Row) (parts : List (List Row)) (merged : List X) → ((row : Row) → of (line row) ≡ row.link)
+    → IsPartition topo shares → IsReport (captures_with topo fragments regions watches) whole → AreParts topo fragments regions watches shares parts
+    → IsByLink of (lines_in line parts) merged → merged ≡ map line whole

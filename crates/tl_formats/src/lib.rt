@@ -2,10 +2,15 @@
 #![tactic(auto)]
 
 mod beat;
+mod by_link;
 mod format;
 mod html;
 mod json;
+mod json_merging;
+mod json_report;
+mod json_row;
 mod junit;
+mod merged_text;
 mod merging;
 mod output;
 mod page;
@@ -13,6 +18,7 @@ mod page_script;
 pub mod parts;
 mod pick;
 mod report_fault;
+mod report_line;
 mod report_reading;
 mod report_row;
 mod rule_names;
@@ -23,7 +29,8 @@ pub use format::Format;
 pub use html::html_text;
 pub use json::{json_text, place_of};
 pub use junit::junit_text;
-pub use merging::{MergedText, merge_texts};
+pub use merged_text::MergedText;
+pub use merging::merge_texts;
 pub use output::{Printed, Title, print_rows};
 pub use pick::{Cycles, Pick, Waiver};
 pub use report_fault::{MergeFault, ReportFault, TextsFault};

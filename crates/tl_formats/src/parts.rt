@@ -13,7 +13,7 @@ pub fn streams_are_apart()
     ensures { StreamsAreApart }
 {}
 
-/// The report of all managers is the merge of the reports of shares of which each manager is in one.
-pub fn parts_make_the_whole()
-    ensures { PartsMakeTheWhole }
+/// The report of all managers is the merge of the reports of shares of which each manager is in one, whatever the line of a row is.
+pub fn parts_make_the_whole<T>()
+    ensures { PartsMakeTheWhole T }
 {}

@@ -17,6 +17,9 @@ pub enum ReportFault {
     /// A line is not spelled as a row.
     #[error("line {0} is not LINK FRAGMENT LINE RULE, with the monitor after X1")]
     BadRow(u64),
+    /// A line of JSON is not the object of a row.
+    #[error("line {0} is no object with cycle, link, fragment, line and rule, and with the monitor of X1 alone")]
+    BadObject(u64),
     /// A row is of a link that the topology lacks.
     #[error("line {0} has a row of a link that the topology lacks")]
     NoLink(u64),
@@ -31,6 +34,9 @@ pub enum ReportFault {
         /// How many there are.
         found: u64,
     },
+    /// A report in JSON does not end with a newline.
+    #[error("line {0} has no newline: part of the report is missing")]
+    CutShort(u64),
     /// A growth was refused.
     #[error("out of memory")]
     Memory,
@@ -99,6 +105,14 @@ pub enum TextsFault {
         place: usize,
         /// Why.
         fault: ReportFault,
+    },
+    /// One text is JSON, or empty, and another is not.
+    #[error("text {json} is JSON, or empty, and text {plain} is not")]
+    Mixed {
+        /// The place of the first that is, from 0.
+        json: usize,
+        /// The place of the first that is not.
+        plain: usize,
     },
     /// The reports can't be merged.
     #[error("{0}")]

@@ -2,14 +2,16 @@
 
 ghost use Rattle.std.specs.Prelude.{◌≡◌, ◌<◌, IfOk, IfSome, length, string_bytes};
 ghost use Rattle.std.specs.List.{All};
+ghost use Rattle.tl_formats.specs.JsonReports.{link_called};
 ghost use Rattle.tl_formats.specs.Merging.{text_of};
 
 use crate::report_fault::ReportFault;
+use crate::report_line::{HasRows, push_after};
 use crate::report_row::{ReportRow, as_rows};
 use crate::rule_names::rule_named;
 use std::alloc::{AllocError, Global};
 use tl_check::{Report, report_text};
-use tl_tables::{Rule, rule_number};
+use tl_tables::Rule;
 use tl_text::{decimal, line, word};
 use tl_topology::{Name, Topo};
 
@@ -23,6 +25,16 @@ pub struct ReportText {
     pub edits: u64,
     /// Its rows, in their order.
     pub rows: Vec<ReportRow>,
+}
+
+impl HasRows for ReportText {
+    type Row = ReportRow;
+
+    ghost lines = { λ report. report.rows.items };
+
+    fn rows(&self) -> &[ReportRow] {
+        &self.rows
+    }
 }
 
 /// The words of a row's line; the last has its rule, and the monitor of an X1.
@@ -110,8 +122,9 @@ fn row_with(link: u16, columns: Columns<'_>) -> Option<ReportRow>
 }
 
 /// The number of the link that a word names.
-fn link_of(topo: &Topo, word: &[u8]) -> Option<u16>
-    ensures { IfSome result (λ link. link < length topo.now.links) }
+pub(crate) fn link_called(topo: &Topo, word: &[u8]) -> Option<u16>
+    ensures exact { result ≡ link_called topo.now word.now }
+    ensures within { IfSome result (λ link. link < length topo.now.links) }
 {
     let name = Name::new(word)?;
     topo.link_of(&name)
@@ -124,48 +137,13 @@ fn row_of(topo: &Topo, line: &[u8], number: u64) -> Result<ReportRow, ReportFaul
     let Some(columns) = columns_of(line) else {
         return Err(ReportFault::BadRow(number));
     };
-    let Some(link) = link_of(topo, columns.link) else {
+    let Some(link) = link_called(topo, columns.link) else {
         return Err(ReportFault::NoLink(number));
     };
     match row_with(link, columns) {
         Some(row) => Ok(row),
         None => Err(ReportFault::BadRow(number)),
     }
-}
-
-/// Whether a row may stand after another. Their fragments may have any order on a link, which the text of a report doesn't tell.
-fn is_after(row: &ReportRow, before: &ReportRow) -> bool {
-    if row.link != before.link {
-        return row.link > before.link;
-    }
-    if row.fragment != before.fragment {
-        return true;
-    }
-    if row.line != before.line {
-        return row.line > before.line;
-    }
-    if row.rule != before.rule {
-        return rule_number(row.rule) > rule_number(before.rule);
-    }
-    row.monitor > before.monitor
-}
-
-/// Puts the row of a line with this number after others.
-fn push_row(
-    topo: &Topo,
-    line: &[u8],
-    number: u64,
-    rows: &mut Vec<ReportRow>,
-) -> Result<(), ReportFault>
-    requires { All (λ row. row.link < length topo.now.links) rows.old.items }
-    ensures { All (λ row. row.link < length topo.now.links) rows.new.items }
-{
-    let row = row_of(topo, line, number)?;
-    if rows.last().is_some_and(|before| !is_after(&row, before)) {
-        return Err(ReportFault::OutOfOrder(number));
-    }
-    rows.push(row)?;
-    Ok(())
 }
 
 /// The rows of the lines of a text, of which the first has this number.
@@ -181,7 +159,8 @@ fn rows_of(
     let mut rest = text;
     let mut number = first;
     while let Some((next, after)) = line(rest) {
-        push_row(topo, next, number, &mut rows)?;
+        let row = row_of(topo, next, number)?;
+        push_after(&mut rows, row, number)?;
         rest = after;
         number = number.saturating_add(1);
     }

@@ -4,9 +4,10 @@ ghost use Rattle.std.specs.Prelude.{◌≡◌, ◌<◌, ℕ, IfOk, map};
 ghost use Rattle.std.specs.List.{All};
 ghost use Rattle.tl_formats.specs.Merging.{as_row};
 
+use crate::report_line::ReportLine;
 use std::alloc::{AllocError, Global};
 use tl_beats::Row;
-use tl_tables::{Chan, Rule};
+use tl_tables::{Chan, Rule, rule_number};
 
 /// A row as its line tells it, which says nothing of its beat's cycle and channel.
 #[derive(Clone, Copy, Debug, PartialEq, Eq)]
@@ -37,6 +38,31 @@ impl ReportRow {
             fragment: self.fragment,
             line: self.line,
         }
+    }
+}
+
+impl ReportLine for ReportRow {
+    ghost row_link = { λ row. row.link };
+
+    fn link(&self) -> u16 {
+        self.link
+    }
+
+    /// The fragments of a link may have any order, which the text of a report doesn't tell.
+    fn is_after(&self, before: &ReportRow) -> bool {
+        if self.link != before.link {
+            return self.link > before.link;
+        }
+        if self.fragment != before.fragment {
+            return true;
+        }
+        if self.line != before.line {
+            return self.line > before.line;
+        }
+        if self.rule != before.rule {
+            return rule_number(self.rule) > rule_number(before.rule);
+        }
+        self.monitor > before.monitor
     }
 }
 

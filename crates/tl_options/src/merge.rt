@@ -12,8 +12,8 @@ fn reports<'a>(alloc: Global) -> Arg<'a> {
     word(
         alloc,
         "REPORT",
-        "Path of a report that once --manager wrote; a folder stands for its files in order of name, @LIST for the paths in the file \
-LIST, - for standard input",
+        "Path of a report that once --manager wrote, all of them as text or all as JSON; a folder stands for its files in order of name, \
+@LIST for the paths in the file LIST, - for standard input",
     )
     .action(ArgAction::Append)
     .num_args(1..)

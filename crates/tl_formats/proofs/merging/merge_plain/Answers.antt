@@ -1,6 +1,6 @@
 use Rattle.std.proofs.Common.{subst}
 use Rattle.tl_formats.specs.Merging.{IsMerge}
-use Rattle.tl_formats.proofs.merging.merge_texts.Goals as goal
+use Rattle.tl_formats.proofs.merging.merge_plain.Goals as goal
 
 pub returns : goal.returns
 returns c = record {

@@ -162,7 +162,7 @@ IsCutAs noted topo script boxes old new = IsCutBy (IsFrontOf noted old new) topo
 abbrev pub IsRunCut : {T : Type 0} → Bool → RunData → List ℕ → (T → Option (List ℕ)) → T → T → Type 0
 IsRunCut noted run script contents old new = IsCutAs noted run.topo (commands_of script) run.boxes (contents old) (contents new)
 
--- It is a front of what any run writes, with notes or without.
+-- A front of what any run writes was written, with notes or without.
 abbrev pub IsAnyCut : {T : Type 0} → (T → Option (List ℕ)) → T → T → Type 0
 IsAnyCut contents old new = (noted : Bool) (topo : Topology) (script : List ℕ) (boxes : List Watch)
     → IsCutAs noted topo (commands_of script) boxes (contents old) (contents new)

@@ -1,5 +1,5 @@
 -- The text of a summary.
-use Rattle.std.specs.Prelude.{ℕ, ◌≡◌, ◌-◌, ◌==◌, Bool, List, [], ◌∷◌, codes, Option, Some, None, if◌then◌else◌, length, take}
+use Rattle.std.specs.Prelude.{ℕ, ◌≡◌, ◌-◌, ◌==◌, Bool, List, [], ◌∷◌, codes, Option, Some, None, Result, IfOk, String, string_bytes, if◌then◌else◌, length, take}
 use Rattle.std.specs.Fmt.{decimal}
 use Rattle.std.specs.List.{flat_map, list_all}
 use Rattle.tl_tables.specs.Rules.{rule_text_of}
@@ -88,6 +88,10 @@ unreported_line = joined (codes "  no report was published" ∷ newline ∷ [])
 abbrev pub IsReported : Topology → List Recorded → ReportData → List ℕ → List ℕ → Type 0
 IsReported topo fragments report last text = (body : List ℕ) × IsBody topo fragments report.rows body × (text ≡ joined (heading ∷ report_line_of report ∷ body ∷ last ∷ []))
 
+-- The same of a report of what the first of these edits leave.
+abbrev pub IsReportedOf : Topology → List AnEdit → ReportData → List ℕ → List ℕ → Type 0
+IsReportedOf topo edits report last text = IsReported topo (inputs_after topo (take report.edit edits)).fragments report last text
+
 -- The topology has the links of the rows of the report, if there is one.
 abbrev pub IsLinkedReport : Topology → Option ReportData → Type 0
 IsLinkedReport topo None = Unit {0}
@@ -97,3 +101,7 @@ IsLinkedReport topo (Some report) = AreLinked topo report.rows
 abbrev pub IsRunSummary : Topology → List AnEdit → ℕ → Option ReportData → List ℕ → Type 0
 IsRunSummary topo edits asked None text = text ≡ joined (heading ∷ unreported_line ∷ edits_line_of (length edits) asked ∷ [])
 IsRunSummary topo edits asked (Some report) text = IsReported topo (inputs_after topo (take report.edit edits)).fragments report (edits_line_of (length edits) asked) text
+
+-- Where the topology has the links of its rows, this text is the summary of such a run.
+abbrev pub SumsUpRun : {Z E : Type 0} → Topology → List AnEdit → ℕ → Option ReportData → Result (String Z) E → Type 0
+SumsUpRun topo edits asked report made = IsLinkedReport topo report → IfOk made (λ text. IsRunSummary topo edits asked report (string_bytes text))

@@ -1,11 +1,10 @@
 //! The summary at the end of a run: the beats of each link with what they leave open, and the rows of each rule.
 
-ghost use Rattle.std.specs.Prelude.{◌≡◌, ◌++◌, IfOk, OnOk, option_map, string_bytes, take};
+ghost use Rattle.std.specs.Prelude.{◌≡◌, ◌++◌, IfOk, OnOk, option_map, string_bytes};
 ghost use Rattle.std.specs.List.{flat_map};
-ghost use Rattle.tl_edits.specs.Log.{inputs_after};
 ghost use Rattle.tl_script.specs.Audits.{edits_of};
 ghost use Rattle.tl_advice.specs.Tallies.{AreLinked};
-ghost use Rattle.tl_advice.specs.Summaries.{open_part_of, asked_of, given_of, link_line_of, are_empty, links_text_of, place_of, tally_line_of, rules_text_of, IsBody, IsSummary, edits_line_of, report_line_of, IsReported, IsLinkedReport, IsRunSummary};
+ghost use Rattle.tl_advice.specs.Summaries.{open_part_of, asked_of, given_of, link_line_of, are_empty, links_text_of, place_of, tally_line_of, rules_text_of, IsBody, IsSummary, edits_line_of, report_line_of, IsReported, IsReportedOf, SumsUpRun};
 
 use crate::links::{LinkCount, link_counts};
 use crate::tallies::{Tally, all_tallies};
@@ -199,7 +198,7 @@ fn reported(
 /// The summary of a report of what the first edits of a log leave, and then the last line.
 fn reported_of(alloc: Global, log: &Log, report: &Report, last: &str) -> Result<String, AuditFault>
     ensures { AreLinked log.now.topo report.now.rows → IfOk result (λ text.
-        IsReported log.now.topo (inputs_after log.now.topo (take report.now.edit log.now.edits)).fragments report.now last.now (string_bytes text)) }
+        IsReportedOf log.now.topo log.now.edits report.now last.now (string_bytes text)) }
 {
     let inputs = log.inputs_at(alloc, report.edit())?;
     Ok(reported(alloc, &inputs, report, last)?)
@@ -212,8 +211,7 @@ fn run_told(
     asked: u64,
     report: Option<&Report>,
 ) -> Result<String, AuditFault>
-    ensures { IsLinkedReport log.now.topo (option_map (λ r. r.now) report.entry) → IfOk result (λ text.
-        IsRunSummary log.now.topo log.now.edits asked (option_map (λ r. r.now) report.entry) (string_bytes text)) }
+    ensures { SumsUpRun log.now.topo log.now.edits asked (option_map (λ r. r.now) report.entry) result }
 {
     let edits = edits_line(alloc, log.len(), asked)?;
     match report {
@@ -232,8 +230,7 @@ pub fn run_summary(
     asked: u64,
     report: Option<&Report>,
 ) -> Result<String, AuditFault>
-    ensures { IsLinkedReport topo.now (option_map (λ r. r.now) report.entry) → IfOk result (λ text.
-        IsRunSummary topo.now (edits_of topo.now script.now) asked (option_map (λ r. r.now) report.entry) (string_bytes text)) }
+    ensures { SumsUpRun topo.now (edits_of topo.now script.now) asked (option_map (λ r. r.now) report.entry) result }
 {
     let log = log_of(alloc, topo, script)?;
     run_told(alloc, &log, asked, report)

@@ -1,9 +1,10 @@
 -- What the run of a script writes whose commands are carried out as they come.
-use Rattle.std.specs.Prelude.{ℕ, Bool, true, false, ◌≡◌, List, Option, Some, None, Result, Ok, Err}
-use Rattle.std.specs.Io.KnownBytes.{Consumes}
+use Rattle.std.specs.Prelude.{ℕ, Bool, true, false, ◌≡◌, ◌<◌, List, Option, Some, None, IfSome, Result, Ok, Err}
+use Rattle.std.specs.Io.KnownBytes.{Consumes, Keeps}
 use Rattle.tl_topology.specs.Topology.{Topology}
 use Rattle.tl_beats.specs.declared.watch.Watch.{Watch}
 use Rattle.tl_check.specs.Notes.{IsPut}
+use Rattle.tl_stream.specs.Feeds.{all_left}
 use Rattle.tl_script.specs.Reading.{command_in}
 use Rattle.tl_script.specs.Scripts.{commands_of}
 use Rattle.tl_script.specs.declared.command.Command.{Command}
@@ -11,7 +12,7 @@ use Rattle.tl_script.specs.declared.fault.ScriptFault.{ScriptFault}
 use Rattle.tl_script.specs.declared.fault.ScriptFault.TheVariants as fault
 use Rattle.tl_script.specs.declared.stop.Outcome.{Outcome}
 use Rattle.tl_script.specs.Asked.{watches_of}
-use Rattle.tl_run.specs.Output.{Progress, start, IsOutput}
+use Rattle.tl_run.specs.Output.{Progress, RunData, start, IsOutput}
 use Rattle.tl_run.specs.Stops.{IsWrittenAs, IsCutAs, HasCome}
 
 -- the watches of the monitors that a script attaches, in their order
@@ -39,6 +40,22 @@ pub record KeepsUp (noted : Bool) (topo : Topology) (left old new : Option (List
   pub output : IsOutput topo start (commands_of read).commands lines next
   pub put : IsPut noted old new lines
 
+-- Where the input is known, a front of what its run writes was written.
+abbrev pub CutsOff : {T : Type 0} → Bool → RunData → Option (List ℕ) → (T → Option (List ℕ)) → T → T → Type 0
+CutsOff noted run input contents old new = IfSome input (IsCutOff noted run.topo (contents old) (contents new))
+
+-- Where the input is known, the lines of all its commands that were read whole were written, and nothing else.
+abbrev pub KeepsAll : {I O : Type 0} → Bool → RunData → (I → Option (List ℕ)) → I → I → (O → Option (List ℕ)) → O → O → Type 0
+KeepsAll noted run remaining input left contents old new = IfSome (remaining input) (KeepsUp noted run.topo (remaining left) (contents old) (contents new))
+
+-- More reads failed.
+abbrev pub FailsMore : {T : Type 0} → (T → ℕ) → T → T → Type 0
+FailsMore failures old new = failures old < failures new
+
+-- All that is left of an input, of which some was read, stays.
+abbrev pub KeepsLeft : {T : Type 0} → (T → Option (List ℕ)) → T → T → List ℕ → List ℕ → Type 0
+KeepsLeft remaining old new ahead read = Keeps (all_left ahead (remaining old)) (all_left read (remaining new))
+
 -- ---- the first command of what was read
 
 -- It doesn't go on in what comes.
@@ -51,3 +68,7 @@ is_whole (Err fault.Truncated) = false
 -- The first command of all that is left is the first of what was read of it.
 abbrev pub IsFirstOf : List ℕ → List ℕ → Type 0
 IsFirstOf read left = command_in left ≡ command_in read
+
+-- The first command goes on in what comes.
+abbrev pub IsPartial : List ℕ → Type 0
+IsPartial read = is_whole (command_in read) ≡ false

@@ -94,6 +94,14 @@ LacksBox boxes asking = (left : List Watch) → TakesBox boxes asking left → �
 abbrev pub Advances : RunData → Command → RunData → (List ℕ → Type 0) → Type 0
 Advances old c new IsTold = (line : List ℕ) × IsStep old.topo old.now (asked c) line new.now × TakesBox old.boxes (asked c) new.boxes × IsTold line
 
+-- One command advances the run that is viewed so.
+abbrev pub Steps : {R : Type 0} → (R → RunData) → R → R → Command → (List ℕ → Type 0) → Type 0
+Steps so_far old new c IsTold = Advances (so_far old) c (so_far new) IsTold
+
+-- The same, after what the command attaches was made ready.
+abbrev pub StepsSupplied : {R : Type 0} → (R → RunData) → R → R → Command → (List ℕ → Type 0) → Type 0
+StepsSupplied so_far old new c IsTold = Advances (supplied true (asked c) (so_far old)) c (so_far new) IsTold
+
 -- Commands, one after the other.
 abbrev pub IsOutput : Topology → Progress → List Command → List ℕ → Progress → Type 0
 IsOutput topo now [] text next = (text ≡ []) × (next ≡ now)

@@ -1,5 +1,5 @@
 -- Where the run of a script stops, and all that it writes.
-use Rattle.std.specs.Prelude.{ℕ, Bool, ◌≡◌, ◌+◌, ◌-◌, ◌<◌, ◌≤◌, List, [], ◌++◌, length, take, codes, Option, Some, None, slice_get}
+use Rattle.std.specs.Prelude.{ℕ, Bool, ◌≡◌, ◌+◌, ◌-◌, ◌<◌, ◌≤◌, List, [], ◌++◌, length, take, codes, Option, Some, None, slice_get, String, string_bytes}
 use Rattle.std.specs.Option.{option_map_or}
 use Rattle.std.specs.Io.KnownBytes.{Appends}
 use Rattle.tl_text.specs.Numbers.{numeral}
@@ -95,6 +95,15 @@ IsSaid old now gathered lines = (written : List ℕ) × Appends old now written 
 abbrev pub AreSaid : Bool → Option (List ℕ) → Option (List ℕ) → List ℕ → List ℕ → Type 0
 AreSaid noted old now gathered lines = (told : List ℕ) × Tells noted lines told × IsSaid old now gathered told
 
+-- This holds of whatever lines were written since some output, or are gathered after it.
+abbrev pub ForSaid : {T Z : Type 0} → (T → Option (List ℕ)) → T → String Z → (Option (List ℕ) → List ℕ → Type 0) → Type 0
+ForSaid contents out gathered Holds = (old : Option (List ℕ)) (lines : List ℕ) → IsSaid old (contents out) (string_bytes gathered) lines → Holds old lines
+
+-- Whatever lines were told before, these are told after them: they are written, or gathered.
+abbrev pub SaysAs : {T Z : Type 0} → Bool → (T → Option (List ℕ)) → T → T → String Z → String Z → List ℕ → Type 0
+SaysAs noted contents out next gathered gathering lines = (old : Option (List ℕ)) (before : List ℕ) → AreSaid noted old (contents out) (string_bytes gathered) before
+    → AreSaid noted old (contents next) (string_bytes gathering) (before ++ lines)
+
 -- A run came to its end or its stop: its lines were written or are gathered.
 pub record HasCome (noted : Bool) (topo : Topology) (script : Script) (boxes : List Watch) (old now : Option (List ℕ)) (gathered : List ℕ) (outcome : Outcome) : Type 0 where
   pub stops : Stops boxes script outcome.stop
@@ -116,6 +125,15 @@ IsFront old now lines = (n : ℕ) × (n ≤ length lines) × Appends old now (ta
 -- A front of what tells these lines was written.
 abbrev pub IsFrontOf : Bool → Option (List ℕ) → Option (List ℕ) → List ℕ → Type 0
 IsFrontOf noted old now lines = (told : List ℕ) × Tells noted lines told × IsFront old now told
+
+-- One more write or read failed.
+abbrev pub FailsOnce : {T : Type 0} → (T → ℕ) → T → T → Type 0
+FailsOnce failures old new = failures new ≡ failures old + 1
+
+-- Whatever lines were told before, a front of them and of these was written.
+abbrev pub CutsAs : {T Z : Type 0} → Bool → (T → Option (List ℕ)) → T → T → String Z → List ℕ → Type 0
+CutsAs noted contents out next gathered lines = (old : Option (List ℕ)) (before : List ℕ) → AreSaid noted old (contents out) (string_bytes gathered) before
+    → IsFrontOf noted old (contents next) (before ++ lines)
 
 -- the stop, if the run came to one, is after so many commands
 abbrev pub IsBehind : List Watch → Script → ℕ → Option Stop → Type 0
@@ -139,3 +157,12 @@ IsCut topo script boxes old new = IsCutBy (IsFront old new) topo script boxes
 
 abbrev pub IsCutAs : Bool → Topology → Script → List Watch → Option (List ℕ) → Option (List ℕ) → Type 0
 IsCutAs noted topo script boxes old new = IsCutBy (IsFrontOf noted old new) topo script boxes
+
+-- A front of what a run that began so writes was written.
+abbrev pub IsRunCut : {T : Type 0} → Bool → RunData → List ℕ → (T → Option (List ℕ)) → T → T → Type 0
+IsRunCut noted run script contents old new = IsCutAs noted run.topo (commands_of script) run.boxes (contents old) (contents new)
+
+-- A front of what any run writes was written, with notes or without.
+abbrev pub IsAnyCut : {T : Type 0} → (T → Option (List ℕ)) → T → T → Type 0
+IsAnyCut contents old new = (noted : Bool) (topo : Topology) (script : List ℕ) (boxes : List Watch)
+    → IsCutAs noted topo (commands_of script) boxes (contents old) (contents new)

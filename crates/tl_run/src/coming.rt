@@ -1,15 +1,13 @@
 //! The run of a script whose commands are carried out as they come.
 
-ghost use Rattle.std.specs.Prelude.{◌≡◌, ◌+◌, ◌<◌, ◌^◌, ◌++◌, ℕ, List, Option, Some, [], IfOk, IfSome, OnOk, string_bytes, false, true};
+ghost use Rattle.std.specs.Prelude.{◌≡◌, ◌+◌, ◌<◌, ◌^◌, Some, [], IfOk, IfSome, OnOk, string_bytes, false, true};
 ghost use Rattle.std.specs.Result.{IsErrOf};
-ghost use Rattle.std.specs.Io.KnownBytes.{Keeps};
 ghost use Rattle.tl_script.specs.Reading.{command_in};
 ghost use Rattle.tl_script.specs.Text.{IsCommand};
 ghost use Rattle.tl_stream.specs.Feeds.{all_left};
-ghost use Rattle.tl_run.specs.Coming.{is_whole, IsCarriedOut, IsCutOff, IsFirstOf, HasComeTo, KeepsUp};
-ghost use Rattle.tl_script.specs.Asked.{asked};
-ghost use Rattle.tl_run.specs.Output.{start, supplied, Advances};
-ghost use Rattle.tl_run.specs.Stops.{AreSaid, IsFrontOf};
+ghost use Rattle.tl_run.specs.Coming.{is_whole, IsPartial, IsCarriedOut, CutsOff, IsFirstOf, HasComeTo, KeepsAll, KeepsLeft, FailsMore};
+ghost use Rattle.tl_run.specs.Output.{start, StepsSupplied};
+ghost use Rattle.tl_run.specs.Stops.{SaysAs, FailsOnce, CutsAs};
 ghost use Rattle.tl_run.specs.declared.coming.ComingFault.TheVariants.{WriteFault as Unwritten};
 
 use crate::lines::{LineFault, write_end, write_gathered};
@@ -72,14 +70,13 @@ fn is_worn<I: ByteIn>(input: &I) -> bool
 /// Reads on until the first command is whole, or the input is at its end. TooLong where the command is longer than 16,777,216 bytes
 /// and not whole, ReadFault where a read fails; what was read is then still there.
 fn read_on<I: ByteIn>(ahead: &mut Ahead, input: &mut I) -> Result<(), TextFault>
-    ensures kept { OnOk result (Keeps (all_left ahead.old (I.remaining input.old)) (all_left ahead.new (I.remaining input.new))) }
+    ensures kept { OnOk result (KeepsLeft I.remaining input.old input.new ahead.old ahead.new) }
     ensures first { OnOk result (IfSome (all_left ahead.new (I.remaining input.new)) (IsFirstOf ahead.new)) }
     ensures quiet { OnOk result (I.failure_count input.new ≡ I.failure_count input.old) }
-    ensures unread { IsErrOf result TextFault.ReadFault → (I.failure_count input.new ≡ I.failure_count input.old + 1)
-        × (is_whole (command_in ahead.new) ≡ false)
-        × Keeps (all_left ahead.old (I.remaining input.old)) (all_left ahead.new (I.remaining input.new)) }
-    ensures too_long { IsErrOf result TextFault.TooLong → (is_whole (command_in ahead.new) ≡ false)
-        × Keeps (all_left ahead.old (I.remaining input.old)) (all_left ahead.new (I.remaining input.new)) }
+    ensures unread { IsErrOf result TextFault.ReadFault → FailsOnce I.failure_count input.old input.new × IsPartial ahead.new
+        × KeepsLeft I.remaining input.old input.new ahead.old ahead.new }
+    ensures too_long { IsErrOf result TextFault.TooLong → IsPartial ahead.new
+        × KeepsLeft I.remaining input.old input.new ahead.old ahead.new }
 {
     for _ in 0..MOST_COMMAND + 2 {
         if is_whole(ahead.left()) {
@@ -115,16 +112,13 @@ fn run_at_once<S: Runner, O: ByteOut>(
     ensures topo { (S.so_far runner.new).topo ≡ (S.so_far runner.old).topo }
     ensures none { OnOk result ((S.so_far runner.new).boxes ≡ []) }
     ensures quiet { OnOk result (O.failure_count out.new ≡ O.failure_count out.old) }
-    ensures step { OnOk result (Advances (supplied true (asked command.now) (S.so_far runner.old)) command.now (S.so_far runner.new)
-        (λ line. (old : Option (List ℕ)) (before : List ℕ) → AreSaid S.noted old (O.contents out.old) (string_bytes gathered.old) before
-        → AreSaid S.noted old (O.contents out.new) (string_bytes gathered.new) (before ++ line))) }
+    ensures step { OnOk result (StepsSupplied S.so_far runner.old runner.new command.now
+        (SaysAs S.noted O.contents out.old out.new gathered.old gathered.new)) }
     ensures written { OnOk result (string_bytes gathered.new ≡ []) }
     ensures memory { IsErrOf result LineFault.Memory → (out.new ≡ out.old) × (string_bytes gathered.new ≡ string_bytes gathered.old) }
     ensures boxes { IsErrOf result LineFault.WrongBox → ⊥ }
-    ensures failed { IsErrOf result LineFault.WriteFault → (O.failure_count out.new ≡ O.failure_count out.old + 1)
-        × Advances (supplied true (asked command.now) (S.so_far runner.old)) command.now (S.so_far runner.new)
-        (λ line. (old : Option (List ℕ)) (before : List ℕ) → AreSaid S.noted old (O.contents out.old) (string_bytes gathered.old) before
-        → IsFrontOf S.noted old (O.contents out.new) (before ++ line)) }
+    ensures failed { IsErrOf result LineFault.WriteFault → FailsOnce O.failure_count out.old out.new
+        × StepsSupplied S.so_far runner.old runner.new command.now (CutsAs S.noted O.contents out.old out.new gathered.old) }
 {
     runner.supply(alloc, command)?;
     run_command(alloc, runner, command, left, out, gathered)?;
@@ -164,12 +158,12 @@ fn run_coming<S: Runner, I: ByteIn, O: ByteOut>(
     ensures quiet { OnOk result (O.failure_count out.new ≡ O.failure_count out.old) }
     ensures come { IfOk result (λ outcome. IfSome (I.remaining input.old)
         (HasComeTo S.noted (S.so_far runner.old).topo (O.contents out.old) (O.contents out.new) (string_bytes gathered.new) outcome)) }
-    ensures failed { IsErrOf result ComingFault.WriteFault → (O.failure_count out.new ≡ O.failure_count out.old + 1)
-        × IfSome (I.remaining input.old) (IsCutOff S.noted (S.so_far runner.old).topo (O.contents out.old) (O.contents out.new)) }
-    ensures unread { IsErrOf result ComingFault.ReadFault → (I.failure_count input.old < I.failure_count input.new)
-        × IfSome (I.remaining input.old) (KeepsUp S.noted (S.so_far runner.old).topo (I.remaining input.new) (O.contents out.old) (O.contents out.new)) }
+    ensures failed { IsErrOf result ComingFault.WriteFault → FailsOnce O.failure_count out.old out.new
+        × CutsOff S.noted (S.so_far runner.old) (I.remaining input.old) O.contents out.old out.new }
+    ensures unread { IsErrOf result ComingFault.ReadFault → FailsMore I.failure_count input.old input.new
+        × KeepsAll S.noted (S.so_far runner.old) I.remaining input.old input.new O.contents out.old out.new }
     ensures too_long { IsErrOf result ComingFault.TooLong
-        → IfSome (I.remaining input.old) (KeepsUp S.noted (S.so_far runner.old).topo (I.remaining input.new) (O.contents out.old) (O.contents out.new)) }
+        → KeepsAll S.noted (S.so_far runner.old) I.remaining input.old input.new O.contents out.old out.new }
 {
     for done in 0..MOST_COMMANDS {
         let last_rows = runner.last_rows();
@@ -219,14 +213,14 @@ pub fn carry_out_coming<S: Runner, I: ByteIn, O: ByteOut>(
     ensures written { IfOk result (λ outcome. IfSome (I.remaining input.old)
         (IsCarriedOut S.noted (S.so_far runner.old).topo outcome (O.contents out.old) (O.contents out.new))) }
     ensures quiet { OnOk result (O.failure_count out.new ≡ O.failure_count out.old) }
-    ensures failed { IsErrOf result ComingFault.WriteFault → (O.failure_count out.new ≡ O.failure_count out.old + 1)
-        × IfSome (I.remaining input.old) (IsCutOff S.noted (S.so_far runner.old).topo (O.contents out.old) (O.contents out.new)) }
+    ensures failed { IsErrOf result ComingFault.WriteFault → FailsOnce O.failure_count out.old out.new
+        × CutsOff S.noted (S.so_far runner.old) (I.remaining input.old) O.contents out.old out.new }
 
     // The lines of all commands that were read whole are written.
-    ensures unread { IsErrOf result ComingFault.ReadFault → (I.failure_count input.old < I.failure_count input.new)
-        × IfSome (I.remaining input.old) (KeepsUp S.noted (S.so_far runner.old).topo (I.remaining input.new) (O.contents out.old) (O.contents out.new)) }
+    ensures unread { IsErrOf result ComingFault.ReadFault → FailsMore I.failure_count input.old input.new
+        × KeepsAll S.noted (S.so_far runner.old) I.remaining input.old input.new O.contents out.old out.new }
     ensures too_long { IsErrOf result ComingFault.TooLong
-        → IfSome (I.remaining input.old) (KeepsUp S.noted (S.so_far runner.old).topo (I.remaining input.new) (O.contents out.old) (O.contents out.new)) }
+        → KeepsAll S.noted (S.so_far runner.old) I.remaining input.old input.new O.contents out.old out.new }
 {
     let mut ahead = Ahead::new(alloc);
     let mut gathered = String::new(alloc);

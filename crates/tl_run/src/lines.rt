@@ -1,10 +1,10 @@
 //! Lines on their way out, gathered so that a write has many of them.
 
-ghost use Rattle.std.specs.Prelude.{◌≡◌, ◌+◌, ◌<◌, ◌^◌, ◌++◌, ℕ, List, Option, [], OnOk, OnErr, length, string_bytes};
+ghost use Rattle.std.specs.Prelude.{◌≡◌, ◌<◌, ◌^◌, ◌++◌, [], OnOk, OnErr, length, string_bytes};
 ghost use Rattle.std.specs.Io.KnownBytes.{Appends};
 ghost use Rattle.tl_text.specs.Written.{Writes};
 ghost use Rattle.std.specs.Result.{IsErrOf};
-ghost use Rattle.tl_run.specs.Stops.{IsSaid, IsFront, of_command, stop_front, stop_text, last_text};
+ghost use Rattle.tl_run.specs.Stops.{IsSaid, ForSaid, IsFront, FailsOnce, of_command, stop_front, stop_text, last_text};
 ghost use Rattle.tl_run.specs.declared.lines.LineFault.TheVariants.{Memory, WriteFault as Unwritten};
 
 use crate::session::CommandFault;
@@ -61,10 +61,9 @@ pub(crate) fn write_gathered<O: ByteOut>(
     requires { O.failure_count out.old < 2 ^ 63 }
     ensures quiet { OnOk result (O.failure_count out.new ≡ O.failure_count out.old) }
     ensures empty { OnOk result (string_bytes gathered.new ≡ []) }
-    ensures said { OnOk result ((old : Option (List ℕ)) (lines : List ℕ) → IsSaid old (O.contents out.old) (string_bytes gathered.old) lines
-        → IsSaid old (O.contents out.new) (string_bytes gathered.new) lines) }
-    ensures failed { OnErr result ((O.failure_count out.new ≡ O.failure_count out.old + 1)
-        × ((old : Option (List ℕ)) (lines : List ℕ) → IsSaid old (O.contents out.old) (string_bytes gathered.old) lines → IsFront old (O.contents out.new) lines)) }
+    ensures said { OnOk result (ForSaid O.contents out.old gathered.old (λ old lines. IsSaid old (O.contents out.new) (string_bytes gathered.new) lines)) }
+    ensures failed { OnErr result (FailsOnce O.failure_count out.old out.new
+        × ForSaid O.contents out.old gathered.old (λ old lines. IsFront old (O.contents out.new) lines)) }
 {
     write_all(out, gathered.as_bytes())?;
     gathered.clear();
@@ -80,12 +79,12 @@ pub fn put_lines<O: ByteOut>(
 ) -> Result<(), LineFault>
     requires { O.failure_count out.old < 2 ^ 63 }
     ensures quiet { OnOk result (O.failure_count out.new ≡ O.failure_count out.old) }
-    ensures said { OnOk result ((old : Option (List ℕ)) (before : List ℕ) → IsSaid old (O.contents out.old) (string_bytes gathered.old) before
-        → IsSaid old (O.contents out.new) (string_bytes gathered.new) (before ++ lines.now)) }
+    ensures said { OnOk result (ForSaid O.contents out.old gathered.old
+        (λ old before. IsSaid old (O.contents out.new) (string_bytes gathered.new) (before ++ lines.now))) }
     ensures boxes { IsErrOf result LineFault.WrongBox → ⊥ }
     ensures memory { IsErrOf result LineFault.Memory → (out.new ≡ out.old) × (string_bytes gathered.new ≡ string_bytes gathered.old) }
-    ensures failed { IsErrOf result LineFault.WriteFault → (O.failure_count out.new ≡ O.failure_count out.old + 1)
-        × ((old : Option (List ℕ)) (before : List ℕ) → IsSaid old (O.contents out.old) (string_bytes gathered.old) before → IsFront old (O.contents out.new) (before ++ lines.now)) }
+    ensures failed { IsErrOf result LineFault.WriteFault → FailsOnce O.failure_count out.old out.new
+        × ForSaid O.contents out.old gathered.old (λ old before. IsFront old (O.contents out.new) (before ++ lines.now)) }
 {
     gathered.push_str(lines)?;
     if now || gathered.len() > MOST_GATHERED {
@@ -146,10 +145,10 @@ pub fn write_end<O: ByteOut>(
 ) -> Result<(), WriteFault>
     requires { O.failure_count out.old < 2 ^ 63 }
     ensures quiet { OnOk result (O.failure_count out.new ≡ O.failure_count out.old) }
-    ensures said { OnOk result ((old : Option (List ℕ)) (lines : List ℕ) → IsSaid old (O.contents out.old) (string_bytes gathered.old) lines
-        → Appends old (O.contents out.new) (lines ++ (last_text stop ++ notes.now))) }
-    ensures failed { OnErr result ((O.failure_count out.new ≡ O.failure_count out.old + 1)
-        × ((old : Option (List ℕ)) (lines : List ℕ) → IsSaid old (O.contents out.old) (string_bytes gathered.old) lines → IsFront old (O.contents out.new) (lines ++ (last_text stop ++ notes.now)))) }
+    ensures said { OnOk result (ForSaid O.contents out.old gathered.old
+        (λ old lines. Appends old (O.contents out.new) (lines ++ (last_text stop ++ notes.now)))) }
+    ensures failed { OnErr result (FailsOnce O.failure_count out.old out.new
+        × ForSaid O.contents out.old gathered.old (λ old lines. IsFront old (O.contents out.new) (lines ++ (last_text stop ++ notes.now)))) }
 {
     write_gathered(out, gathered)?;
     write_last(out, stop, notes)

@@ -1,6 +1,6 @@
 //! The run of a script.
 
-ghost use Rattle.std.specs.Prelude.{Bool, ◌≡◌, ◌+◌, ◌<◌, ◌≤◌, ◌^◌, ◌++◌, ℕ, List, Option, Some, IfOk, OnOk, OnErr, length, drop, string_bytes, [], IfSome};
+ghost use Rattle.std.specs.Prelude.{Bool, ◌≡◌, ◌+◌, ◌<◌, ◌≤◌, ◌^◌, ℕ, List, Some, IfOk, OnOk, OnErr, length, drop, string_bytes, [], IfSome};
 ghost use Rattle.std.specs.Result.{IsErrOf};
 ghost use Rattle.tl_topology.specs.Topology.{Topology};
 ghost use Rattle.tl_beats.specs.declared.watch.Watch.{Watch as AnyWatch};
@@ -9,8 +9,8 @@ ghost use Rattle.tl_script.specs.Scripts.{commands_of};
 ghost use Rattle.tl_script.specs.Text.{IsCommand};
 ghost use Rattle.tl_run.specs.Boxes.{watches_in};
 ghost use Rattle.tl_script.specs.Asked.{asked};
-ghost use Rattle.tl_run.specs.Output.{start, Advances, LacksBox};
-ghost use Rattle.tl_run.specs.Stops.{AreSaid, IsFrontOf, HasRun, IsWritten, IsWrittenAs, IsCut, IsCutAs};
+ghost use Rattle.tl_run.specs.Output.{start, Steps, LacksBox};
+ghost use Rattle.tl_run.specs.Stops.{SaysAs, HasRun, IsWritten, IsWrittenAs, FailsOnce, CutsAs, IsCut, IsRunCut, IsAnyCut};
 
 use crate::lines::{LineFault, put_lines, write_end};
 use crate::runner::Runner;
@@ -35,15 +35,12 @@ pub(crate) fn run_command<S: Runner, O: ByteOut>(
     requires lawful { IsCommand command.now }
     ensures topo { (S.so_far runner.new).topo ≡ (S.so_far runner.old).topo }
     ensures quiet { OnOk result (O.failure_count out.new ≡ O.failure_count out.old) }
-    ensures step { OnOk result (Advances (S.so_far runner.old) command.now (S.so_far runner.new)
-        (λ line. (old : Option (List ℕ)) (before : List ℕ) → AreSaid S.noted old (O.contents out.old) (string_bytes gathered.old) before
-        → AreSaid S.noted old (O.contents out.new) (string_bytes gathered.new) (before ++ line))) }
+    ensures step { OnOk result (Steps S.so_far runner.old runner.new command.now
+        (SaysAs S.noted O.contents out.old out.new gathered.old gathered.new)) }
     ensures memory { IsErrOf result LineFault.Memory → (out.new ≡ out.old) × (string_bytes gathered.new ≡ string_bytes gathered.old) }
     ensures lacks { IsErrOf result LineFault.WrongBox → LacksBox (S.so_far runner.old).boxes (asked command.now) × (out.new ≡ out.old) × (string_bytes gathered.new ≡ string_bytes gathered.old) }
-    ensures failed { IsErrOf result LineFault.WriteFault → (O.failure_count out.new ≡ O.failure_count out.old + 1)
-        × Advances (S.so_far runner.old) command.now (S.so_far runner.new)
-        (λ line. (old : Option (List ℕ)) (before : List ℕ) → AreSaid S.noted old (O.contents out.old) (string_bytes gathered.old) before
-        → IsFrontOf S.noted old (O.contents out.new) (before ++ line)) }
+    ensures failed { IsErrOf result LineFault.WriteFault → FailsOnce O.failure_count out.old out.new
+        × Steps S.so_far runner.old runner.new command.now (CutsAs S.noted O.contents out.old out.new gathered.old) }
 {
     let asked = runner.ask(alloc, command, left)?;
     let answer = runner.answer(alloc, asked)?;
@@ -95,8 +92,8 @@ fn run_commands<'s, S: Runner, O: ByteOut>(
     requires empty { string_bytes gathered.old ≡ [] }
     ensures quiet { OnOk result (O.failure_count out.new ≡ O.failure_count out.old) }
     ensures come { IfOk result (λ end. HasRun S.noted (S.so_far runner.old) script.now (O.contents out.old) (O.contents out.new) (string_bytes gathered.new) end.outcome) }
-    ensures failed { OnErr result ((O.failure_count out.new ≡ O.failure_count out.old + 1)
-        × IsCutAs S.noted (S.so_far runner.old).topo (commands_of script.now) (S.so_far runner.old).boxes (O.contents out.old) (O.contents out.new)) }
+    ensures failed { OnErr result (FailsOnce O.failure_count out.old out.new
+        × IsRunCut S.noted (S.so_far runner.old) script.now O.contents out.old out.new) }
 {
     let mut rest = script;
     let mut done = 0;
@@ -152,8 +149,8 @@ pub fn carry_out<S: Runner, O: ByteOut>(
     requires new { (S.so_far runner.old).now ≡ start }
     ensures written { IfOk result (λ outcome. IsWrittenAs S.noted (S.so_far runner.old).topo script.now (S.so_far runner.old).boxes outcome (O.contents out.old) (O.contents out.new)) }
     ensures quiet { OnOk result (O.failure_count out.new ≡ O.failure_count out.old) }
-    ensures failed { OnErr result ((O.failure_count out.new ≡ O.failure_count out.old + 1)
-        × IsCutAs S.noted (S.so_far runner.old).topo (commands_of script.now) (S.so_far runner.old).boxes (O.contents out.old) (O.contents out.new)) }
+    ensures failed { OnErr result (FailsOnce O.failure_count out.old out.new
+        × IsRunCut S.noted (S.so_far runner.old) script.now O.contents out.old out.new) }
 {
     let mut gathered = String::new(alloc);
     let End { outcome, rest } = run_commands(alloc, runner, script, out, &mut gathered)?;
@@ -169,8 +166,7 @@ pub fn run_nothing<O: ByteOut>(alloc: Global, out: &mut O) -> Result<Outcome, Wr
     ensures written { IfOk result (λ outcome. (noted : Bool) (topo : Topology) (script : List ℕ) (boxes : List AnyWatch)
         → IsWrittenAs noted topo script boxes outcome (O.contents out.old) (O.contents out.new)) }
     ensures quiet { OnOk result (O.failure_count out.new ≡ O.failure_count out.old) }
-    ensures failed { OnErr result ((O.failure_count out.new ≡ O.failure_count out.old + 1)
-        × ((noted : Bool) (topo : Topology) (script : List ℕ) (boxes : List AnyWatch) → IsCutAs noted topo (commands_of script) boxes (O.contents out.old) (O.contents out.new))) }
+    ensures failed { OnErr result (FailsOnce O.failure_count out.old out.new × IsAnyCut O.contents out.old out.new) }
 {
     let End { outcome, .. } = stopped(0, StopCause::Memory, 0, b"".as_slice());
     write_end(out, &mut String::new(alloc), outcome.stop, "")?;
@@ -193,7 +189,7 @@ pub fn run_script<M: Monitor, O: ByteOut>(
     requires { O.failure_count out.old < 2 ^ 63 }
     ensures written { IfOk result (λ outcome. IsWritten topo.now script.now (watches_in M.held boxes.items) outcome (O.contents out.old) (O.contents out.new)) }
     ensures quiet { OnOk result (O.failure_count out.new ≡ O.failure_count out.old) }
-    ensures failed { OnErr result ((O.failure_count out.new ≡ O.failure_count out.old + 1)
+    ensures failed { OnErr result (FailsOnce O.failure_count out.old out.new
         × IsCut topo.now (commands_of script.now) (watches_in M.held boxes.items) (O.contents out.old) (O.contents out.new)) }
 {
     let Ok(mut session) = Session::new(alloc, topo, boxes) else {

@@ -67,3 +67,7 @@ pub record IsCarriedOut {E : Type 0} (noted : Bool) (run : RunData) (script : Li
 -- a run that begins
 abbrev pub beginning : Topology → List Watch → RunData
 beginning topo boxes = record { topo = topo; now = start; boxes = boxes }
+
+-- The script was carried out so from its beginning on.
+abbrev pub IsScriptRun : {E : Type 0} → Bool → ScriptData → Option (List ℕ) → Option (List ℕ) → ℕ → ℕ → Result Outcome E → Type 0
+IsScriptRun noted script old new failed fails told = IsCarriedOut noted (beginning script.topo script.boxes) script.text old new failed fails told

@@ -5,7 +5,7 @@ ghost use Rattle.tl_script.specs.Scripts.{commands_of};
 ghost use Rattle.tl_run.specs.Boxes.{watches_in};
 ghost use Rattle.tl_run.specs.Output.{start};
 ghost use Rattle.tl_run.specs.Stops.{IsWritten, IsWrittenAs, IsCut, IsCutAs};
-ghost use Rattle.tl_workers.specs.Crew.{IsCarriedOut, beginning};
+ghost use Rattle.tl_workers.specs.Crew.{IsCarriedOut, IsScriptRun};
 
 use crate::crew::Crew;
 use crate::seat::{Seats, seats_beside, serve_all};
@@ -214,7 +214,7 @@ fn run_on_hall<'x, R: Threads + Wait + Sync, M: Monitor + Send, G: Gate + Sync, 
 ) -> Result<Outcome, WriteFault>
     requires workers { way.workers ≤ 16 }
     requires out { O.failure_count out.old < 2 ^ 63 }
-    ensures { IsCarriedOut (is_some way.entry.log) (beginning script.entry.topo script.entry.boxes) script.entry.text
+    ensures { IsScriptRun (is_some way.entry.log) script.entry
         (O.contents out.old) (O.contents out.new) (O.failure_count out.old) (O.failure_count out.new) result }
 {
     let Script { topo, text, boxes } = script;
@@ -258,7 +258,7 @@ fn run_alone<M: Monitor, O: ByteOut>(
     last: &mut Option<Report>,
 ) -> Result<Outcome, WriteFault>
     requires { O.failure_count out.old < 2 ^ 63 }
-    ensures { IsCarriedOut false (beginning script.entry.topo script.entry.boxes) script.entry.text
+    ensures { IsScriptRun false script.entry
         (O.contents out.old) (O.contents out.new) (O.failure_count out.old) (O.failure_count out.new) result }
 {
     let Script { topo, text, boxes } = script;
@@ -280,7 +280,7 @@ fn show_alone<M: Monitor, O: ByteOut>(
     last: &mut Option<Report>,
 ) -> Result<Outcome, WriteFault>
     requires { O.failure_count out.old < 2 ^ 63 }
-    ensures { IsCarriedOut true (beginning script.entry.topo script.entry.boxes) script.entry.text
+    ensures { IsScriptRun true script.entry
         (O.contents out.old) (O.contents out.new) (O.failure_count out.old) (O.failure_count out.new) result }
 {
     let Script { topo, text, boxes } = script;
@@ -306,7 +306,7 @@ fn run_way<'x, R: Threads + Wait + Sync, M: Monitor + Send, G: Gate + Sync, O: B
 ) -> Result<Outcome, WriteFault>
     requires workers { way.workers ≤ 16 }
     requires out { O.failure_count out.old < 2 ^ 63 }
-    ensures { IsCarriedOut (is_some way.entry.log) (beginning script.entry.topo script.entry.boxes) script.entry.text
+    ensures { IsScriptRun (is_some way.entry.log) script.entry
         (O.contents out.old) (O.contents out.new) (O.failure_count out.old) (O.failure_count out.new) result }
 {
     if way.workers > 0 {

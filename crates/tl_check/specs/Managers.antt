@@ -7,7 +7,7 @@ use Rattle.tl_topology.specs.Regions.{Area}
 use Rattle.tl_topology.specs.Topology.{Topology}
 use Rattle.tl_beats.specs.declared.Placed.{Placed}
 use Rattle.tl_beats.specs.declared.Row.{Row}
-use Rattle.tl_definitions.specs.Captures.{manager_beats}
+use Rattle.tl_definitions.specs.Captures.{captures_of, manager_beats}
 use Rattle.tl_definitions.specs.Judging.{snapshot, judging}
 use Rattle.tl_definitions.specs.Managers.{declared_links, manager_at}
 use Rattle.tl_definitions.specs.Passes.{rows_judged}
@@ -15,6 +15,7 @@ use Rattle.tl_definitions.specs.Positions.{Recorded, clients_of, links_of}
 use Rattle.tl_definitions.specs.Report.{Capture, of_manager}
 use Rattle.tl_definitions.specs.Rules.{Manager}
 use Rattle.tl_check.specs.Apart.{rows_of_links}
+use Rattle.tl_check.specs.Captured.{areas_at, AllRegions}
 use Rattle.tl_check.specs.Found.{AreFound}
 
 -- The link with this number is of the level of caches.
@@ -41,6 +42,10 @@ ArePlainRows topo manager areas fs rows = rows ≡ rows_of_links (manager_at top
 -- The rows are those of a manager, in any order and any number of times.
 abbrev pub AreOfManager : Topology → ℕ → List Area → List Recorded → List Row → Type 0
 AreOfManager topo manager areas fs rows = AreFound (of_manager (manager_at topo manager areas) (manager_beats topo fs manager) ∷ []) rows
+
+-- The rows are those of all managers with their regions, in any order and any number of times.
+abbrev pub AreOfManagers : Topology → AllRegions → List Recorded → List Row → Type 0
+AreOfManagers topo regions fs rows = AreFound (captures_of topo (areas_at regions) fs) rows
 
 -- The captures of the managers with these numbers.
 abbrev pub captures_at : Topology → (ℕ → List Area) → List Recorded → List ℕ → List Capture

@@ -3,14 +3,13 @@
 ghost use Rattle.std.specs.Prelude.{◌≡◌, ◌<◌, IfOk, length};
 ghost use Rattle.std.specs.List.{All};
 ghost use Rattle.tl_topology.specs.Regions.{areas_of};
-ghost use Rattle.tl_definitions.specs.Captures.{captures_of};
 ghost use Rattle.tl_definitions.specs.Managers.{manager_at};
 ghost use Rattle.tl_definitions.specs.Report.{IsReport};
 ghost use Rattle.tl_check.specs.Apart.{rows_of_links};
 ghost use Rattle.tl_check.specs.Beside.{AreJoined};
 ghost use Rattle.tl_check.specs.Captured.{areas_at, captures_after};
 ghost use Rattle.tl_check.specs.Found.{AreFound};
-ghost use Rattle.tl_check.specs.Managers.{captures_at, IsPlain, AreOfManager};
+ghost use Rattle.tl_check.specs.Managers.{captures_at, IsPlain, AreOfManager, AreOfManagers};
 
 use crate::checking::with_watches;
 use crate::managers::{links_rows, manager_numbers, plain_links_of, rows_of_managers, with_caches};
@@ -165,7 +164,7 @@ impl<'a, R: Threads + Sync + AllocGlobal> Judges<'a, R> {
         present: &Present,
         regions: &[RegionMap],
     ) -> Result<Vec<Row>, AllocError>
-        ensures { IfOk result (λ rows. AreFound (captures_of topo.now (areas_at regions.now) present.now) rows.items) }
+        ensures { IfOk result (λ rows. AreOfManagers topo.now regions.now present.now rows.items) }
     {
         let alloc = self.rt.alloc();
         let managers = manager_numbers(alloc, topo)?;

@@ -3,9 +3,8 @@
 ghost use Rattle.std.specs.Prelude.{◌<◌, IfOk, length};
 ghost use Rattle.std.specs.List.{All};
 ghost use Rattle.tl_definitions.specs.Report.{IsReport};
-ghost use Rattle.tl_definitions.specs.Captures.{captures_of};
-ghost use Rattle.tl_check.specs.Captured.{areas_at, captures_with, AllRegions};
-ghost use Rattle.tl_check.specs.Found.{AreFound};
+ghost use Rattle.tl_check.specs.Captured.{captures_with, AllRegions};
+ghost use Rattle.tl_check.specs.Managers.{AreOfManagers};
 
 use crate::managers::managers_rows;
 use crate::sorted::sort_rows;
@@ -24,9 +23,9 @@ pub(crate) fn with_watches(
     watches: &[(u32, Watch)],
     managers: Vec<Row>,
 ) -> Result<Vec<Row>, AllocError>
-    ensures report { (regions : AllRegions) → AreFound (captures_of topo.now (areas_at regions) present.now) managers.items
+    ensures report { (regions : AllRegions) → AreOfManagers topo.now regions present.now managers.items
         → IfOk result (λ rows. IsReport (captures_with topo.now present.now regions watches.now) rows.items) }
-    ensures links { (regions : AllRegions) → AreFound (captures_of topo.now (areas_at regions) present.now) managers.items
+    ensures links { (regions : AllRegions) → AreOfManagers topo.now regions present.now managers.items
         → IfOk result (λ rows. All (λ row. row.link < length topo.now.links) rows.items) }
 {
     let _ = present.is_empty();

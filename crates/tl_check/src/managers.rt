@@ -3,13 +3,12 @@
 ghost use Rattle.std.specs.Prelude.{◌≡◌, ◌<◌, IfOk, length};
 ghost use Rattle.std.specs.List.{All};
 ghost use Rattle.tl_topology.specs.Regions.{areas_of};
-ghost use Rattle.tl_definitions.specs.Captures.{captures_of};
 ghost use Rattle.tl_definitions.specs.Managers.{declared_links, manager_at};
 ghost use Rattle.tl_definitions.specs.Positions.{beats_of_all, clients_of};
 ghost use Rattle.tl_check.specs.Captured.{areas_at};
 ghost use Rattle.tl_check.specs.Found.{AreFound};
 ghost use Rattle.tl_check.specs.Apart.{rows_of_links};
-ghost use Rattle.tl_check.specs.Managers.{has_caches, cached_links, plain_links, captures_at, numbered, IsPlain, AreMerged, ArePlainRows, AreOfManager};
+ghost use Rattle.tl_check.specs.Managers.{has_caches, cached_links, plain_links, captures_at, numbered, IsPlain, AreMerged, ArePlainRows, AreOfManager, AreOfManagers};
 
 use crate::apart::add_link;
 use crate::{SpanState, check_window};
@@ -192,7 +191,7 @@ pub fn managers_rows(
     present: &Present,
     regions: &[RegionMap],
 ) -> Result<Vec<Row>, AllocError>
-    ensures { IfOk result (λ rows. AreFound (captures_of topo.now (areas_at regions.now) present.now) rows.items) }
+    ensures { IfOk result (λ rows. AreOfManagers topo.now regions.now present.now rows.items) }
 {
     let managers = manager_numbers(alloc, topo)?;
     let rows = rows_of_managers(alloc, topo, present, regions, &managers)?;

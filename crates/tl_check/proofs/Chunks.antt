@@ -29,6 +29,13 @@ pub by_numbers : {X : Type 0} (topo : Topology) (regions : ℕ → List Area) (f
 by_numbers topo regions fs number [] = refl
 by_numbers topo regions fs number (manager ∷ managers) = ap (λ cs. capture_with topo regions fs number ∷ cs) (by_numbers topo regions fs (number + 1) managers)
 
+-- An only manager's capture is all.
+pub only_manager : {X : Type 0} (topo : Topology) (regions : ℕ → List Area) (fs : List Recorded) (managers : List X) → length (numbered 0 managers) ≡ 1
+    → captures_from topo regions fs 0 managers ≡ capture_with topo regions fs 0 ∷ []
+only_manager topo regions fs [] one = absurd (omega (arith, one))
+only_manager topo regions fs (manager ∷ []) one = refl
+only_manager topo regions fs (manager ∷ other ∷ managers) one = absurd (omega (arith, one))
+
 -- One number more.
 pub numbered_more : {X : Type 0} (number : ℕ) (items : List X) (item : X) → numbered number (items ++ item ∷ []) ≡ numbered number items ++ (number + length items) ∷ []
 numbered_more number [] item = let e : number ≡ number + 0 = omega arith in ap (λ (n : ℕ). n ∷ []) e
@@ -90,7 +97,7 @@ parts_cover count len share some is =
 
 -- What holds of no items without rows, and of two lists with both their rows where it holds of each with its own, holds of a list
 -- with the rows of its parts.
-module _ {X Z E : Type 0} (Has : List X → List Row → Type 0) (none : Has [] []) (both : (xs ys : List X) (as bs : List Row) → Has xs as → Has ys bs → Has (xs ++ ys) (as ++ bs)) (share : ℕ) where
+module _ {X Z E : Type 0} (Has : List X → List Row → Type 0) (none : Has [] []) (both : (xs ys : List X) (one two : List Row) → Has xs one → Has ys two → Has (xs ++ ys) (one ++ two)) (share : ℕ) where
   -- Each part has what its share of the list has.
   abbrev pub AreParts : List X → List (Result (Vec Row Z) E) → Type 0
   AreParts xs parts = (n : ℕ) (d : Result (Vec Row Z) E) → n < length parts → IfOk (slice_index_or parts n d) (λ (rows : Vec Row Z). Has (take share (drop (n * share) xs)) rows.items)
@@ -107,12 +114,14 @@ module _ {X Z E : Type 0} (Has : List X → List Row → Type 0) (none : Has [] 
       let here : Has (take share xs) own = subst (λ (n : ℕ). Has (take share (drop n xs)) own) (zero-mul share)
       (part_is part own (λ rows. Has (take share (drop (0 * share) xs)) rows) first (are 0 part some)) in
       let later : AreParts (drop share xs) parts = λ n d below.
-          let more : n + 1 < length (part ∷ parts) = omega (arith, below) in
-          let place : (n + 1) * share ≡ share + n * share = add-mul n 1 share ∙ (let o : 1 * share ≡ share = one-mul share in let s : n * share + 1 * share ≡ share + n * share = omega (arith, o) in s) in
-          subst (λ ys. IfOk (slice_index_or parts n d) (λ (rows : Vec Row Z). Has (take share ys) rows.items))
-          (ap (λ (k : ℕ). drop k xs) place ∙ sym (drop-drop (n * share) share xs)) (are (n + 1) d more) in
+      let more : suc n < length (part ∷ parts) = omega (arith, below) in
+      let on : suc n ≡ n + 1 = omega arith in
+      let place : suc n * share ≡ share + n * share = ap (λ (k : ℕ). k * share) on ∙ add-mul n 1 share ∙ (let o : 1 * share ≡ share = one-mul share in let s : n * share + 1 * share ≡ share + n * share = omega (arith, o) in s) in
+      subst (λ ys. IfOk (slice_index_or parts n d) (λ (rows : Vec Row Z). Has (take share ys) rows.items))
+      (ap (λ (k : ℕ). drop k xs) place ∙ sym (drop-drop (n * share) share xs)) (are (suc n) d more) in
       let rest = front_has (drop share xs) parts found later others in
-      let count : length (part ∷ parts) * share ≡ share + length parts * share =
+      let on : length (part ∷ parts) ≡ length parts + 1 = omega arith in
+      let count : length (part ∷ parts) * share ≡ share + length parts * share = ap (λ (k : ℕ). k * share) on ∙
       add-mul (length parts) 1 share ∙ (let o : 1 * share ≡ share = one-mul share in let s : length parts * share + 1 * share ≡ share + length parts * share = omega (arith, o) in s) in
       subst (λ ys. Has ys (own ++ flat_map (λ own. own) found)) (sym (ap (λ (n : ℕ). take n xs) count ∙ take-add share (length parts * share) xs))
       (both (take share xs) (take (length parts * share) (drop share xs)) own (flat_map (λ own. own) found) here rest)

@@ -21,40 +21,6 @@ use tl_capture::Present;
 use tl_edits::Inputs;
 use tl_topology::{RegionMap, Topo};
 
-/// Who judges what stands: one thread, or several.
-pub trait Judging {
-    /// What it allocates in.
-    fn alloc(&self) -> Global;
-
-    /// The report of what stands, made from the beginning, as `scratch` makes it. AllocError where memory is refused.
-    fn scratch(&self, inputs: &Inputs) -> Result<Vec<Row>, AllocError>
-        ensures report { IfOk result (λ rows. IsReport (captures_after inputs.now) rows.items) }
-        ensures links { IfOk result (λ rows. All (λ row. row.link < length inputs.now.topo.links) rows.items) };
-}
-
-/// The thread that asks, alone.
-#[derive(Drop)]
-pub struct Alone {
-    alloc: Global,
-}
-
-impl Alone {
-    /// It allocates in this.
-    pub fn new(alloc: Global) -> Alone {
-        Alone { alloc }
-    }
-}
-
-impl Judging for Alone {
-    fn alloc(&self) -> Global {
-        self.alloc
-    }
-
-    fn scratch(&self, inputs: &Inputs) -> Result<Vec<Row>, AllocError> {
-        scratch(self.alloc, inputs)
-    }
-}
-
 /// The thread that asks, and so many beside it.
 #[derive(Drop)]
 pub struct Judges<'a, R> {
@@ -170,24 +136,29 @@ impl<'a, R: Threads + Sync + AllocGlobal> Judges<'a, R> {
         let managers = manager_numbers(alloc, topo)?;
         if managers.len() == 1 {
             let none = RegionMap::new(alloc);
-            let own = regions.first().unwrap_or(&none);
-            return self.manager_rows(topo, present, 0, own);
+            let own = regions.get(0).unwrap_or(&none);
+            let found = self.manager_rows(topo, present, 0, own)?;
+            return Ok(found);
         }
         let rows = self.rows_of_managers(topo, present, regions, &managers)?;
         Ok(rows)
     }
-}
 
-impl<R: Threads + Sync + AllocGlobal> Judging for Judges<'_, R> {
-    fn alloc(&self) -> Global {
+    /// What they allocate in.
+    pub fn alloc(&self) -> Global {
         self.rt.alloc()
     }
 
-    fn scratch(&self, inputs: &Inputs) -> Result<Vec<Row>, AllocError> {
-        if self.workers == 0 {
-            return scratch(self.rt.alloc(), inputs);
-        }
+    /// The report of what stands, made from the beginning, as `scratch` makes it: it is the same for any number of threads. AllocError
+    /// where memory is refused.
+    pub fn scratch(&self, inputs: &Inputs) -> Result<Vec<Row>, AllocError>
+        ensures report { IfOk result (λ rows. IsReport (captures_after inputs.now) rows.items) }
+        ensures links { IfOk result (λ rows. All (λ row. row.link < length inputs.now.topo.links) rows.items) }
+    {
         let alloc = self.rt.alloc();
+        if self.workers == 0 {
+            return scratch(alloc, inputs);
+        }
         let rows = self.managers_rows(inputs.topo(), inputs.present(), inputs.regions())?;
         let watches = inputs.watches(alloc)?;
         let all = with_watches(alloc, inputs.topo(), inputs.present(), &watches, rows)?;

@@ -126,8 +126,8 @@ pub(crate) fn with_caches(
     ensures { IfOk result (λ rows. AreOfManager topo.now manager (areas_of regions.now) present.now rows.items) }
 {
     let _ = present.is_empty();
-    let links = clients_of(alloc, topo, manager)?;
-    let cached = cached_links(alloc, topo, &links)?;
+    let clients = clients_of(alloc, topo, manager)?;
+    let cached = cached_links(alloc, topo, &clients)?;
     let merged = merged_rows(alloc, topo, present, manager, regions, &cached)?;
     let mut rows = plain;
     rows.extend_from_slice(&merged)?;
@@ -177,7 +177,7 @@ pub(crate) fn rows_of_managers(
     let none = RegionMap::new(alloc);
     let mut rows = Vec::new(alloc);
     for manager in managers {
-        let own = regions.get(usize::from(*manager)).unwrap_or(&none);
+        let own = regions.get(*manager as usize).unwrap_or(&none);
         let found = manager_rows(alloc, topo, present, *manager, own)?;
         rows.extend_from_slice(&found)?;
     }

@@ -8,11 +8,13 @@ ghost use Rattle.tl_check.specs.Notes.{IsPut, IsPutFront, AppendsFront};
 ghost use Rattle.tl_check.specs.Once.{adds, first_refusal, of_edit, HasReport, HasReportText, IsRefusal};
 ghost use Rattle.tl_check.specs.declared.once.OnceFault.TheVariants.{Memory, WriteFault as Unwritten};
 
-use crate::beside::{Alone, Judging};
+use crate::beside::Judges;
 use crate::form::{Form, Plain};
 use crate::report::Report;
+use crate::standing::scratch;
 use std::alloc::{AllocError, Global};
 use std::sync::Arc;
+use std::thread::Threads;
 use thiserror::Error;
 use tl_beats::{ByteOut, Fragment};
 use tl_edits::{Change, Edit, EditFault, Log};
@@ -108,12 +110,12 @@ pub fn run_once<O: ByteOut>(
     ensures failed { IsErrOf result OnceFault.WriteFault → (O.failure_count out.new ≡ O.failure_count out.old + 1)
         × HasReportText topo.now fragments.now (AppendsFront (O.contents out.old) (O.contents out.new)) }
 {
-    run_once_as(&Alone::new(alloc), topo, fragments, &Plain, out)
+    run_once_as(alloc, topo, fragments, &Plain, out)
 }
 
-/// The same in a form, with notes if the form has any; and by one thread or several.
-pub fn run_once_as<J: Judging, F: Form, O: ByteOut>(
-    judging: &J,
+/// The same in a form: with notes, if the form has any.
+pub fn run_once_as<F: Form, O: ByteOut>(
+    alloc: Global,
     topo: &Topo,
     fragments: &[Arc<Fragment>],
     form: &F,
@@ -128,12 +130,38 @@ pub fn run_once_as<J: Judging, F: Form, O: ByteOut>(
     ensures failed { IsErrOf result OnceFault.WriteFault → (O.failure_count out.new ≡ O.failure_count out.old + 1)
         × HasReportText topo.now fragments.now (IsPutFront F.noted (O.contents out.old) (O.contents out.new)) }
 {
-    let alloc = judging.alloc();
     let log = all_added(alloc, topo, fragments)?;
     let inputs = log.inputs();
-    let rows = judging.scratch(inputs)?;
+    let rows = scratch(alloc, inputs)?;
     let report = Report::new(alloc, 1, fragments.len() as u64, rows)?;
     let text = form.report(alloc, inputs, &report)?;
     write_all(out, text.as_bytes())?;
+    Ok(report.rows().len() as u64)
+}
+
+/// The same by several threads.
+pub fn run_once_beside<R: Threads + Sync + AllocGlobal, F: Form, O: ByteOut>(
+    judges: &Judges<'_, R>,
+    topo: &Topo,
+    fragments: &[Arc<Fragment>],
+    form: &F,
+    out: &mut O,
+) -> Result<u64, OnceFault>
+    requires { O.failure_count out.old < 2 ^ 63 }
+    ensures written { IfOk result (λ count. HasReport topo.now fragments.now count (IsPut F.noted (O.contents out.old) (O.contents out.new))) }
+    ensures quiet { OnOk result (O.failure_count out.new ≡ O.failure_count out.old) }
+    ensures refused { (code : ℕ) (number : Option ℕ) → IsErrOf result (OnceFault.Refused code number)
+        → IsRefusal topo.now (map arc_value fragments.now) code number × (out.new ≡ out.old) }
+    ensures memory { IsErrOf result OnceFault.Memory → out.new ≡ out.old }
+    ensures failed { IsErrOf result OnceFault.WriteFault → (O.failure_count out.new ≡ O.failure_count out.old + 1)
+        × HasReportText topo.now fragments.now (IsPutFront F.noted (O.contents out.old) (O.contents out.new)) }
+{
+    let alloc = judges.alloc();
+    let log = all_added(alloc, topo, fragments)?;
+    let inputs = log.inputs();
+    let found = judges.scratch(inputs)?;
+    let report = Report::new(alloc, 1, fragments.len() as u64, found)?;
+    let told = form.report(alloc, inputs, &report)?;
+    write_all(out, told.as_bytes())?;
     Ok(report.rows().len() as u64)
 }

@@ -9,9 +9,10 @@ use std::alloc::{AllocError, AllocFailed, Global};
 use std::fs;
 use std::rt::Files;
 use std::sync::Arc;
+use std::thread::Threads;
 use tl_advice::report_summary;
 use tl_beats::{Fragment, Row};
-use tl_check::{Judging, all_added};
+use tl_check::{Judges, all_added};
 use tl_edits::Inputs;
 use tl_formats::{Format, Pick, Title, Waiver, WaiverFault, print_rows, read_waivers};
 use tl_options::{How, View};
@@ -296,8 +297,8 @@ fn write_rows<O: ByteOut>(
 }
 
 /// Writes those rows of what stands that are wanted.
-fn write_found<J: Judging, O: ByteOut>(
-    judging: &J,
+fn write_found<R: Threads + Sync + AllocGlobal, O: ByteOut>(
+    judges: &Judges<'_, R>,
     title: Title,
     inputs: &Inputs,
     order: &Order<'_>,
@@ -305,13 +306,13 @@ fn write_found<J: Judging, O: ByteOut>(
 ) -> Result<Written, Fault>
     requires { O.failure_count out.old < 2 ^ 63 }
 {
-    let rows = judging.scratch(inputs)?;
-    write_rows(judging.alloc(), title, inputs, order, &rows, out)
+    let rows = judges.scratch(inputs)?;
+    write_rows(judges.alloc(), title, inputs, order, &rows, out)
 }
 
 /// Writes those rows of the report of fragments that are wanted.
-pub(crate) fn write_once<J: Judging, O: ByteOut>(
-    judging: &J,
+pub(crate) fn write_once<R: Threads + Sync + AllocGlobal, O: ByteOut>(
+    judges: &Judges<'_, R>,
     topo: &Topo,
     fragments: &[Arc<Fragment>],
     order: &Order<'_>,
@@ -319,17 +320,17 @@ pub(crate) fn write_once<J: Judging, O: ByteOut>(
 ) -> Result<Written, Fault>
     requires { O.failure_count out.old < 2 ^ 63 }
 {
-    let log = all_added(judging.alloc(), topo, fragments)?;
+    let log = all_added(judges.alloc(), topo, fragments)?;
     let title = Title::Report {
         version: 1,
         edit: fragments.len() as u64,
     };
-    write_found(judging, title, log.inputs(), order, out)
+    write_found(judges, title, log.inputs(), order, out)
 }
 
 /// Writes those rows that are wanted of what checking everything anew after so many accepted edits of a script finds.
-pub(crate) fn write_audit<J: Judging, O: ByteOut>(
-    judging: &J,
+pub(crate) fn write_audit<R: Threads + Sync + AllocGlobal, O: ByteOut>(
+    judges: &Judges<'_, R>,
     topo: &Topo,
     script: &[u8],
     edit: u64,
@@ -338,6 +339,6 @@ pub(crate) fn write_audit<J: Judging, O: ByteOut>(
 ) -> Result<Written, Fault>
     requires { O.failure_count out.old < 2 ^ 63 }
 {
-    let inputs = inputs_left(judging.alloc(), topo, script, Some(edit))?;
-    write_found(judging, Title::Audit { edit }, &inputs, order, out)
+    let inputs = inputs_left(judges.alloc(), topo, script, Some(edit))?;
+    write_found(judges, Title::Audit { edit }, &inputs, order, out)
 }

@@ -12,10 +12,10 @@ use std::rt::Files;
 use std::sync::Arc;
 use std::thread::Threads;
 use tl_beats::Fragment;
-use tl_check::{Judges, Plain, run_once_as};
+use tl_check::{Judges, Plain, run_once_beside};
 use tl_formats::Format;
 use tl_options::{Capture, How, View};
-use tl_script::{Outcome, audit_script_as};
+use tl_script::{Outcome, audit_script_beside};
 use tl_show::Shown;
 use tl_stream::Sieve;
 use tl_text::ByteOut;
@@ -122,8 +122,8 @@ fn once_of<R: Files + Threads + Sync + AllocGlobal, O: ByteOut>(
     }
     let judges = Judges::new(rt, manner.how.workers);
     let rows = match manner.view.format {
-        Format::Shown => run_once_as(&judges, topo, fragments, &Shown, out)?,
-        _ => run_once_as(&judges, topo, fragments, &Plain, out)?,
+        Format::Shown => run_once_beside(&judges, topo, fragments, &Shown, out)?,
+        _ => run_once_beside(&judges, topo, fragments, &Plain, out)?,
     };
     Ok(Ending::Came(report_of(rows)))
 }
@@ -257,8 +257,8 @@ fn audit_of<R: Files + Threads + Sync + AllocGlobal, O: ByteOut>(
     let Audit { topo, script, edit } = audit;
     let judges = Judges::new(rt, manner.how.workers);
     let rows = match manner.view.format {
-        Format::Shown => audit_script_as(&judges, topo, script, edit, &Shown, out)?,
-        _ => audit_script_as(&judges, topo, script, edit, &Plain, out)?,
+        Format::Shown => audit_script_beside(&judges, topo, script, edit, &Shown, out)?,
+        _ => audit_script_beside(&judges, topo, script, edit, &Plain, out)?,
     };
     Ok(Ending::Came(report_of(rows)))
 }

@@ -17,8 +17,9 @@ use crate::asked::{Asked, asked_by};
 use crate::stop::Stop;
 use crate::{Command, ScriptFault, Spot, Visitor, visit_all};
 use std::alloc::{AllocError, Global};
+use std::thread::Threads;
 use thiserror::Error;
-use tl_check::{Alone, Form, Judging, Plain};
+use tl_check::{Form, Judges, Plain, scratch};
 use tl_edits::{Edit, EditFault, Log, PastFault};
 use tl_text::{ByteOut, WriteFault, write_all};
 use tl_topology::Topo;
@@ -175,12 +176,12 @@ pub fn audit_script<O: ByteOut>(
     ensures failed { IsErrOf result AuditFault.WriteFault → (O.failure_count out.new ≡ O.failure_count out.old + 1)
         × HasAuditText topo.now script.now edit (AppendsFront (O.contents out.old) (O.contents out.new)) }
 {
-    audit_script_as(&Alone::new(alloc), topo, script, edit, &Plain, out)
+    audit_script_as(alloc, topo, script, edit, &Plain, out)
 }
 
-/// The same in a form, with notes if the form has any; and by one thread or several.
-pub fn audit_script_as<J: Judging, F: Form, O: ByteOut>(
-    judging: &J,
+/// The same in a form: with notes, if the form has any.
+pub fn audit_script_as<F: Form, O: ByteOut>(
+    alloc: Global,
     topo: &Topo,
     script: &[u8],
     edit: u64,
@@ -196,11 +197,37 @@ pub fn audit_script_as<J: Judging, F: Form, O: ByteOut>(
     ensures failed { IsErrOf result AuditFault.WriteFault → (O.failure_count out.new ≡ O.failure_count out.old + 1)
         × HasAuditText topo.now script.now edit (IsPutFront F.noted (O.contents out.old) (O.contents out.new)) }
 {
-    let alloc = judging.alloc();
     let log = log_of(alloc, topo, script)?;
     let inputs = log.inputs_at(alloc, edit)?;
-    let rows = judging.scratch(&inputs)?;
+    let rows = scratch(alloc, &inputs)?;
     let text = form.audit(alloc, &inputs, edit, &rows)?;
     write_all(out, text.as_bytes())?;
     Ok(rows.len() as u64)
+}
+
+/// The same by several threads.
+pub fn audit_script_beside<R: Threads + Sync + AllocGlobal, F: Form, O: ByteOut>(
+    judges: &Judges<'_, R>,
+    topo: &Topo,
+    script: &[u8],
+    edit: u64,
+    form: &F,
+    out: &mut O,
+) -> Result<u64, AuditFault>
+    requires { O.failure_count out.old < 2 ^ 63 }
+    ensures written { IfOk result (λ count. HasAudit topo.now script.now edit count (IsPut F.noted (O.contents out.old) (O.contents out.new))) }
+    ensures quiet { OnOk result (O.failure_count out.new ≡ O.failure_count out.old) }
+    ensures stopped { (stop : AnyStop) → IsErrOf result (AuditFault.Stop stop) → IsStopAt script.now stop × (out.new ≡ out.old) }
+    ensures beyond { (n : ℕ) → IsErrOf result (AuditFault.NoSuchEdit n) → (n ≡ edit) × IsBeyond topo.now script.now edit × (out.new ≡ out.old) }
+    ensures memory { IsErrOf result AuditFault.Memory → out.new ≡ out.old }
+    ensures failed { IsErrOf result AuditFault.WriteFault → (O.failure_count out.new ≡ O.failure_count out.old + 1)
+        × HasAuditText topo.now script.now edit (IsPutFront F.noted (O.contents out.old) (O.contents out.new)) }
+{
+    let alloc = judges.alloc();
+    let log = log_of(alloc, topo, script)?;
+    let left = log.inputs_at(alloc, edit)?;
+    let found = judges.scratch(&left)?;
+    let told = form.audit(alloc, &left, edit, &found)?;
+    write_all(out, told.as_bytes())?;
+    Ok(found.len() as u64)
 }

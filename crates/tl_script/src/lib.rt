@@ -14,7 +14,7 @@ mod stop;
 mod visiting;
 
 pub use asked::{Asked, asked_by, fragment_of};
-pub use audit::{AuditFault, audit_script, audit_script_as, log_of};
+pub use audit::{AuditFault, audit_script, audit_script_as, audit_script_beside, log_of};
 pub use command::{Command, Text};
 pub use fault::ScriptFault;
 pub use input::read_script;

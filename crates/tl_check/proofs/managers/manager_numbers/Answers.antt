@@ -1,4 +1,4 @@
-use Rattle.std.proofs.Common.{◌≡◌, ◌<◌, ◌≤◌, [], ◌∷◌, ◌++◌, ℕ, List, length, take, get_or, sym, ap, subst, ◌∙◌, arith}
+use Rattle.std.proofs.Common.{◌≡◌, ◌+◌, ◌<◌, ◌≤◌, [], ◌∷◌, ◌++◌, ℕ, List, length, take, get_or, rules, sym, ap, subst, ◌∙◌, arith}
 use Rattle.std.proofs.lemmas.List.{take_all, take_more, length-take}
 use Rattle.tl_check.specs.Managers.{numbered}
 use Rattle.tl_check.proofs.Chunks.{numbered_more}
@@ -7,11 +7,11 @@ use Rattle.tl_check.proofs.managers.manager_numbers.Goals as goal
 pub loop-manager-preserved : goal.loop-manager-preserved
 loop-manager-preserved c = (
   (let managers : List (List ℕ × ℕ) = c.args.topo.now.managers in
-  let k : ℕ = c.loop-manager.manager in
-  let below : k < length managers = subst (λ n. k < n) c.manager_count-manager-end.ensures.count c.loop-manager-test.true in
-  let front : length (take k managers) ≡ k = omega (arith, length-take k managers, below) in
-  c.in_ok-push.ensures.items ∙ ap (λ (ns : List ℕ). ns ++ k ∷ []) c.loop-manager.invariant.0 ∙ ap (λ (n : ℕ). numbered 0 (take k managers) ++ n ∷ []) (sym front)
-  ∙ sym (numbered_more 0 (take k managers) (get_or managers k ([], 0))) ∙ ap (λ (ms : List (List ℕ × ℕ)). numbered 0 ms) (sym (take_more managers k ([], 0) below))),
+      let k : ℕ = c.loop-manager.manager in
+      let below : k < length managers = subst (λ n. k < n) c.manager_count-manager-end.ensures.count c.loop-manager-test.true in
+      let front : 0 + length (take k managers) ≡ k = omega (arith, length-take k managers, below) in
+      c.in_ok-push.ensures.items ∙ ap (λ (ns : List ℕ). ns ++ k ∷ []) c.loop-manager.invariant.0 ∙ ap (λ (n : ℕ). numbered 0 (take k managers) ++ n ∷ []) (sym front)
+      ∙ sym (numbered_more 0 (take k managers) (get_or managers k ([], 0))) ∙ ap (λ (ms : List (List ℕ × ℕ)). numbered 0 ms) (sym (take_more managers k ([], 0) below))),
   search rules,
 )
 

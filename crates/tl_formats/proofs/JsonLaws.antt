@@ -1,8 +1,9 @@
 -- Parts that are written as lines of JSON and merged have the lines of the whole.
 use Rattle.std.proofs.Common.{◌≡◌, ℕ, ◌==◌, inl, inr, false, List, [], ◌∷◌, ◌++◌, refl, sym, ap, subst, ◌∙◌}
-use Rattle.std.specs.Prelude.{filter, map}
+use Rattle.std.specs.Prelude.{Vec, filter, map}
 use Rattle.std.specs.List.{All, Contains, flat_map}
 use Rattle.std.specs.Option.{option_map_or}
+use Rattle.std.specs.declared.alloc.Global.{Global}
 use Rattle.std.proofs.lemmas.List.{append_assoc, append_cancel_right, map-append}
 use Rattle.std.proofs.lemmas.List.Splits.{slice_split_at}
 use Rattle.tl_text.specs.Words.{ended, lines_of}
@@ -72,7 +73,7 @@ json_parts_make_the_whole line topo fs regions watches shares whole parts texts 
     let also : (row : JsonRow) → Contains m.merged row → told_link topo (line_in row) ≡ json_link row = λ row c. told row (merged_from rows m.merged m.merge row c) in
     let whole_free : (part : List Row) → Contains parts part → AreOneLine line part = λ part c row k. free row (part_in_whole topo fs regions watches whole is shares parts h part c row k) in
     let lines : map line_in rows ≡ lines_in line parts = same_lines line m.reports parts whole_free
-    (sym m.read ∙ mapped lines_of (λ text. text.items) texts ∙ ap (map lines_of) written ∙ sym (mapped lines_of (text_by line) parts)) in
+    (sym m.read ∙ mapped lines_of (λ (text : Vec ℕ Global). text.items) texts ∙ ap (map lines_of) written ∙ sym (mapped lines_of (text_by line) parts)) in
     let merged : map line_in m.merged ≡ map line whole = lines_of_whole topo fs regions watches whole is line (told_link topo) known shares parts h cut (map line_in m.merged)
     (lines_rise line_in json_link (told_link topo) m.merged also (risen json_link m.merged m.merge.rises))
     (λ link. lines_at line_in json_link (told_link topo) link m.merged also ∙ ap (map line_in) (m.merge.same link)

@@ -29,6 +29,12 @@ joined : {X : Type 0} (line : X → List ℕ) (xs : List X) → flat_map (λ x. 
 joined line [] = refl
 joined line (x ∷ xs) = ap (λ bytes. ended (line x) ++ bytes) (joined line xs)
 
+no_item : {X : Type 0} (x : X) (xs : List X) → [] ≡ x ∷ xs → ⊥
+no_item x xs e = cc
+
+same_items : {X : Type 0} (x y : X) (xs ys : List X) → x ∷ xs ≡ y ∷ ys → (x ≡ y) × (xs ≡ ys)
+same_items x y xs ys e = (cc, cc)
+
 member : {X : Type 0} (P : X → Type 0) (xs : List X) → All P xs → (x : X) → Contains xs x → P x
 member P xs all x c = subst P c.2 (all c.0 x c.1)
 
@@ -45,15 +51,14 @@ lines_again line (x ∷ rows) free =
 same_lines : (line : Row → List ℕ) (reports : List JsonReport) (parts : List (List Row)) → ((part : List Row) → Contains parts part → AreOneLine line part)
     → map (λ report. pieces (json_rows report)) reports ≡ map (λ part. lines_of (text_by line part)) parts → map line_in (flat_map json_rows reports) ≡ lines_in line parts
 same_lines line [] [] free e = refl
-same_lines line [] (part ∷ parts) free e = absurd cc
-same_lines line (report ∷ reports) [] free e = absurd cc
+same_lines line [] (part ∷ parts) free e = absurd (no_item _ _ e)
+same_lines line (report ∷ reports) [] free e = absurd (no_item _ _ (sym e))
 same_lines line (report ∷ reports) (part ∷ parts) free e =
-    let first : pieces (json_rows report) ≡ lines_of (text_by line part) = cc in
-    let others : map (λ (other : JsonReport). pieces (json_rows other)) reports ≡ map (λ other. lines_of (text_by line other)) parts = cc in
-    let one : map line_in (json_rows report) ≡ map line part = append_cancel_right _ _ ([] ∷ []) (first ∙ lines_again line part (free part (contains_here part parts))) in
+    let same = same_items _ _ _ _ e in
+    let one : map line_in (json_rows report) ≡ map line part = append_cancel_right _ _ ([] ∷ []) (same.0 ∙ lines_again line part (free part (contains_here part parts))) in
     map-append line_in (json_rows report) (flat_map json_rows reports)
     ∙ ap (λ lines. lines ++ map line_in (flat_map json_rows reports)) one
-    ∙ ap (λ lines. map line part ++ lines) (same_lines line reports parts (λ other c. free other (contains_there part parts other c)) others)
+    ∙ ap (λ lines. map line part ++ lines) (same_lines line reports parts (λ other c. free other (contains_there part parts other c)) same.1)
 
 -- ---- links
 

@@ -1,13 +1,21 @@
 -- One line of JSON after another.
-use Rattle.std.proofs.Common.{◌≡◌, ℕ, List, [], ◌∷◌, ◌++◌, sym, ap, ◌∙◌}
-use Rattle.std.proofs.lemmas.List.{append_assoc, flat_map_more}
-use Rattle.tl_formats.specs.JsonReports.{line_text, lines_text}
+use Rattle.std.proofs.Common.{◌≡◌, ℕ, List, [], ◌∷◌, ◌++◌, Some, map, sym, ap, ◌∙◌}
+use Rattle.std.proofs.lemmas.List.{append_assoc, map-append}
+use Rattle.std.proofs.lemmas.Option.{none-some}
+use Rattle.tl_text.specs.Words.{first_line}
+use Rattle.tl_text.proofs.Cuts.{Line, first_is}
+use Rattle.tl_formats.specs.JsonReports.{line_in}
 use Rattle.tl_formats.specs.declared.json_row.JsonRow.{JsonRow}
 
--- The lines of rows and what follows them, with one row more.
-pub goes_on : (whole rest next after : List ℕ) (rows : List JsonRow) (row : JsonRow) → whole ≡ lines_text rows ++ rest → rest ≡ next ++ 10 ∷ after → row.text.now ≡ next
-    → whole ≡ lines_text (rows ++ row ∷ []) ++ after
-goes_on whole rest next after rows row w r t =
-    w ∙ ap (λ bytes. lines_text rows ++ bytes) (r ∙ ap (λ bytes. bytes ++ 10 ∷ after) (sym t))
-    ∙ sym (append_assoc (lines_text rows) (line_text row) after ∙ ap (λ bytes. lines_text rows ++ bytes) (append_assoc row.text.now (10 ∷ []) after))
-    ∙ ap (λ bytes. bytes ++ after) (flat_map_more line_text [] rows row)
+first_step : (lines : List (List ℕ)) (line : List ℕ) (after : List (List ℕ)) → first_line lines ≡ Some (line, after) → lines ≡ line ∷ after
+first_step [] line after e = absurd (none-some _ e)
+first_step (x ∷ []) line after e = absurd (none-some _ e)
+first_step (x ∷ next ∷ lines) line after e = ap (λ (q : Line). q.0 ∷ q.1) (first_is lines line after x next e)
+
+-- The lines of rows and those after them, with one row more.
+pub goes_on : (whole rest after : List (List ℕ)) (next : List ℕ) (rows : List JsonRow) (row : JsonRow) → whole ≡ map line_in rows ++ rest → first_line rest ≡ Some (next, after) → row.text.now ≡ next
+    → whole ≡ map line_in (rows ++ row ∷ []) ++ after
+goes_on whole rest after next rows row w first is =
+    w ∙ ap (λ lines. map line_in rows ++ lines) (first_step rest next after first ∙ ap (λ line. line ∷ after) (sym is))
+    ∙ sym (append_assoc (map line_in rows) (line_in row ∷ []) after)
+    ∙ ap (λ lines. lines ++ after) (sym (map-append line_in rows (row ∷ [])))

@@ -3,3 +3,4 @@ pub mod Kept
 pub mod PartLaws
 pub mod MergeLaws
 pub mod JsonLines
+pub mod JsonLaws

@@ -1,11 +1,11 @@
 -- Reports in JSON: what a line tells of its row, and what merging makes of the lines of different managers.
-use Rattle.std.specs.Prelude.{ℕ, ◌≡◌, ◌==◌, ◌-◌, ◌^◌, Bool, true, false, List, [], ◌∷◌, Vec, Option, Some, None, codes, if◌then◌else◌, is_some, map, nat_lt, option_and_then}
+use Rattle.std.specs.Prelude.{ℕ, ◌≡◌, ◌==◌, ◌-◌, ◌^◌, Bool, true, false, List, [], ◌∷◌, ◌++◌, Vec, Option, Some, None, codes, if◌then◌else◌, is_some, map, nat_lt, option_and_then}
 use Rattle.std.specs.List.{All, flat_map, list_any}
 use Rattle.std.specs.Str.{bytes_eq}
 use Rattle.serde_json.specs.Data.{Data}
 use Rattle.serde_json.specs.Find.{get, as_number, as_str, as_u64}
 use Rattle.serde_json.specs.Read.{read as data_of}
-use Rattle.tl_text.specs.Words.{◌>>=◌, ended}
+use Rattle.tl_text.specs.Words.{◌>>=◌, ended, lines_of}
 use Rattle.tl_tables.specs.declared.Rule.{Rule}
 use Rattle.tl_tables.specs.declared.Rule.TheVariants as rule
 use Rattle.tl_tables.specs.Rules.{rule_number, rule_text_of}
@@ -82,20 +82,20 @@ abbrev pub json_rows : JsonReport → List JsonRow
 json_rows report = report.rows.items
 
 -- The line of a row, as it stood.
-abbrev pub line_text : JsonRow → List ℕ
-line_text row = ended row.text.now
+abbrev pub line_in : JsonRow → List ℕ
+line_in row = row.text.now
 
--- The lines of rows.
-abbrev pub lines_text : List JsonRow → List ℕ
-lines_text rows = flat_map line_text rows
+-- The pieces of a text of these lines, of which the last is after the last newline.
+abbrev pub pieces : List JsonRow → List (List ℕ)
+pieces rows = map line_in rows ++ [] ∷ []
 
--- The text of a report.
-abbrev pub json_text : JsonReport → List ℕ
-json_text report = lines_text report.rows.items
-
--- The texts are those of the reports, one of each.
+-- The texts are the lines of the reports, one of each.
 abbrev pub AreJson : {Z : Type 0} → List (Vec ℕ Z) → List JsonReport → Type 0
-AreJson texts reports = map (λ text. text.items) texts ≡ map json_text reports
+AreJson texts reports = map (λ text. lines_of text.items) texts ≡ map (λ report. pieces (json_rows report)) reports
+
+-- The lines of rows, each with its newline.
+abbrev pub lines_text : List JsonRow → List ℕ
+lines_text rows = flat_map (λ row. ended (line_in row)) rows
 
 -- All rows are what their lines tell.
 abbrev pub AreOfTheirLines : Topology → List JsonReport → Type 0

@@ -5,3 +5,4 @@ pub mod Reasons
 pub mod Merging
 pub mod JsonReports
 pub mod Parts
+pub mod JsonParts

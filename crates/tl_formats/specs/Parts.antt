@@ -77,10 +77,14 @@ AreParts topo fragments regions watches (share ∷ shares) (part ∷ parts) = Is
 abbrev pub lines_in : {X : Type 0} → (Row → X) → List (List Row) → List X
 lines_in line parts = flat_map (map line) parts
 
+-- Each row's line tells its link.
+abbrev pub TellLinks : {X : Type 0} → (Row → X) → (X → ℕ) → List Row → Type 0
+TellLinks line of rows = (row : Row) → Contains rows row → of (line row) ≡ row.link
+
 -- The report of all is the merge of theirs, whichever shares the managers are cut into, and whatever the line of a row is, if it tells
 -- the row's link: the same lines by link, line by line.
 abbrev pub PartsMakeTheWhole : Type 0 → Type 0
 PartsMakeTheWhole X = (line : Row → X) (of : X → ℕ) (topo : Topology) (fragments : List Recorded) (regions : List (List (ℕ × Area))) (watches : List (ℕ × Watch))
-    (shares : List Share) (whole : List Row) (parts : List (List Row)) (merged : List X) → ((row : Row) → of (line row) ≡ row.link)
+    (shares : List Share) (whole : List Row) (parts : List (List Row)) (merged : List X) → TellLinks line of whole
     → IsPartition topo shares → IsReport (captures_with topo fragments regions watches) whole → AreParts topo fragments regions watches shares parts
     → IsByLink of (lines_in line parts) merged → merged ≡ map line whole

@@ -10,10 +10,7 @@ use std::alloc::{AllocError, Global};
 use tl_topology::Topo;
 
 /// The rows of all reports, one report after the other.
-pub(crate) fn all_rows<R: HasRows>(
-    alloc: Global,
-    reports: &[R],
-) -> Result<Vec<R::Row>, AllocError>
+pub(crate) fn all_rows<R: HasRows>(alloc: Global, reports: &[R]) -> Result<Vec<R::Row>, AllocError>
     ensures { IfOk result (λ rows. rows.items ≡ flat_map R.lines reports.now) }
 {
     let mut rows = Vec::new(alloc);

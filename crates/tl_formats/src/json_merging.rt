@@ -31,11 +31,7 @@ fn read_all<'a>(
 }
 
 /// The merge of reports.
-fn merged(
-    alloc: Global,
-    topo: &Topo,
-    reports: &[JsonReport<'_>],
-) -> Result<MergedText, MergeFault>
+fn merged(alloc: Global, topo: &Topo, reports: &[JsonReport<'_>]) -> Result<MergedText, MergeFault>
     ensures { IfOk result (λ made. (merged : List AnyRow)
         × IsByLink json_link (flat_map json_rows reports.now) merged × (made.text.items ≡ lines_text merged)) }
 {

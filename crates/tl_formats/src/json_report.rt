@@ -2,7 +2,8 @@
 
 ghost use Rattle.std.specs.Prelude.{◌≡◌, IfOk};
 ghost use Rattle.std.specs.List.{All};
-ghost use Rattle.tl_formats.specs.JsonReports.{json_text, lines_text, IsOfItsLine};
+ghost use Rattle.tl_text.specs.Words.{lines_of};
+ghost use Rattle.tl_formats.specs.JsonReports.{pieces, lines_text, IsOfItsLine};
 
 use crate::json_row::{JsonRow, read_row};
 use crate::report_fault::ReportFault;
@@ -35,7 +36,7 @@ pub(crate) fn read_json_report<'a>(
     topo: &Topo,
     text: &'a [u8],
 ) -> Result<JsonReport<'a>, ReportFault>
-    ensures text { IfOk result (λ report. text.now ≡ json_text report) }
+    ensures lines { IfOk result (λ report. lines_of text.now ≡ pieces report.rows.items) }
     ensures told { IfOk result (λ report. All (IsOfItsLine topo.now) report.rows.items) }
 {
     let mut rows = Vec::new(alloc);

@@ -71,7 +71,11 @@ fn rule_called(name: &str) -> Option<Rule>
     ensures { result ≡ rule_called name.now }
 {
     let rule = rule_named(name.as_bytes())?;
-    if rule_text(rule) == name { Some(rule) } else { None }
+    if rule_text(rule) == name {
+        Some(rule)
+    } else {
+        None
+    }
 }
 
 /// The rule of a row.

@@ -14,10 +14,7 @@ pub struct MergedText {
 }
 
 /// What the text at this place was read as, or its fault with the place.
-pub(crate) fn at_place<T: Drop>(
-    place: usize,
-    read: Result<T, ReportFault>,
-) -> Result<T, TextsFault>
+pub(crate) fn at_place<T: Drop>(place: usize, read: Result<T, ReportFault>) -> Result<T, TextsFault>
     ensures { IfOk result (λ report. read ≡ Ok report) }
 {
     match read {

@@ -1,13 +1,11 @@
 //! What reports of either kind have in common: rows, each of a link, one after another.
 
-ghost use Rattle.std.specs.Prelude.{◌≡◌, ◌++◌, ◌∷◌, [], OnOk};
+ghost use Rattle.std.specs.Prelude.{◌≡◌, ℕ, List, ◌++◌, ◌∷◌, [], OnOk};
 
 use crate::report_fault::ReportFault;
 
 /// A row as its line in a report tells it.
 pub(crate) trait ReportLine: Copy {
-    ghost use Rattle.std.specs.Prelude.{◌≡◌, ℕ};
-
     ghost row_link: { Self → ℕ };
 
     /// The number of its link.
@@ -20,8 +18,6 @@ pub(crate) trait ReportLine: Copy {
 
 /// A report.
 pub(crate) trait HasRows {
-    ghost use Rattle.std.specs.Prelude.{◌≡◌, List};
-
     /// What its lines tell.
     type Row: ReportLine;
 

@@ -1,11 +1,12 @@
-use Rattle.std.proofs.Common.{◌≡◌, ◌++◌, length}
+use Rattle.std.proofs.Common.{◌≡◌, ◌++◌, length, map}
 use Rattle.std.specs.List.{All}
-use Rattle.tl_formats.specs.JsonReports.{lines_text, IsOfItsLine}
+use Rattle.tl_text.specs.Words.{lines_of}
+use Rattle.tl_formats.specs.JsonReports.{line_in, IsOfItsLine}
 use Rattle.tl_formats.proofs.json_report.read_json_report.Given as goal
 
 abbrev pub invariant-loop-next : goal.invariant-loop-next
 invariant-loop-next l = record {
-  text : l.text ≡ lines_text l.rows.items ++ l.rest;
+  lines : lines_of l.text ≡ map line_in l.rows.items ++ lines_of l.rest;
   told : All (IsOfItsLine l.topo) l.rows.items;
 }
 

@@ -17,7 +17,8 @@ use Rattle.tl_definitions.specs.Positions.{Recorded, beats_of}
 use Rattle.tl_check.specs.Apart.{judged_rows, rows_of_links}
 use Rattle.tl_check.specs.Beside.{rows_of_part, AreJoined}
 use Rattle.tl_check.specs.Found.{AreFound}
-use Rattle.tl_check.specs.Managers.{captures_at, numbered}
+use Rattle.tl_check.specs.Captured.{areas_at, AllRegions}
+use Rattle.tl_check.specs.Managers.{captures_at, numbered, HasManagers}
 use Rattle.tl_check.proofs.CaptureLaws.{capture_with}
 use Rattle.tl_check.proofs.ScratchLaws.{both_found}
 
@@ -54,6 +55,10 @@ pub found_on : (topo : Topology) (regions : ℕ → List Area) (fs : List Record
 found_on topo regions fs some more old found rows first second put =
     subst (λ cs. AreFound cs rows) (sym (map-append (capture_with topo regions fs) some more))
     (both_found (captures_at topo regions fs some) (captures_at topo regions fs more) old found rows rows first second put (λ row. ((λ h. h), (λ h. h))))
+
+pub both_have : (topo : Topology) (regions : AllRegions) (fs : List Recorded) (some more : List ℕ) (one two : List Row)
+    → HasManagers topo regions fs some one → HasManagers topo regions fs more two → HasManagers topo regions fs (some ++ more) (one ++ two)
+both_have topo regions fs some more one two a b = record { found = found_on topo (areas_at regions) fs some more one two (one ++ two) a.found b.found refl }
 
 -- The rows of links are those of some and then those of the others.
 pub links_on : (m : Manager) (fs : List Recorded) (some more : List ℕ) → rows_of_links m fs (some ++ more) ≡ rows_of_links m fs some ++ rows_of_links m fs more

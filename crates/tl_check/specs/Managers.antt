@@ -51,6 +51,10 @@ AreOfManagers topo regions fs rows = AreFound (captures_of topo (areas_at region
 abbrev pub captures_at : Topology → (ℕ → List Area) → List Recorded → List ℕ → List Capture
 captures_at topo regions fs managers = map (λ manager. of_manager (manager_at topo manager (regions manager)) (manager_beats topo fs manager)) managers
 
+-- The rows are those of the managers with these numbers, in any order and any number of times.
+pub record HasManagers (topo : Topology) (regions : AllRegions) (fs : List Recorded) (managers : List ℕ) (rows : List Row) : Type 0 where
+  pub found : AreFound (captures_at topo (areas_at regions) fs managers) rows
+
 -- The numbers of items, from one on.
 abbrev pub numbered : {X : Type 0} → ℕ → List X → List ℕ
 numbered number [] = []

@@ -7,16 +7,15 @@ ghost use Rattle.tl_definitions.specs.Managers.{manager_at};
 ghost use Rattle.tl_definitions.specs.Report.{IsReport};
 ghost use Rattle.tl_check.specs.Apart.{rows_of_links};
 ghost use Rattle.tl_check.specs.Beside.{AreJoined};
-ghost use Rattle.tl_check.specs.Captured.{areas_at, captures_after};
-ghost use Rattle.tl_check.specs.Found.{AreFound};
-ghost use Rattle.tl_check.specs.Managers.{captures_at, IsPlain, AreOfManager, AreOfManagers};
+ghost use Rattle.tl_check.specs.Captured.{captures_after, captures_with};
+ghost use Rattle.tl_check.specs.Managers.{IsPlain, AreOfManager, AreOfManagers, HasManagers};
 
 use crate::checking::with_watches;
 use crate::managers::{links_rows, manager_numbers, plain_links_of, rows_of_managers, with_caches};
 use crate::standing::scratch;
 use std::alloc::{AllocError, Global};
 use std::thread::{Threads, map_chunks};
-use tl_beats::Row;
+use tl_beats::{Row, Watch};
 use tl_capture::Present;
 use tl_edits::Inputs;
 use tl_topology::{RegionMap, Topo};
@@ -108,7 +107,7 @@ impl<'a, R: Threads + Sync + AllocGlobal> Judges<'a, R> {
         managers: &[u16],
     ) -> Result<Vec<Row>, AllocError>
         requires { All (λ manager. manager < length topo.now.managers) managers.now }
-        ensures { IfOk result (λ rows. AreFound (captures_at topo.now (areas_at regions.now) present.now managers.now) rows.items) }
+        ensures { IfOk result (λ rows. HasManagers topo.now regions.now present.now managers.now rows.items) }
     {
         let alloc = self.rt.alloc();
         let share = self.share(managers.len());
@@ -149,6 +148,22 @@ impl<'a, R: Threads + Sync + AllocGlobal> Judges<'a, R> {
         self.rt.alloc()
     }
 
+    /// The report of what stands, as `check_all` makes it.
+    fn check_all(
+        &self,
+        topo: &Topo,
+        present: &Present,
+        regions: &[RegionMap],
+        watches: &[(u32, Watch)],
+    ) -> Result<Vec<Row>, AllocError>
+        ensures report { IfOk result (λ rows. IsReport (captures_with topo.now present.now regions.now watches.now) rows.items) }
+        ensures links { IfOk result (λ rows. All (λ row. row.link < length topo.now.links) rows.items) }
+    {
+        let managers = self.managers_rows(topo, present, regions)?;
+        let rows = with_watches(self.rt.alloc(), topo, present, watches, managers)?;
+        Ok(rows)
+    }
+
     /// The report of what stands, made from the beginning, as `scratch` makes it: it is the same for any number of threads. AllocError
     /// where memory is refused.
     pub fn scratch(&self, inputs: &Inputs) -> Result<Vec<Row>, AllocError>
@@ -159,9 +174,7 @@ impl<'a, R: Threads + Sync + AllocGlobal> Judges<'a, R> {
         if self.workers == 0 {
             return scratch(alloc, inputs);
         }
-        let rows = self.managers_rows(inputs.topo(), inputs.present(), inputs.regions())?;
         let watches = inputs.watches(alloc)?;
-        let all = with_watches(alloc, inputs.topo(), inputs.present(), &watches, rows)?;
-        Ok(all)
+        self.check_all(inputs.topo(), inputs.present(), inputs.regions(), &watches)
     }
 }

@@ -5,10 +5,8 @@ ghost use Rattle.std.specs.List.{All};
 ghost use Rattle.tl_topology.specs.Regions.{areas_of};
 ghost use Rattle.tl_definitions.specs.Managers.{declared_links, manager_at};
 ghost use Rattle.tl_definitions.specs.Positions.{beats_of_all, clients_of};
-ghost use Rattle.tl_check.specs.Captured.{areas_at};
-ghost use Rattle.tl_check.specs.Found.{AreFound};
 ghost use Rattle.tl_check.specs.Apart.{rows_of_links};
-ghost use Rattle.tl_check.specs.Managers.{has_caches, cached_links, plain_links, captures_at, numbered, IsPlain, AreMerged, ArePlainRows, AreOfManager, AreOfManagers};
+ghost use Rattle.tl_check.specs.Managers.{has_caches, cached_links, plain_links, numbered, IsPlain, AreMerged, ArePlainRows, AreOfManager, AreOfManagers, HasManagers};
 
 use crate::apart::add_link;
 use crate::{SpanState, check_window};
@@ -172,7 +170,7 @@ pub(crate) fn rows_of_managers(
     managers: &[u16],
 ) -> Result<Vec<Row>, AllocError>
     requires { All (λ manager. manager < length topo.now.managers) managers.now }
-    ensures { IfOk result (λ rows. AreFound (captures_at topo.now (areas_at regions.now) present.now managers.now) rows.items) }
+    ensures { IfOk result (λ rows. HasManagers topo.now regions.now present.now managers.now rows.items) }
 {
     let none = RegionMap::new(alloc);
     let mut rows = Vec::new(alloc);

@@ -11,4 +11,4 @@ returns c =
     let regions = areas_at c.args.regions.now in
     let fs = c.args.present.now in
     subst (λ cs. AreFound cs c.in_ok-rows.rows.items)
-    (ap (captures_at topo regions fs) (c.deref.ensures.value ∙ c.in_ok-managers.ensures.exact) ∙ sym (by_numbers topo regions fs 0 topo.managers)) c.in_ok-rows.ensures
+    (ap (captures_at topo regions fs) (c.deref.ensures.value ∙ c.in_ok-managers.ensures.exact) ∙ sym (by_numbers topo regions fs 0 topo.managers)) c.in_ok-rows.ensures.found

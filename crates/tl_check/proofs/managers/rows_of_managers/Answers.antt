@@ -29,7 +29,10 @@ loop-manager-preserved c =
     (c.in_ok-extend_from_slice.ensures.items ∙ ap (λ found. c.loop-manager.rows.items ++ found) c.deref.ensures.value))
 
 pub returns : goal.returns
-returns c =
-    let managers : List ℕ = c.args.managers.now in
-    let past : length managers ≤ c.loop-manager.manager-index = omega arith in
-    subst (λ ns. AreFound (captures_at c.args.topo.now (areas_at c.args.regions.now) c.args.present.now ns) c.loop-manager.rows.items) (take_all c.loop-manager.manager-index managers past) c.loop-manager.invariant
+returns c = record {
+  found =
+      let managers : List ℕ = c.args.managers.now in
+      let past : length managers ≤ c.loop-manager.manager-index = omega arith in
+      subst (λ ns. AreFound (captures_at c.args.topo.now (areas_at c.args.regions.now) c.args.present.now ns) c.loop-manager.rows.items) (take_all c.loop-manager.manager-index managers past)
+      c.loop-manager.invariant;
+}

@@ -7,4 +7,3 @@ pub mod StreamLemmas
 pub mod LawLemmas
 pub mod AcceptLemmas
 pub mod EndLemmas
-pub mod ShareLemmas

@@ -7,4 +7,3 @@ pub mod Laws
 pub mod Feeds
 pub mod Parts
 pub mod Lookouts
-pub mod Shares

@@ -1,13 +1,11 @@
 //! An input of fragments, one text after another.
 
-ghost use Rattle.std.specs.Prelude.{◌≡◌, ◌++◌, ◌+◌, ◌<◌, ◌≤◌, ◌^◌, [], ℕ, List, IfOk, OnOk, OnErr, length, drop, true};
+ghost use Rattle.std.specs.Prelude.{◌≡◌, ◌++◌, ◌+◌, ◌<◌, ◌≤◌, ◌^◌, [], ℕ, List, IfOk, OnOk, OnErr, length, true};
 ghost use Rattle.std.specs.List.{flat_map};
 ghost use Rattle.std.specs.Io.KnownBytes.{Keeps, IsAtEnd};
-ghost use Rattle.tl_text.specs.Words.{lines_of};
 ghost use Rattle.tl_beats.specs.Text.{fragment_text};
 ghost use Rattle.tl_stream.specs.Feeds.{all_left, Gives, IsCut};
 ghost use Rattle.tl_stream.specs.Parts.{joined_texts, BeginsWith};
-ghost use Rattle.tl_stream.specs.Shares.{has_end};
 
 use crate::ahead::Ahead;
 use crate::parsers::Parsers;
@@ -61,11 +59,10 @@ impl Model for Feed {
 }
 
 /// Whether a line from a place on is the last of a fragment, and the place after it; else where the line begins that no newline ends.
-pub(crate) fn sought(bytes: &[u8], from: usize) -> (bool, usize)
+fn sought(bytes: &[u8], from: usize) -> (bool, usize)
     requires { from ≤ length bytes.now }
     ensures after { from ≤ result.1 }
     ensures within { result.1 ≤ length bytes.now }
-    ensures found { result.0 ≡ has_end (lines_of (drop from bytes.now)) }
 {
     let mut place = from;
     for _ in from..bytes.len() {

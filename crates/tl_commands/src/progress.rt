@@ -32,7 +32,7 @@ pub enum SoFar {
 fn grouped(alloc: Global, number: u64) -> Result<String, AllocError> {
     let digits = format!(in alloc; "{number}")?;
     let mut text = String::new(alloc);
-    for (place, digit) in digits.char_indices() {
+    for (place, digit) in digits.chars().enumerate() {
         let left = digits.len().saturating_sub(place);
         if place > 0 && left % 3 == 0 {
             text.push(',')?;

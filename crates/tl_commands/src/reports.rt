@@ -6,7 +6,6 @@ use crate::denial::{Denial, denial_of_audit, denial_of_fragments};
 use crate::fault::Fault;
 use crate::files::{fragments_of, script_of, topology_of};
 use crate::picking::{Trouble, Written, order_of, write_audit, write_once};
-use crate::progress::{Gauge, SoFar};
 use crate::share::share_of;
 use std::rt::Files;
 use std::sync::Arc;
@@ -76,15 +75,6 @@ pub fn ending_of(outcome: Outcome, denial: Option<Denial>) -> Ending {
     }
 }
 
-/// How a report is wanted.
-#[derive(Clone, Copy)]
-pub struct Manner<'a, 'v> {
-    /// How it is made.
-    pub how: How,
-    /// Which rows are written, and in which format.
-    pub view: &'a View<'v>,
-}
-
 /// How a command ends that wrote chosen rows.
 fn ending_with(written: Result<Written, Fault>) -> Result<Ending, Fault> {
     Ok(Ending::Picked(written?, None))
@@ -95,13 +85,14 @@ fn once_picked<R: Files + Threads + Sync + AllocGlobal, O: ByteOut>(
     rt: &R,
     topo: &Topo,
     fragments: &[Arc<Fragment>],
-    manner: Manner<'_, '_>,
+    how: How,
+    view: &View<'_>,
     out: &mut O,
 ) -> Result<Ending, Fault>
     requires { O.failure_count out.old < 2 ^ 63 }
 {
-    let judges = Judges::new(rt, manner.how.workers);
-    match order_of(rt, topo, manner.how, manner.view) {
+    let judges = Judges::new(rt, how.workers);
+    match order_of(rt, topo, how, view) {
         Ok(order) => ending_with(write_once(&judges, topo, fragments, &order, out)),
         Err(trouble) => ending_without(trouble),
     }
@@ -112,16 +103,17 @@ fn once_of<R: Files + Threads + Sync + AllocGlobal, O: ByteOut>(
     rt: &R,
     topo: &Topo,
     fragments: &[Arc<Fragment>],
-    manner: Manner<'_, '_>,
+    how: How,
+    view: &View<'_>,
     out: &mut O,
 ) -> Result<Ending, Fault>
     requires { O.failure_count out.old < 2 ^ 63 }
 {
-    if manner.how.summary || !manner.view.is_whole() {
-        return once_picked(rt, topo, fragments, manner, out);
+    if how.summary || !view.is_whole() {
+        return once_picked(rt, topo, fragments, how, view, out);
     }
-    let judges = Judges::new(rt, manner.how.workers);
-    let rows = match manner.view.format {
+    let judges = Judges::new(rt, how.workers);
+    let rows = match view.format {
         Format::Shown => run_once_beside(&judges, topo, fragments, &Shown, out)?,
         _ => run_once_beside(&judges, topo, fragments, &Plain, out)?,
     };
@@ -133,37 +125,38 @@ fn once_denied<R: Files + Threads + Sync + AllocGlobal, O: ByteOut>(
     rt: &R,
     topo: &Topo,
     fragments: &[Arc<Fragment>],
-    manner: Manner<'_, '_>,
+    how: How,
+    view: &View<'_>,
     out: &mut O,
 ) -> Result<Ending, Fault>
     requires { O.failure_count out.old < 2 ^ 63 }
 {
-    let ending = once_of(rt, topo, fragments, manner, out)?;
-    Ok(ending.denied_by(denial_of_fragments(manner.how.deny, fragments)))
+    let ending = once_of(rt, topo, fragments, how, view, out)?;
+    Ok(ending.denied_by(denial_of_fragments(how.deny, fragments)))
 }
 
 /// The report of the fragments of files on a topology, of those of a share; words stand for their files.
-fn once_shared<R: Files + Threads + Sync + AllocGlobal + Clone + Drop, G: Gauge, O: ByteOut>(
+fn once_shared<R: Files + Threads + Sync + AllocGlobal + Clone + Drop, O: ByteOut>(
     rt: &R,
     sieve: Sieve<'_>,
     words: &[&str],
-    manner: Manner<'_, '_>,
-    gauge: &mut G,
+    how: How,
+    view: &View<'_>,
     out: &mut O,
 ) -> Result<Ending, Fault>
     requires { O.failure_count out.old < 2 ^ 63 }
 {
-    let fragments = fragments_of(rt, words, sieve, manner.how.workers, gauge)?;
-    once_denied(rt, sieve.topo, &fragments, manner, out)
+    let fragments = fragments_of(rt, words, sieve, how.workers)?;
+    once_denied(rt, sieve.topo, &fragments, how, view, out)
 }
 
 /// The report of the fragments of a capture's files on a topology.
-fn once_on<R: Files + Threads + Sync + AllocGlobal + Clone + Drop, G: Gauge, O: ByteOut>(
+fn once_on<R: Files + Threads + Sync + AllocGlobal + Clone + Drop, O: ByteOut>(
     rt: &R,
     topo: &Topo,
     capture: &Capture<'_>,
-    manner: Manner<'_, '_>,
-    gauge: &mut G,
+    how: How,
+    view: &View<'_>,
     out: &mut O,
 ) -> Result<Ending, Fault>
     requires { O.failure_count out.old < 2 ^ 63 }
@@ -174,7 +167,7 @@ fn once_on<R: Files + Threads + Sync + AllocGlobal + Clone + Drop, G: Gauge, O: 
                 topo,
                 share: &share,
             };
-            once_shared(rt, sieve, &capture.fragments, manner, gauge, out)
+            once_shared(rt, sieve, &capture.fragments, how, view, out)
         }
         Err(trouble) => ending_without(trouble),
     }
@@ -182,25 +175,20 @@ fn once_on<R: Files + Threads + Sync + AllocGlobal + Clone + Drop, G: Gauge, O: 
 
 /// Writes the report of the fragments of a capture's files on a file's topology. A word stands for its file, `-` for standard input, a
 /// folder for its files, and `@LIST` for the files that the lines of LIST name. Where managers are named, the fragments of other known
-/// links are passed over. With workers, so many threads read files and judge beside this one. The gauge is told of each file that was
-/// read. The fault of the first file that has one, that of the first fragment that is refused after those before it, want of memory, or
-/// a write that fails.
-pub fn once_of_files<
-    R: Files + Threads + Sync + AllocGlobal + Clone + Drop,
-    G: Gauge,
-    O: ByteOut,
->(
+/// links are passed over. With workers, so many threads read files and judge beside this one. The fault of the first file that has one,
+/// that of the first fragment that is refused after those before it, want of memory, or a write that fails.
+pub fn once_of_files<R: Files + Threads + Sync + AllocGlobal + Clone + Drop, O: ByteOut>(
     rt: &R,
     topology: &str,
     capture: &Capture<'_>,
-    manner: Manner<'_, '_>,
-    gauge: &mut G,
+    how: How,
+    view: &View<'_>,
     out: &mut O,
 ) -> Result<Ending, Fault>
     requires { O.failure_count out.old < 2 ^ 63 }
 {
     let topo = topology_of(rt, topology)?;
-    once_on(rt, &topo, capture, manner, gauge, out)
+    once_on(rt, &topo, capture, how, view, out)
 }
 
 /// The edits that an audit looks at.
@@ -229,14 +217,15 @@ struct Audit<'a> {
 fn audit_picked<R: Files + Threads + Sync + AllocGlobal, O: ByteOut>(
     rt: &R,
     audit: Audit<'_>,
-    manner: Manner<'_, '_>,
+    how: How,
+    view: &View<'_>,
     out: &mut O,
 ) -> Result<Ending, Fault>
     requires { O.failure_count out.old < 2 ^ 63 }
 {
     let Audit { topo, script, edit } = audit;
-    let judges = Judges::new(rt, manner.how.workers);
-    match order_of(rt, topo, manner.how, manner.view) {
+    let judges = Judges::new(rt, how.workers);
+    match order_of(rt, topo, how, view) {
         Ok(order) => ending_with(write_audit(&judges, topo, script, edit, &order, out)),
         Err(trouble) => ending_without(trouble),
     }
@@ -246,17 +235,18 @@ fn audit_picked<R: Files + Threads + Sync + AllocGlobal, O: ByteOut>(
 fn audit_of<R: Files + Threads + Sync + AllocGlobal, O: ByteOut>(
     rt: &R,
     audit: Audit<'_>,
-    manner: Manner<'_, '_>,
+    how: How,
+    view: &View<'_>,
     out: &mut O,
 ) -> Result<Ending, Fault>
     requires { O.failure_count out.old < 2 ^ 63 }
 {
-    if manner.how.summary || !manner.view.is_whole() {
-        return audit_picked(rt, audit, manner, out);
+    if how.summary || !view.is_whole() {
+        return audit_picked(rt, audit, how, view, out);
     }
     let Audit { topo, script, edit } = audit;
-    let judges = Judges::new(rt, manner.how.workers);
-    let rows = match manner.view.format {
+    let judges = Judges::new(rt, how.workers);
+    let rows = match view.format {
         Format::Shown => audit_script_beside(&judges, topo, script, edit, &Shown, out)?,
         _ => audit_script_beside(&judges, topo, script, edit, &Plain, out)?,
     };
@@ -267,50 +257,48 @@ fn audit_of<R: Files + Threads + Sync + AllocGlobal, O: ByteOut>(
 fn audit_denied<R: Files + Threads + Sync + AllocGlobal, O: ByteOut>(
     rt: &R,
     audit: Audit<'_>,
-    manner: Manner<'_, '_>,
+    how: How,
+    view: &View<'_>,
     out: &mut O,
 ) -> Result<Ending, Fault>
     requires { O.failure_count out.old < 2 ^ 63 }
 {
-    let ending = audit_of(rt, audit, manner, out)?;
-    let deny = manner.how.deny;
-    let denial = denial_of_audit(deny, rt.alloc(), audit.topo, audit.script, audit.edit)?;
+    let ending = audit_of(rt, audit, how, view, out)?;
+    let denial = denial_of_audit(how.deny, rt.alloc(), audit.topo, audit.script, audit.edit)?;
     Ok(ending.denied_by(denial))
 }
 
 /// What checking everything anew finds after so many accepted edits of a file's script, on a topology.
-fn audit_on<R: Files + Threads + Sync + AllocGlobal, G: Gauge, O: ByteOut>(
+fn audit_on<R: Files + Threads + Sync + AllocGlobal, O: ByteOut>(
     rt: &R,
     topo: &Topo,
     past: Past<'_>,
-    manner: Manner<'_, '_>,
-    gauge: &mut G,
+    how: How,
+    view: &View<'_>,
     out: &mut O,
 ) -> Result<Ending, Fault>
     requires { O.failure_count out.old < 2 ^ 63 }
 {
     let script = script_of(rt, past.script)?;
-    gauge.tell(SoFar::Script(script.len()));
     let audit = Audit {
         topo,
         script: &script,
         edit: past.edit,
     };
-    audit_denied(rt, audit, manner, out)
+    audit_denied(rt, audit, how, view, out)
 }
 
 /// Writes what checking everything anew finds after so many accepted edits of a file's script, on a file's topology. With workers, so
-/// many threads judge beside this one. The gauge is told that the script was read. The fault of the topology or of the script, want of
-/// memory, or a write that fails.
-pub fn audit_of_files<R: Files + Threads + Sync + AllocGlobal, G: Gauge, O: ByteOut>(
+/// many threads judge beside this one. The fault of the topology or of the script, want of memory, or a write that fails.
+pub fn audit_of_files<R: Files + Threads + Sync + AllocGlobal, O: ByteOut>(
     rt: &R,
     past: Past<'_>,
-    manner: Manner<'_, '_>,
-    gauge: &mut G,
+    how: How,
+    view: &View<'_>,
     out: &mut O,
 ) -> Result<Ending, Fault>
     requires { O.failure_count out.old < 2 ^ 63 }
 {
     let topo = topology_of(rt, past.topology)?;
-    audit_on(rt, &topo, past, manner, gauge, out)
+    audit_on(rt, &topo, past, how, view, out)
 }

@@ -1,0 +1,9 @@
+pub mod MemberLaws
+pub mod ReadingLaws
+pub mod BoundLaws
+pub mod CountLaws
+pub mod CountedLaws
+pub mod OpenedLaws
+pub mod KnownLaws
+pub mod StandLaws
+pub mod Results

@@ -1,0 +1,9 @@
+pub mod Members
+pub mod Reading
+pub mod Seen
+pub mod Readings
+pub mod Known
+pub mod KnownTable
+pub mod CountedTable
+pub mod KnownBounds
+pub mod KnownLink

@@ -1,0 +1,149 @@
+//! Which permissions the bounds of a client may be.
+
+ghost use Rattle.std.specs.Prelude.{◌≡◌, ℕ, ◌==◌, true, false, Some, OnOk, if◌then◌else◌};
+ghost use Rattle.std.specs.BTreeSet.{contains};
+ghost use Rattle.std.specs.Ordering.{nat_cmp};
+ghost use Rattle.tl_tables.specs.declared.Perm.{Perm as AnyPerm};
+ghost use Rattle.tl_definitions.specs.Known.{same_perm, claimed_after, any_block_after};
+ghost use Rattle.tl_midway.specs.KnownBounds.{possible_of};
+
+use std::alloc::{AllocError, Global};
+use std::collections::BTreeSet;
+use tl_tables::Perm;
+
+/// Which permissions a bound may be.
+#[derive(Clone, Copy, Debug)]
+pub struct Possible {
+    /// It may be Nothing.
+    pub nothing: bool,
+    /// It may be Branch.
+    pub branch: bool,
+    /// It may be Trunk.
+    pub trunk: bool,
+}
+
+/// Which permissions the bound of each block may be.
+#[derive(Drop)]
+pub struct KnownBounds {
+    /// The blocks whose bound is surely not Nothing, and so on: a block in no set may have any bound. That the bounds of all
+    /// blocks may be a permission empties its set, which takes no longer than it took to fill it.
+    not_nothing: BTreeSet<u64>,
+    not_branch: BTreeSet<u64>,
+    not_trunk: BTreeSet<u64>,
+}
+
+/// Whether both are the same permission.
+fn same_perm(one: Perm, other: Perm) -> bool
+    ensures { result ≡ same_perm one other }
+{
+    one == other
+}
+
+/// Takes the block out of the set.
+fn take_out(blocks: &mut BTreeSet<u64>, block: u64)
+    ensures { (other : ℕ) → contains nat_cmp blocks.new other ≡ (if block == other then false else contains nat_cmp blocks.old other) }
+{
+    blocks.remove(&block);
+}
+
+/// Puts the block into the set, or takes it out.
+fn put(blocks: &mut BTreeSet<u64>, block: u64, is_in: bool) -> Result<(), AllocError>
+    ensures { OnOk result ((other : ℕ) → contains nat_cmp blocks.new other ≡ (if block == other then is_in else contains nat_cmp blocks.old other)) }
+{
+    if is_in {
+        blocks.insert(block)?;
+    } else {
+        take_out(blocks, block);
+    }
+    Ok(())
+}
+
+impl KnownBounds {
+    ghost use Rattle.tl_midway.specs.KnownBounds.{may_be, AreBounds};
+
+    /// Each bound may be any permission.
+    pub fn new(alloc: Global) -> KnownBounds
+        ensures { AreBounds result (λ block held. true) }
+    {
+        KnownBounds {
+            not_nothing: BTreeSet::new(alloc),
+            not_branch: BTreeSet::new(alloc),
+            not_trunk: BTreeSet::new(alloc),
+        }
+    }
+
+    /// Which permissions the bound of the block may be.
+    pub fn get(&self, block: u64) -> Possible
+        ensures { (held : AnyPerm) → possible_of result held ≡ may_be self.now block held }
+    {
+        Possible {
+            nothing: !self.not_nothing.contains(&block),
+            branch: !self.not_branch.contains(&block),
+            trunk: !self.not_trunk.contains(&block),
+        }
+    }
+
+    /// The bound of the block is this.
+    fn set(&mut self, block: u64, perm: Perm) -> Result<(), AllocError>
+        ensures { OnOk result (AreBounds self.new (claimed_after true (Some (block, perm)) (may_be self.old))) }
+    {
+        put(
+            &mut self.not_nothing,
+            block,
+            !same_perm(perm, Perm::Nothing),
+        )?;
+        put(&mut self.not_branch, block, !same_perm(perm, Perm::Branch))?;
+        put(&mut self.not_trunk, block, !same_perm(perm, Perm::Trunk))?;
+        Ok(())
+    }
+
+    /// The bound of the block may be this too.
+    fn join(&mut self, block: u64, perm: Perm)
+        ensures { AreBounds self.new (claimed_after false (Some (block, perm)) (may_be self.old)) }
+    {
+        match perm {
+            Perm::Nothing => take_out(&mut self.not_nothing, block),
+            Perm::Branch => take_out(&mut self.not_branch, block),
+            Perm::Trunk => take_out(&mut self.not_trunk, block),
+        }
+    }
+
+    /// A message sets the bound of this block, if it sets one; where it may be a later beat, the bound may be what it was too.
+    /// AllocError where memory is refused: then the bounds are for nothing more.
+    pub fn claim(&mut self, certain: bool, claim: Option<(u64, Perm)>) -> Result<(), AllocError>
+        ensures { OnOk result (AreBounds self.new (claimed_after certain claim (may_be self.old))) }
+    {
+        match claim {
+            Some((block, perm)) => {
+                if certain {
+                    self.set(block, perm)?;
+                } else {
+                    self.join(block, perm);
+                }
+            }
+            None => {}
+        }
+        Ok(())
+    }
+
+    /// The bound of any block may be this too, if it is something.
+    pub fn join_all(&mut self, cap: Option<Perm>)
+        ensures { AreBounds self.new (any_block_after cap (may_be self.old)) }
+    {
+        match cap {
+            Some(perm) => self.join_each(perm),
+            None => {}
+        }
+    }
+
+    /// The bound of any block may be this too.
+    fn join_each(&mut self, perm: Perm)
+        ensures { AreBounds self.new (any_block_after (Some perm) (may_be self.old)) }
+    {
+        match perm {
+            Perm::Nothing => self.not_nothing.clear(),
+            Perm::Branch => self.not_branch.clear(),
+            Perm::Trunk => self.not_trunk.clear(),
+        }
+    }
+}

@@ -1,0 +1,19 @@
+//! Captures that begin in the middle of a run: what the next beat of a channel may be, and what is known of a link's past.
+#![tactic(auto)]
+
+mod counted;
+mod known;
+mod known_bounds;
+mod known_link;
+mod known_rules;
+mod reading;
+mod readings;
+mod seen;
+mod table;
+
+pub use known::Known;
+pub use known_bounds::Possible;
+pub use known_link::KnownLink;
+pub use reading::Reading;
+pub use readings::Readings;
+pub use seen::Seen;

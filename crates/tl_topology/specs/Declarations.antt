@@ -9,7 +9,7 @@ use Rattle.tl_topology.specs.declared.fault.TopoFault.{TopoFault}
 use Rattle.tl_topology.specs.declared.fault.TopoFault.TheVariants as fault
 use Rattle.tl_topology.specs.Topology.{Topology, is_named, exponent_of, is_width, is_size, may_be_strict}
 use Rattle.tl_topology.specs.Reading.{manager_named}
-use Rattle.tl_topology.specs.Text.{Declaration, Document, a_manager, a_link, IsSpelled}
+use Rattle.tl_topology.specs.Text.{Declaration, Document, a_manager, a_link, topology_text, IsSpelled}
 
 -- A rule: whether it is kept, and the fault of a line that breaks it, by the line's number.
 abbrev pub Rule : Type 0
@@ -83,3 +83,7 @@ IsDeclaredInOrder document = AreLawful document.version nothing document.declara
 -- Managers and links are each numbered from 0 in their order.
 unfoldable pub topology_of : List Declaration → Topology
 topology_of declarations = with_all nothing declarations
+
+-- What reading a document gives: its topology, and the number of the bytes of its text.
+abbrev pub reading_of : Document → Topology × ℕ
+reading_of document = (topology_of document.declarations, length (topology_text document))

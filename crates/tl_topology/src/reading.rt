@@ -7,7 +7,7 @@ ghost use Rattle.tl_text.specs.Readings.{Gives};
 ghost use Rattle.tl_topology.specs.Faults.{is_memory};
 ghost use Rattle.tl_topology.specs.Reading.{version_at, level_at, manager_at, sizes_at, mark_at, sources_at, link_at, declared, topology_in};
 ghost use Rattle.tl_topology.specs.Text.{Document, topology_text};
-ghost use Rattle.tl_topology.specs.Declarations.{IsDeclaredInOrder, topology_of};
+ghost use Rattle.tl_topology.specs.Declarations.{IsDeclaredInOrder, topology_of, reading_of};
 ghost use Rattle.tl_topology.specs.FirstFault.{IsFirstFault};
 
 use crate::fault::TopoFault;
@@ -208,7 +208,7 @@ pub fn read_topo(alloc: Global, bytes: &[u8]) -> Result<(Topo, usize), TopoFault
     // What is read is the text of lawful declarations at the front, as the topology that they make.
     ensures found { IfOk result (λ x. (document : Document) × (IsDeclaredInOrder document × (x.0 ≡ topology_of document.declarations) × (take x.1 bytes.now ≡ topology_text document))) }
     // Where the text of lawful declarations stands at the front, it is read, unless memory runs out.
-    ensures only { (document : Document) (rest : List ℕ) → IsDeclaredInOrder document → bytes.now ≡ topology_text document ++ rest → Gives is_memory (λ x. x) result (Ok (topology_of document.declarations, length (topology_text document))) }
+    ensures only { (document : Document) (rest : List ℕ) → IsDeclaredInOrder document → bytes.now ≡ topology_text document ++ rest → Gives is_memory (λ x. x) result (Ok (reading_of document)) }
     // A refusal is the first fault, unless memory ran out.
     ensures first { IfErr result (λ fault. is_memory fault ≡ false → IsFirstFault (lines_of bytes.now) fault) }
 {

@@ -1,6 +1,7 @@
 -- The one spelling of a fragment.
-use Rattle.std.specs.Prelude.{ℕ, List, [], ◌∷◌, ◌++◌, map, codes}
+use Rattle.std.specs.Prelude.{ℕ, ◌≤◌, List, [], ◌∷◌, ◌++◌, length, take, map, codes, Option}
 use Rattle.std.specs.List.{flat_map}
+use Rattle.std.specs.Io.KnownBytes.{Appends}
 use Rattle.tl_text.specs.Numbers.{numeral}
 use Rattle.tl_text.specs.Names.{bit}
 use Rattle.tl_text.specs.Words.{◌␣◌, ended}
@@ -40,3 +41,7 @@ fragment_lines f = header_text f ∷ (map beat_text f.beats ++ codes "end" ∷ [
 
 unfoldable pub fragment_text : Frag → List ℕ
 fragment_text f = flat_map ended (fragment_lines f)
+
+-- A front of these bytes was written.
+abbrev pub IsFront : Option (List ℕ) → Option (List ℕ) → List ℕ → Type 0
+IsFront old new bytes = (n : ℕ) × (n ≤ length bytes) × Appends old new (take n bytes)

@@ -1,13 +1,13 @@
 //! The text of a fragment, written.
 
-ghost use Rattle.std.specs.Prelude.{◌≡◌, ◌+◌, ◌<◌, ◌≤◌, ◌^◌, ◌∷◌, [], ℕ, codes, IfErr, OnOk, length, map, take};
+ghost use Rattle.std.specs.Prelude.{◌≡◌, ◌+◌, ◌<◌, ◌^◌, ◌∷◌, [], codes, IfErr, OnOk, map};
 ghost use Rattle.std.specs.List.{flat_map};
 ghost use Rattle.std.specs.Result.{IsErrOf};
 ghost use Rattle.std.specs.Io.KnownBytes.{Appends};
 ghost use Rattle.tl_text.specs.Written.{Writes};
 ghost use Rattle.tl_text.specs.Numbers.{numeral};
 ghost use Rattle.tl_text.specs.Words.{◌␣◌, ended};
-ghost use Rattle.tl_beats.specs.Text.{fields_text, beat_text, header_text, fragment_text};
+ghost use Rattle.tl_beats.specs.Text.{fields_text, beat_text, header_text, fragment_text, IsFront};
 
 use crate::Beat;
 use crate::fault::FragmentFault;
@@ -150,7 +150,7 @@ pub fn write_fragment<O: ByteOut>(fragment: &Fragment, out: &mut O) -> Result<()
     ensures wrote { OnOk result (Appends (O.contents out.old) (O.contents out.new) (fragment_text fragment.now)) }
     ensures quiet { OnOk result (O.failure_count out.new ≡ O.failure_count out.old) }
     ensures failed { IsErrOf result FragmentFault.WriteFault → (O.failure_count out.new ≡ O.failure_count out.old + 1)
-        × ((n : ℕ) × (n ≤ length (fragment_text fragment.now)) × Appends (O.contents out.old) (O.contents out.new) (take n (fragment_text fragment.now))) }
+        × IsFront (O.contents out.old) (O.contents out.new) (fragment_text fragment.now) }
     ensures fault { IfErr result (λ e. e ≡ FragmentFault.WriteFault) }
 {
     write_text(fragment, out)?;

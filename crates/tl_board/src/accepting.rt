@@ -16,8 +16,8 @@ use crate::{Touched, grow, keys_of, prune, touch_each, touches_of};
 use std::alloc::{AllocError, Global};
 use std::sync::Arc;
 use tl_beats::Watch;
+use tl_capture::PieceKey;
 use tl_edits::{Change, Edit, EditFault};
-use tl_results::PieceKey;
 
 impl Watches {
     /// Accepts an edit and answers its number, or refuses it: the first cause of `EditFault`, which stands then, or Memory where

@@ -2,9 +2,9 @@
 
 ghost use Rattle.std.specs.Prelude.{◌≡◌, ◌<◌, [], length, IfOk, IfSome, OnErr, Some, is_some, true};
 ghost use Rattle.std.specs.Bool.{Decides};
-ghost use Rattle.tl_results.specs.Keys.{change};
-ghost use Rattle.tl_results.specs.Marks.{pass_of};
-ghost use Rattle.tl_results.specs.Pieces.{piece_at, entry_for, with_pieces, with_result, IsBoard, IsSettled, IsFirstWanted, HasTrueEntry};
+ghost use Rattle.tl_capture.specs.Keys.{change};
+ghost use Rattle.tl_capture.specs.Marks.{pass_of};
+ghost use Rattle.tl_capture.specs.Pieces.{piece_at, entry_for, with_pieces, with_result, IsBoard, IsSettled, IsFirstWanted, HasTrueEntry};
 ghost use Rattle.tl_check.specs.Captured.{areas_at};
 ghost use Rattle.tl_check.specs.Found.{AreFound};
 ghost use Rattle.tl_definitions.specs.Captures.{captures_of};
@@ -17,9 +17,9 @@ use std::alloc::{AllocError, Global};
 use std::marker::Model;
 use std::sync::Arc;
 use tl_beats::Row;
+use tl_capture::PieceMap;
 use tl_check::SpanState;
 use tl_edits::Log;
-use tl_results::PieceMap;
 use tl_state::Same;
 use tl_topology::Topo;
 

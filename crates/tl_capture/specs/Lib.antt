@@ -9,3 +9,10 @@ pub mod Rising
 pub mod Cursors
 pub mod Waiting
 pub mod Walk
+pub mod Keys
+pub mod Tallies
+pub mod Slots
+pub mod Pieces
+pub mod Marks
+pub mod PieceWalk
+pub mod BoardLaws

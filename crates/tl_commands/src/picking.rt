@@ -14,8 +14,9 @@ use tl_advice::report_summary;
 use tl_beats::{Fragment, Row};
 use tl_check::{Judges, all_added};
 use tl_edits::Inputs;
-use tl_formats::{Format, Pick, Title, Waiver, WaiverFault, print_rows, read_waivers};
+use tl_formats::{Pick, Title, Waiver, WaiverFault, print_rows, read_waivers};
 use tl_options::{How, View};
+use tl_rows::Format;
 use tl_text::{ByteOut, CountedReader, TextFault, read_text, write_all};
 use tl_topology::{Name, Topo};
 

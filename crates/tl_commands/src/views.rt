@@ -15,12 +15,11 @@ use tl_beats::{Fragment, Row};
 use tl_check::{all_added, scratch};
 use tl_edits::Inputs;
 use tl_options::Picture;
+use tl_rows::{Drawing, row_named};
 use tl_tables::rule_text;
 use tl_text::{ByteOut, write_all};
 use tl_topology::Topo;
-use tl_view::{
-    Drawing, Scene, dump_text, image_text, ladder_text, row_named, savefile_text, scene_of,
-};
+use tl_view::{Scene, dump_text, image_text, ladder_text, savefile_text, scene_of};
 
 /// Puts the name of a rule after others.
 fn push_rule(row: &Row, rules: &mut String) -> Result<(), AllocError> {

@@ -5,7 +5,7 @@ ghost use Rattle.std.specs.Bool.{Decides};
 ghost use Rattle.std.specs.Option.{option_map};
 ghost use Rattle.std.specs.Result.{IsErrOf};
 ghost use Rattle.tl_desk.specs.declared.job.Done.TheVariants as a_done;
-ghost use Rattle.tl_results.specs.Pieces.{piece_at, IsFirstFree};
+ghost use Rattle.tl_capture.specs.Pieces.{piece_at, IsFirstFree};
 ghost use Rattle.tl_check.specs.States.{SameSpan};
 ghost use Rattle.tl_board.specs.Windows.{key_of};
 ghost use Rattle.tl_desk.specs.declared.piece.Piece.TheVariants as piece;
@@ -20,7 +20,7 @@ use crate::{Done, HandIn, MonitorDone, MonitorJob, Piece, TakeFault};
 use std::alloc::Global;
 use tl_board::{Watches, is_watch, watch_key};
 use tl_monitor::{Boxes, Monitor};
-use tl_results::PieceKey;
+use tl_capture::PieceKey;
 
 /// If a ticket is a window's live one, the window has none any more. Answers whether it was.
 fn unmark(windows: &mut Watches, key: PieceKey, ticket: u64) -> bool

@@ -9,7 +9,7 @@ use crate::Piece;
 use crate::desk::Desk;
 use tl_board::Watches;
 use tl_monitor::Monitor;
-use tl_results::PieceKey;
+use tl_capture::PieceKey;
 
 /// Whether a ticket is the live one of a window of a manager.
 fn is_live_at(windows: &Watches, key: PieceKey, ticket: u64) -> bool

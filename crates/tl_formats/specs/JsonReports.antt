@@ -12,7 +12,7 @@ use Rattle.tl_tables.specs.Rules.{rule_number, rule_text_of}
 use Rattle.tl_topology.specs.Naming.{name_at}
 use Rattle.tl_topology.specs.Topology.{Topology, number_of_name}
 use Rattle.tl_formats.specs.Merging.{IsByLink, Merges}
-use Rattle.tl_formats.specs.Waivers.{named_rule}
+use Rattle.tl_rows.specs.Choice.{named_rule}
 use Rattle.tl_formats.specs.declared.json_report.JsonReport.{JsonReport}
 use Rattle.tl_formats.specs.declared.json_row.JsonRow.{JsonRow}
 use Rattle.tl_formats.specs.declared.report_row.ReportRow.{ReportRow}

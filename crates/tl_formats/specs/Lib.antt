@@ -1,7 +1,6 @@
 pub mod Picks
 pub mod Waivers
 pub mod Printed
-pub mod Reasons
 pub mod Merging
 pub mod JsonReports
 pub mod Parts

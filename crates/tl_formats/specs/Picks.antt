@@ -1,16 +1,12 @@
 -- Which rows are wanted, which are known, and which are left.
-use Rattle.std.specs.Prelude.{ℕ, ◌==◌, ◌&&◌, ◌||◌, not, Bool, true, List, Option, Some, None, length, nat_le}
+use Rattle.std.specs.Prelude.{ℕ, ◌==◌, ◌&&◌, ◌||◌, not, Bool, true, List, Option, Some, None, length}
 use Rattle.std.specs.List.{list_any}
 use Rattle.tl_tables.specs.declared.Rule.{Rule}
 use Rattle.tl_tables.specs.Rules.{rule_number}
 use Rattle.tl_beats.specs.declared.Row.{Row}
-use Rattle.tl_formats.specs.declared.pick.Cycles.{Cycles}
+use Rattle.tl_rows.specs.Choice.{has_cycle}
 use Rattle.tl_formats.specs.declared.pick.Waiver.{Waiver}
 use Rattle.tl_formats.specs.declared.pick.Pick.{Pick}
-
--- The cycle is one of these; the first and the last are.
-abbrev pub has_cycle : Cycles → ℕ → Bool
-has_cycle cycles cycle = nat_le cycles.first cycle && nat_le cycle cycles.last
 
 -- It is the named one, where one is named.
 abbrev pub is_rule : Option Rule → Rule → Bool

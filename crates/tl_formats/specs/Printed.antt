@@ -3,8 +3,8 @@ use Rattle.std.specs.Prelude.{◌≡◌, ℕ, List}
 use Rattle.tl_topology.specs.Topology.{Topology}
 use Rattle.tl_beats.specs.declared.Row.{Row}
 use Rattle.tl_check.specs.Output.{report_bytes, audit_bytes}
-use Rattle.tl_formats.specs.declared.format.Format.{Format}
-use Rattle.tl_formats.specs.declared.format.Format.TheVariants as format
+use Rattle.tl_rows.specs.declared.format.Format.{Format}
+use Rattle.tl_rows.specs.declared.format.Format.TheVariants as format
 use Rattle.tl_formats.specs.declared.output.Title.{Title}
 use Rattle.tl_formats.specs.declared.output.Title.TheVariants as title
 

@@ -1,15 +1,15 @@
 -- Reading waivers from the first line on, up to the first fault.
-use Rattle.std.specs.Prelude.{ℕ, ◌+◌, ◌-◌, ◌^◌, ◌==◌, Bool, true, false, List, [], ◌∷◌, ◌++◌, codes, find, length, Option, Some, None, Result, Ok, nat_le, if◌then◌else◌}
+use Rattle.std.specs.Prelude.{ℕ, ◌+◌, ◌-◌, ◌^◌, ◌==◌, Bool, true, false, List, [], ◌∷◌, ◌++◌, codes, length, Option, Some, None, Result, Ok, nat_le, if◌then◌else◌}
 use Rattle.std.specs.Option.{option_to_list}
-use Rattle.std.specs.Str.{bytes_eq, str_eq_ignore_ascii_case}
+use Rattle.std.specs.Str.{bytes_eq}
 use Rattle.tl_text.specs.Words.{◌>>=◌, word_at}
 use Rattle.tl_text.specs.Numbers.{number_at}
 use Rattle.tl_text.specs.Readings.{◌>>>◌, or_fault}
 use Rattle.tl_tables.specs.declared.Rule.{Rule}
-use Rattle.tl_tables.specs.Rules.{rule_text_of, all_rules}
 use Rattle.tl_topology.specs.Naming.{name_at}
 use Rattle.tl_topology.specs.Topology.{Topology, number_of_name}
-use Rattle.tl_formats.specs.declared.pick.Cycles.{Cycles}
+use Rattle.tl_rows.specs.declared.cycles.Cycles.{Cycles}
+use Rattle.tl_rows.specs.Choice.{named_rule}
 use Rattle.tl_formats.specs.declared.pick.Waiver.{Waiver}
 use Rattle.tl_formats.specs.declared.waiver_fault.WaiverFault.{WaiverFault}
 use Rattle.tl_formats.specs.declared.waiver_fault.WaiverFault.TheVariants as fault
@@ -19,14 +19,6 @@ is_memory fault.Memory = true
 is_memory _ = false
 
 -- ---- words
-
--- a report calls the rule so, in any case of letters
-abbrev pub is_called : List ℕ → Rule → Bool
-is_called name broken = str_eq_ignore_ascii_case (rule_text_of broken) name
-
--- the rule that a word names; its opaque name keeps the table out of goals
-unfoldable pub named_rule : List ℕ → Option Rule
-named_rule name = find (is_called name) all_rules
 
 -- a rule, or any for '*'
 unfoldable pub rule_at : List ℕ → Option (Option Rule)

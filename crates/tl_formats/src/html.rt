@@ -4,7 +4,7 @@ ghost use Rattle.std.specs.Prelude.{◌<◌, length};
 ghost use Rattle.std.specs.List.{All};
 ghost use Rattle.tl_show.specs.Lines.{IsSoundTold};
 
-use crate::json::{place_of, reason_of};
+use crate::json::reason_of;
 use crate::output::Title;
 use crate::page::BEFORE_DATA;
 use crate::page_script::AFTER_DATA;
@@ -150,7 +150,7 @@ fn rules_members(alloc: Global) -> Result<String, AllocError> {
 
 /// The link and the cycle of the earlier beat that a reason names, if any.
 fn earlier_item(alloc: Global, reason: &Option<Reason>) -> Result<String, AllocError> {
-    match reason.as_ref().and_then(place_of) {
+    match reason.as_ref().and_then(Reason::place) {
         Some(place) => {
             let link = place.link;
             let cycle = place.beat.cycle;

@@ -1,9 +1,5 @@
 //! Rows as lines of JSON. All text in them is names of links, messages, params and rules, which JSON has as they are.
 
-ghost use Rattle.std.specs.Prelude.{◌≡◌};
-ghost use Rattle.std.specs.Option.{option_copied};
-ghost use Rattle.tl_formats.specs.Reasons.{named_place};
-
 use crate::beat::beat_text;
 use std::alloc::{AllocError, Global};
 use tl_beats::{Beat, Placed, Row};
@@ -39,22 +35,6 @@ fn reason_word(reason: &Option<Reason>) -> &'static str {
     match reason {
         Some(reason) => kind(reason),
         None => "not_told",
-    }
-}
-
-/// The beat that a reason names; None where it names none.
-pub fn place_of(reason: &Reason) -> Option<&Placed>
-    ensures { option_copied result ≡ named_place reason.now }
-{
-    match reason {
-        Reason::ByItself | Reason::NoneBefore => None,
-        Reason::Head(place)
-        | Reason::Request(place)
-        | Reason::Release(place)
-        | Reason::Probe(place)
-        | Reason::Grant(place)
-        | Reason::Setter(place)
-        | Reason::Rival(place) => Some(place),
     }
 }
 
@@ -113,7 +93,7 @@ fn earlier_member(
     topo: &Topo,
     reason: &Option<Reason>,
 ) -> Result<String, AllocError> {
-    match reason.as_ref().and_then(place_of) {
+    match reason.as_ref().and_then(Reason::place) {
         Some(place) => {
             let text = placed_text(alloc, topo, place)?;
             format!(in alloc; ",\"earlier\":{text}")

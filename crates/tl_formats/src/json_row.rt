@@ -9,9 +9,9 @@ use crate::report_fault::ReportFault;
 use crate::report_line::ReportLine;
 use crate::report_reading::link_called;
 use crate::report_row::ReportRow;
-use crate::rule_names::rule_named;
 use serde_json::{Category, Value};
 use std::alloc::Global;
+use tl_rows::rule_named;
 use tl_tables::{Rule, rule_number, rule_text};
 use tl_topology::Topo;
 

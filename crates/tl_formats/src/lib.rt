@@ -3,7 +3,6 @@
 
 mod beat;
 mod by_link;
-mod format;
 mod html;
 mod json;
 mod json_merging;
@@ -21,21 +20,18 @@ mod report_fault;
 mod report_line;
 mod report_reading;
 mod report_row;
-mod rule_names;
 mod waiver_fault;
 mod waivers;
 
-pub use format::Format;
 pub use html::html_text;
-pub use json::{json_text, place_of};
+pub use json::json_text;
 pub use junit::junit_text;
 pub use merged_text::MergedText;
 pub use merging::merge_texts;
 pub use output::{Printed, Title, print_rows};
-pub use pick::{Cycles, Pick, Waiver};
+pub use pick::{Pick, Waiver};
 pub use report_fault::{MergeFault, ReportFault, TextsFault};
 pub use report_reading::{ReportText, read_report};
 pub use report_row::ReportRow;
-pub use rule_names::rule_named;
 pub use waiver_fault::WaiverFault;
 pub use waivers::read_waivers;

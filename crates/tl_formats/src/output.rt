@@ -5,15 +5,16 @@ ghost use Rattle.std.specs.List.{All};
 ghost use Rattle.tl_formats.specs.Picks.{is_left};
 ghost use Rattle.tl_formats.specs.Printed.{text_under, IsPrinted};
 
+use crate::Pick;
 use crate::html::html_text;
 use crate::json::json_text;
 use crate::junit::junit_text;
-use crate::{Format, Pick};
 use std::alloc::{AllocError, Global};
 use tl_beats::Row;
 use tl_capture::Present;
 use tl_check::{Report, audit_text, report_text};
 use tl_edits::Inputs;
+use tl_rows::Format;
 use tl_show::{shown_audit, shown_report};
 use tl_topology::Topo;
 

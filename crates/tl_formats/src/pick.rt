@@ -2,20 +2,13 @@
 
 ghost use Rattle.std.specs.Prelude.{◌≡◌, ◌<◌, ℕ, IfOk, filter};
 ghost use Rattle.std.specs.List.{All};
-ghost use Rattle.tl_formats.specs.Picks.{has_cycle, is_rule, is_link, is_named_rule, is_named_link, has_rule, has_link, fits, chooses, waives, is_left, is_waived, is_used, is_unused};
+ghost use Rattle.tl_rows.specs.Choice.{has_cycle};
+ghost use Rattle.tl_formats.specs.Picks.{is_rule, is_link, is_named_rule, is_named_link, has_rule, has_link, fits, chooses, waives, is_left, is_waived, is_used, is_unused};
 
 use std::alloc::{AllocError, Global};
 use tl_beats::Row;
+use tl_rows::Cycles;
 use tl_tables::{Rule, rule_number};
-
-/// The cycles from one to another.
-#[derive(Clone, Copy, Debug, PartialEq, Eq)]
-pub struct Cycles {
-    /// The first of them.
-    pub first: u64,
-    /// The last of them.
-    pub last: u64,
-}
 
 /// Rows that are known: a line of a text of waivers.
 #[derive(Clone, Copy, Debug, PartialEq, Eq)]
@@ -41,21 +34,6 @@ pub struct Pick {
     pub cycles: Cycles,
     /// What is known.
     pub waivers: Vec<Waiver>,
-}
-
-impl Cycles {
-    /// All cycles.
-    pub const ALL: Cycles = Cycles {
-        first: 0,
-        last: u64::MAX,
-    };
-
-    /// Whether the cycle is one of them; the first and the last are.
-    pub fn has(&self, cycle: u64) -> bool
-        ensures { result ≡ has_cycle self.now cycle }
-    {
-        self.first <= cycle && cycle <= self.last
-    }
 }
 
 /// Whether the rule is the named one, if one is named.

@@ -6,10 +6,10 @@ ghost use Rattle.tl_text.specs.Words.{lines_of};
 ghost use Rattle.tl_text.specs.Readings.{Gives};
 ghost use Rattle.tl_formats.specs.Waivers.{is_remark, rule_at, link_at, cycles_at, reasoned_at, columns_at, waiver_at, line_waiver, waivers_in, is_memory};
 
-use crate::pick::{Cycles, Waiver};
-use crate::rule_names::rule_named;
+use crate::pick::Waiver;
 use crate::waiver_fault::WaiverFault;
 use std::alloc::{AllocError, Global};
+use tl_rows::{Cycles, rule_named};
 use tl_tables::Rule;
 use tl_text::{decimal, line, word};
 use tl_topology::{Name, Topo};

@@ -3,7 +3,7 @@
 use crate::refusal_entries;
 use crate::rule_entries::rule_entry;
 use std::alloc::{AllocError, Global};
-use tl_formats::rule_named;
+use tl_rows::rule_named;
 use tl_tables::RULES;
 use tl_text::decimal;
 

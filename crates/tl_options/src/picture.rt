@@ -6,7 +6,7 @@ use crate::view::{refusal, rule_asked};
 use crate::words::{Command, described, explain_faults, paths_asked, topology};
 use clap::{Arg, ArgMatches, Error};
 use std::alloc::Global;
-use tl_view::{Drawing, RowName};
+use tl_rows::{Drawing, RowName};
 
 /// Which row is drawn, and as what.
 #[derive(Clone, Copy)]

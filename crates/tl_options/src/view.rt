@@ -5,7 +5,7 @@ use clap::builder::ValueParser;
 use clap::error::ErrorKind;
 use clap::{Arg, ArgAction, ArgMatches, Error};
 use std::alloc::Global;
-use tl_formats::{Cycles, Format, rule_named};
+use tl_rows::{Cycles, Format, rule_named};
 use tl_tables::Rule;
 
 /// Which rows are to be written, and how.

@@ -7,3 +7,4 @@ pub mod States
 pub mod Meanings
 pub mod Telling
 pub mod Counts
+pub mod Choice

@@ -139,3 +139,15 @@ abbrev pub reason_at : Manager → List Placed → Placed → Rule → Reason
 reason_at m before p broken =
     if at_head m.links before p then option_map_or (λ o. head_reason m.clients m.exponent (trails_of m.links m.exponent before) p o broken) (message_of (m.links p.link) p.beat) why.ByItself
     else later_reason (head_before m.links p.link p.beat.chan before) broken
+
+-- The beat that a reason names, if any.
+abbrev pub named_place : Reason → Option Placed
+named_place why.ByItself = None
+named_place why.NoneBefore = None
+named_place (why.Head p) = Some p
+named_place (why.Request p) = Some p
+named_place (why.Release p) = Some p
+named_place (why.Probe p) = Some p
+named_place (why.Grant p) = Some p
+named_place (why.Setter p) = Some p
+named_place (why.Rival p) = Some p

@@ -1,7 +1,8 @@
 //! What makes a beat break a rule.
 
 ghost use Rattle.std.specs.Prelude.{◌≡◌};
-ghost use Rattle.tl_rows.specs.Reasons.{named, later_reason};
+ghost use Rattle.std.specs.Option.{option_copied};
+ghost use Rattle.tl_rows.specs.Reasons.{named, named_place, later_reason};
 ghost use Rattle.tl_rows.specs.declared.reason.Reason.TheVariants as why;
 
 use crate::origin::Origin;
@@ -32,6 +33,22 @@ pub enum Reason {
 }
 
 impl Reason {
+    /// The beat that it names; None where it names none.
+    pub fn place(&self) -> Option<&Placed>
+        ensures { option_copied result ≡ named_place self.now }
+    {
+        match self {
+            Reason::ByItself | Reason::NoneBefore => None,
+            Reason::Head(place)
+            | Reason::Request(place)
+            | Reason::Release(place)
+            | Reason::Probe(place)
+            | Reason::Grant(place)
+            | Reason::Setter(place)
+            | Reason::Rival(place) => Some(place),
+        }
+    }
+
     /// An open request, or that there is none.
     pub(crate) fn of_request(found: Option<Origin>) -> Reason
         ensures { result ≡ named why.Request found }

@@ -5,7 +5,6 @@ use Rattle.std.specs.List.{flat_map}
 use Rattle.std.proofs.lemmas.Grind.{flat_map-append}
 use Rattle.std.specs.Option.{is_some}
 use Rattle.std.proofs.Math.Nat.{zero-mul, one-mul, add-mul}
-use Rattle.std.proofs.lemmas.Nat.{div-add-mod', mod_below}
 use Rattle.std.proofs.lemmas.Bool.Decides.{nat_tests}
 use Rattle.std.specs.Result.{IsErrOf}
 use Rattle.std.proofs.lemmas.List.{append-nil, append_assoc, take_all, take_more, take-append-drop, drop_more}
@@ -19,6 +18,7 @@ use Rattle.tl_beats.specs.Reading.{whole_fragment_in}
 use Rattle.tl_beats.specs.declared.fault.FragmentFault.{FragmentFault}
 use Rattle.tl_beats.specs.declared.fault.FragmentFault.TheVariants as fault
 use Rattle.tl_beats.proofs.FragmentTexts.{whole_takes}
+use Rattle.tl_check.proofs.Chunks.{parts_cover}
 use Rattle.tl_stream.specs.Parts.{reading, read_first, read_texts, joined_texts, AreParsed, ArePartsParsed, BeginsWith}
 use Rattle.tl_stream.specs.declared.parsers.Parsed.{Parsed}
 
@@ -54,19 +54,6 @@ first_stops (Err d) here whole e some go = refl
 first_count : (r : Result Frag FragmentFault) (others : Outcome) (n : ℕ) → length others.0 ≤ n → length (read_first r others).0 ≤ n + 1
 first_count (Ok f) others n many = omega (arith, many)
 first_count (Err e) others n many = omega arith
-
--- So many shares as there are parts have room for all.
-parts_span : (q r share count : ℕ) → r < share → count ≡ q + min 1 r → q * share + r ≤ count * share
-parts_span q zero share count below is = let e : count ≡ q = omega (arith, is) in let w : count * share ≡ q * share = ap (λ (n : ℕ). n * share) e in omega (arith, w)
-parts_span q (suc r) share count below is =
-    let e : count ≡ q + 1 = omega (arith, is) in let w : count * share ≡ q * share + 1 * share = ap (λ (n : ℕ). n * share) e ∙ add-mul q 1 share in
-    let o : 1 * share ≡ share = one-mul share in omega (arith, w, o, below)
-
-parts_cover : (count len share : ℕ) → 0 < share → count ≡ len / share + min 1 (len % share) → len ≤ count * share
-parts_cover count len share some is =
-    let sum : len / share * share + len % share ≡ len = div-add-mod' len share in
-    let most : len / share * share + len % share ≤ count * share = parts_span (len / share) (len % share) share count (mod_below len share some) is in
-    omega (arith, sum, most)
 
 pub some_is : {X : Type 0} (o : Option X) → is_some o ≡ true → (x : X) × (o ≡ Some x)
 some_is (Some x) h = (x, refl)

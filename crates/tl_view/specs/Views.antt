@@ -1,14 +1,7 @@
--- Which row is meant, and which beats are shown of it.
+-- Which beats are shown of a row.
 use Rattle.std.specs.Prelude.{ℕ, ◌==◌, ◌&&◌, ◌||◌, Bool, false, Option, Some, None}
-use Rattle.tl_tables.specs.Rules.{rule_number}
-use Rattle.tl_beats.specs.declared.Row.{Row}
 use Rattle.tl_view.specs.declared.moments.Moment.{Moment}
-use Rattle.tl_view.specs.declared.names.RowName.{RowName}
 use Rattle.tl_view.specs.declared.scene.Subject.{Subject}
-
--- The row of this name on a link.
-abbrev pub is_named : ℕ → RowName → Row → Bool
-is_named link name row = ((row.link == link) && (row.fragment == name.fragment)) && ((row.line == name.line) && (rule_number row.rule == rule_number name.rule))
 
 -- Both are known, and the same.
 abbrev pub is_same : Option ℕ → Option ℕ → Bool

@@ -11,7 +11,6 @@ use std::alloc::{AllocError, Global};
 use tl_beats::{Placed, Row};
 use tl_capture::{Merged, Present};
 use tl_client_rules::clients_of;
-use tl_formats::place_of;
 use tl_rows::{Reason, Told, beat_text};
 use tl_show::{shown_row, survey_beats};
 use tl_tables::{Level, op_of};
@@ -166,7 +165,7 @@ impl Pass {
         Pass {
             context,
             own: told.place,
-            earlier: place_of(&told.reason).copied(),
+            earlier: told.reason.place().copied(),
             stage: first_stage(&told.reason),
             subject,
             found: None,

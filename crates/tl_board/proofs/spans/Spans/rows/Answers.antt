@@ -4,7 +4,7 @@ use Rattle.tl_edits.specs.Inputs.{InputData}
 use Rattle.tl_check.specs.Captured.{areas_at}
 use Rattle.tl_check.specs.Found.{AreFound}
 use Rattle.tl_capture.specs.Present.{IsPresent}
-use Rattle.tl_results.specs.Pieces.{IsSettled}
+use Rattle.tl_capture.specs.Pieces.{IsSettled}
 use Rattle.tl_check.specs.States.{SameSpan}
 use Rattle.tl_board.specs.Spans.{SpansData, standing}
 use Rattle.tl_board.proofs.FoundLemmas.{all_found}

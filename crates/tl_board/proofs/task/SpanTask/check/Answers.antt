@@ -7,7 +7,7 @@ use Rattle.tl_beats.specs.declared.Placed.{Placed}
 use Rattle.tl_beats.specs.declared.Row.{Row}
 use Rattle.tl_definitions.specs.Managers.{declared_links, manager_at}
 use Rattle.tl_definitions.specs.Positions.{clients_of}
-use Rattle.tl_results.specs.Marks.{pass_of}
+use Rattle.tl_capture.specs.Marks.{pass_of}
 use Rattle.tl_check.specs.Jobs.{Judges}
 use Rattle.tl_check.specs.States.{IsOf}
 use Rattle.tl_check.specs.declared.state.SpanState.{SpanState}

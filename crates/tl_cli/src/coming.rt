@@ -11,7 +11,7 @@ use std::rt::Files;
 use std::sync::{Arc, OnceLock};
 use tl_beats::Watch;
 use tl_check::Report;
-use tl_commands::{Ending, Fault, topology_of};
+use tl_commands::{Ending, Fault, Gauge, LineCounter, topology_of};
 use tl_edits::Log;
 use tl_options::How;
 use tl_run::{ComingFault, Maker, Making, Showing, carry_out_coming, run_nothing};
@@ -213,16 +213,18 @@ fn run_coming<I: ByteIn, O: ByteOut>(
     }
 }
 
-/// The run of an input's commands on a file's topology, each carried out as it comes.
-pub(crate) fn run_of_coming<R: Files + AllocGlobal, I: ByteIn, O: ByteOut>(
+/// The run of an input's commands on a file's topology, each carried out as it comes. The gauge is told of the lines that were written.
+pub(crate) fn run_of_coming<R: Files + AllocGlobal, I: ByteIn, G: Gauge, O: ByteOut>(
     rt: &R,
     topology: &str,
     input: &mut I,
     how: How,
+    gauge: &mut G,
     out: &mut O,
 ) -> Result<Ending, Fault>
     requires { O.failure_count out.old < 2 ^ 63 }
 {
     let topo = topology_of(rt, topology)?;
-    run_coming(rt.alloc(), &topo, input, how, out)
+    let mut counted = LineCounter::new(out, gauge);
+    run_coming(rt.alloc(), &topo, input, how, &mut counted)
 }

@@ -8,14 +8,14 @@ use crate::screen::Screen;
 use crate::scripts::{run_of_files, run_of_input};
 use std::alloc::Global;
 use std::io;
-use std::rt::Files;
+use std::rt::{Clock, Files};
 use std::sync::Wait;
 use std::thread::Threads;
 use tl_advice::{Look, More};
 use tl_commands::{
-    Denial, Ending, Fault, Past, Suspect, Written, audit_of_files, doctor_of_files, input_sentence,
-    input_sentences, merge_of_files, once_of_files, once_sentence, report_of, run_sentences,
-    script_sentence, stream_of_files, stream_sentence, view_of_files,
+    Denial, Ending, Fault, Manner, Past, Progress, Suspect, Written, audit_of_files,
+    doctor_of_files, input_sentence, input_sentences, merge_of_files, once_of_files, once_sentence,
+    report_of, run_sentences, script_sentence, stream_of_files, stream_sentence, view_of_files,
 };
 use tl_options::{Command, Told, not_utf8, read_words, titles};
 use tl_script::Outcome;
@@ -30,7 +30,7 @@ const SOME_ROWS: u8 = 1;
 
 const FAULT: u8 = 2;
 
-/// So many writes that failed that no summary is tried.
+/// So many writes that failed that none is tried any more.
 const MANY_FAILURES: u64 = 1 << 63;
 
 /// The exit status of a run that came to this.
@@ -376,7 +376,7 @@ pub fn refuse_words<E: ByteOut>(alloc: Global, err: &mut E, error: &io::Error) -
 
 /// Does what the words ask for where standard error is no terminal: `run_words_at` with `Screen::None`.
 pub fn run_words<
-    R: Files + Threads + Wait + Sync + AllocGlobal + Clone + Drop,
+    R: Files + Clock + Threads + Wait + Sync + AllocGlobal + Clone + Drop,
     I: ByteIn,
     O: ByteOut,
     E: ByteOut,
@@ -454,7 +454,7 @@ fn tell_ending<R: Files + AllocGlobal + Clone + Drop, E: ByteOut>(
 
 /// Does what a command asks for, and answers the exit status.
 fn do_command<
-    R: Files + Threads + Wait + Sync + AllocGlobal + Clone + Drop,
+    R: Files + Clock + Threads + Wait + Sync + AllocGlobal + Clone + Drop,
     I: ByteIn,
     O: ByteOut,
     E: ByteOut,
@@ -465,26 +465,34 @@ fn do_command<
     requires err { E.failure_count err.old < 2 ^ 63 }
     ensures { result ≤ 2 }
 {
+    let mut progress = Progress::new(rt, err, screen.has_progress(command));
     let ending = match command {
-        Command::Input => return run_input(rt, input, out, err, screen),
-        Command::Explain { entry } => return tell_entry(rt.alloc(), out, err, *entry),
+        Command::Input => return run_input(rt, input, out, &mut progress, screen),
+        Command::Explain { entry } => return tell_entry(rt.alloc(), out, &mut progress, *entry),
         Command::Once {
             topology,
             capture,
             how,
             view,
-        } => once_of_files(rt, *topology, capture, screen.how(*how), view, out),
+        } => {
+            let how = screen.how(*how);
+            let manner = Manner { how, view };
+            once_of_files(rt, *topology, capture, manner, &mut progress, out)
+        }
         Command::Run {
             topology,
             script: "-",
             how,
             ..
-        } => run_of_coming(rt, *topology, input, *how, out),
+        } => run_of_coming(rt, *topology, input, *how, &mut progress, out),
         Command::Run {
             topology,
             script,
             how,
-        } => run_of_files(rt, *topology, *script, screen.how(*how), out),
+        } => {
+            let how = screen.how(*how);
+            run_of_files(rt, *topology, *script, how, &mut progress, out)
+        }
         Command::Audit {
             topology,
             script,
@@ -497,10 +505,11 @@ fn do_command<
                 script: *script,
                 edit: *edit,
             };
-            audit_of_files(rt, past, screen.how(*how), view, out)
+            let how = screen.how(*how);
+            audit_of_files(rt, past, Manner { how, view }, &mut progress, out)
         }
         Command::Stream { topology, options } => {
-            stream_of_files(rt, *topology, options, input, out, err)
+            stream_of_files(rt, *topology, options, input, out, &mut progress)
         }
         Command::Merge {
             topology,
@@ -511,25 +520,29 @@ fn do_command<
             topology,
             fragments,
             ..
-        } => doctor_of_files(rt, *topology, fragments, out),
+        } => doctor_of_files(rt, *topology, fragments, &mut progress, out),
         Command::View {
             topology,
             fragments,
             picture,
             ..
-        } => view_of_files(rt, *topology, fragments, picture, out),
+        } => view_of_files(rt, *topology, fragments, picture, &mut progress, out),
     };
-    tell_ending(rt, err, ending, command, screen)
+    if progress.failures() >= MANY_FAILURES {
+        return FAULT;
+    }
+    tell_ending(rt, &mut progress, ending, command, screen)
 }
 
 /// Does what the words ask for, the first of which is the program's own, and answers the exit status: 0 where the last report
 /// has no rows, there is none, or a text was asked for; 1 where it has some rows; 2 for a script that stops, for a fault, which is
 /// told in one line on `err`, and for words that are refused, of which `clap` tells on `err` in lines of its own. `input`
 /// stands for standard input. At a terminal, and where the words ask for it, the line of a fault is followed by a sentence, what
-/// a script's run refuses is told there too, and a command of files that is done ends with a summary. With workers it waits for their
+/// a script's run refuses is told there too, and a command of files that is done ends with a summary. Where there is one, and at a
+/// terminal for a stream, a command that takes more than a second tells on `err` how far it is. With workers it waits for their
 /// threads.
 pub fn run_words_at<
-    R: Files + Threads + Wait + Sync + AllocGlobal + Clone + Drop,
+    R: Files + Clock + Threads + Wait + Sync + AllocGlobal + Clone + Drop,
     I: ByteIn,
     O: ByteOut,
     E: ByteOut,

@@ -39,6 +39,21 @@ impl Screen {
         how
     }
 
+    /// Whether it is told there how far a command is: where its summary is, and at a terminal of those without one.
+    pub(crate) fn has_progress(self, command: &Command<'_>) -> bool {
+        match command {
+            Command::Run {
+                script: "-",
+                how,
+                ..
+            } => how.summary,
+            Command::Once { how, .. } | Command::Run { how, .. } | Command::Audit { how, .. } => {
+                self.how(*how).summary
+            }
+            _ => self.is_terminal(),
+        }
+    }
+
     /// Whether what a script's run refused is told in sentences.
     pub(crate) fn has_sentences(self, command: &Command<'_>) -> bool {
         self.is_terminal() || command.explains_faults()

@@ -10,7 +10,9 @@ use std::thread::Threads;
 use tl_advice::run_summary;
 use tl_beats::Watch;
 use tl_check::Report;
-use tl_commands::{Ending, Fault, denial_of_run, edits_in, ending_of, script_of, topology_of};
+use tl_commands::{
+    Ending, Fault, Gauge, LineCounter, denial_of_run, edits_in, ending_of, script_of, topology_of,
+};
 use tl_monitor::{After, Budget, Monitor};
 use tl_options::How;
 use tl_script::Outcome;
@@ -202,18 +204,20 @@ fn run_on<R: Files + Threads + Wait + Sync + AllocGlobal, O: ByteOut>(
     run_denied(rt, run, how, out)
 }
 
-/// The run of a file's script on a file's topology.
-pub(crate) fn run_of_files<R: Files + Threads + Wait + Sync + AllocGlobal, O: ByteOut>(
+/// The run of a file's script on a file's topology. The gauge is told of the lines that were written.
+pub(crate) fn run_of_files<R: Files + Threads + Wait + Sync + AllocGlobal, G: Gauge, O: ByteOut>(
     rt: &R,
     topology: &str,
     script: &str,
     how: How,
+    gauge: &mut G,
     out: &mut O,
 ) -> Result<Ending, Fault>
     requires out { O.failure_count out.old < 2 ^ 63 }
 {
     let topo = topology_of(rt, topology)?;
-    run_on(rt, &topo, script, how, out)
+    let mut counted = LineCounter::new(out, gauge);
+    run_on(rt, &topo, script, how, &mut counted)
 }
 
 /// The run of a script after its topology's text.

@@ -4,6 +4,7 @@ ghost use Rattle.std.specs.Prelude.{◌<◌, ◌^◌};
 
 use crate::fault::Fault;
 use crate::files::{all_fragments_of, topology_of};
+use crate::progress::Gauge;
 use crate::reports::{Ending, report_of};
 use std::alloc::Global;
 use std::rt::Files;
@@ -40,28 +41,34 @@ fn doctor_of<O: ByteOut>(
 }
 
 /// Writes what looks wrong in the fragments of files on a topology.
-fn doctor_on<R: Files + Threads + Sync + AllocGlobal + Clone + Drop, O: ByteOut>(
+fn doctor_on<R: Files + Threads + Sync + AllocGlobal + Clone + Drop, G: Gauge, O: ByteOut>(
     rt: &R,
     topo: &Topo,
     words: &[&str],
+    gauge: &mut G,
     out: &mut O,
 ) -> Result<Ending, Fault>
     requires { O.failure_count out.old < 2 ^ 63 }
 {
-    let fragments = all_fragments_of(rt, topo, words)?;
+    let fragments = all_fragments_of(rt, topo, words, gauge)?;
     doctor_of(rt.alloc(), topo, &fragments, out)
 }
 
 /// Writes what looks wrong in a file's topology, or in how the fragments of files were made, a line for each thing, which the ending
-/// counts as rows. Words stand for files as for `once_of_files`, and the faults are the same.
-pub fn doctor_of_files<R: Files + Threads + Sync + AllocGlobal + Clone + Drop, O: ByteOut>(
+/// counts as rows. Words stand for files as for `once_of_files`, and the faults and what the gauge is told are the same.
+pub fn doctor_of_files<
+    R: Files + Threads + Sync + AllocGlobal + Clone + Drop,
+    G: Gauge,
+    O: ByteOut,
+>(
     rt: &R,
     topology: &str,
     words: &[&str],
+    gauge: &mut G,
     out: &mut O,
 ) -> Result<Ending, Fault>
     requires { O.failure_count out.old < 2 ^ 63 }
 {
     let topo = topology_of(rt, topology)?;
-    doctor_on(rt, &topo, words, out)
+    doctor_on(rt, &topo, words, gauge, out)
 }

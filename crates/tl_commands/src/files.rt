@@ -4,6 +4,7 @@ ghost use Rattle.std.specs.Prelude.{◌≤◌, ◌^◌};
 
 use crate::fault::Fault;
 use crate::paths::files_of;
+use crate::progress::{FilesRead, Gauge};
 use std::alloc::{AllocError, Global};
 use std::rt::Files;
 use std::sync::Arc;
@@ -30,10 +31,14 @@ pub fn topology_of<R: Files + AllocGlobal>(rt: &R, path: &str) -> Result<Topo, F
     Ok(topo)
 }
 
+/// How many lines end in a text.
+pub(crate) fn line_ends(text: &[u8]) -> u64 {
+    text.iter().filter(|byte| **byte == b'\n').count() as u64
+}
+
 /// The number of the line that begins after these lines.
 pub(crate) fn line_after(lines: &[u8]) -> u64 {
-    let ends = lines.iter().filter(|byte| **byte == b'\n').count();
-    ends as u64 + 1
+    line_ends(lines).saturating_add(1)
 }
 
 /// The topology that a whole text is; bytes after its last line are BadLine of the next.
@@ -81,14 +86,16 @@ fn push_fragment(
 }
 
 /// The fragments of files that are checked, each read and parsed before the next is opened.
-fn fragments_in<R: Files + AllocGlobal>(
+fn fragments_in<R: Files + AllocGlobal, G: Gauge>(
     rt: &R,
     files: &[String],
     sieve: Sieve<'_>,
+    read: &mut FilesRead<'_, G>,
 ) -> Result<Vec<Arc<Fragment>>, Fault> {
     let mut fragments = Vec::new(rt.alloc());
     for path in files {
         let text = fragment_text(rt, path.as_str())?;
+        read.count(&text);
         push_fragment(rt.alloc(), sieve, &text, &mut fragments)?;
     }
     Ok(fragments)
@@ -102,7 +109,11 @@ struct Round {
 }
 
 /// The texts of the first of these files, of one at least, until they have as many bytes as are read before any is parsed.
-fn next_round<R: Files + AllocGlobal>(rt: &R, files: &[String]) -> Result<Round, Fault> {
+fn next_round<R: Files + AllocGlobal, G: Gauge>(
+    rt: &R,
+    files: &[String],
+    read: &mut FilesRead<'_, G>,
+) -> Result<Round, Fault> {
     let mut texts: Vec<Vec<u8>> = Vec::new(rt.alloc());
     let mut held: usize = 0;
     for path in files {
@@ -112,6 +123,7 @@ fn next_round<R: Files + AllocGlobal>(rt: &R, files: &[String]) -> Result<Round,
         match fragment_text(rt, path.as_str()) {
             Ok(text) => {
                 held = held.saturating_add(text.len());
+                read.count(&text);
                 texts.push(text)?;
             }
             Err(fault) => {
@@ -158,17 +170,18 @@ fn parsed_beside<R: Threads + Sync + AllocGlobal>(
 
 /// The fragments of files, parsed by so many threads beside this one, which reads them. The fault is that of the first file that has
 /// one.
-fn fragments_beside<R: Files + Threads + Sync + AllocGlobal>(
+fn fragments_beside<R: Files + Threads + Sync + AllocGlobal, G: Gauge>(
     rt: &R,
     files: &[String],
     sieve: Sieve<'_>,
     workers: u8,
+    read: &mut FilesRead<'_, G>,
 ) -> Result<Vec<Arc<Fragment>>, Fault> {
     let parsers = Parsers::new(rt, workers);
     let mut all = Vec::new(rt.alloc());
     let mut rest = files;
     for _ in 0..files.len() {
-        let round = next_round(rt, rest)?;
+        let round = next_round(rt, rest, read)?;
         rest = rest.get(round.texts.len()..).unwrap_or(&[]);
         let texts = checked(rt.alloc(), sieve, round.texts)?;
         all.append(&mut parsed_beside(&parsers, &texts)?)?;
@@ -197,19 +210,24 @@ fn listed<R: Files + AllocGlobal + Clone + Drop>(
     Ok((all, None))
 }
 
-/// The fragments of the files that words stand for, of those that are checked, read by so many threads beside this one. The fault is
-/// that of the first file or word that has one.
-pub(crate) fn fragments_of<R: Files + Threads + Sync + AllocGlobal + Clone + Drop>(
+/// The fragments of the files that words stand for, of those that are checked, read by so many threads beside this one. The gauge is
+/// told of each file that was read. The fault is that of the first file or word that has one.
+pub(crate) fn fragments_of<
+    R: Files + Threads + Sync + AllocGlobal + Clone + Drop,
+    G: Gauge,
+>(
     rt: &R,
     words: &[&str],
     sieve: Sieve<'_>,
     workers: u8,
+    gauge: &mut G,
 ) -> Result<Vec<Arc<Fragment>>, Fault> {
     let (files, fault) = listed(rt, words)?;
+    let mut read = FilesRead::none_of(files.len(), gauge);
     let fragments = if workers == 0 {
-        fragments_in(rt, &files, sieve)?
+        fragments_in(rt, &files, sieve, &mut read)?
     } else {
-        fragments_beside(rt, &files, sieve, workers)?
+        fragments_beside(rt, &files, sieve, workers, &mut read)?
     };
     match fault {
         Some(fault) => Err(fault),
@@ -218,17 +236,21 @@ pub(crate) fn fragments_of<R: Files + Threads + Sync + AllocGlobal + Clone + Dro
 }
 
 /// The fragments of the files that words stand for, whatever their managers are, read by this thread alone.
-pub(crate) fn all_fragments_of<R: Files + Threads + Sync + AllocGlobal + Clone + Drop>(
+pub(crate) fn all_fragments_of<
+    R: Files + Threads + Sync + AllocGlobal + Clone + Drop,
+    G: Gauge,
+>(
     rt: &R,
     topo: &Topo,
     words: &[&str],
+    gauge: &mut G,
 ) -> Result<Vec<Arc<Fragment>>, Fault> {
     let share = Share::all();
     let sieve = Sieve {
         topo,
         share: &share,
     };
-    fragments_of(rt, words, sieve, 0)
+    fragments_of(rt, words, sieve, 0, gauge)
 }
 
 /// The script that a file is; its commands are not looked at. FILE where it can't be opened or read.

@@ -10,6 +10,7 @@ mod merging;
 mod pasts;
 mod paths;
 mod picking;
+mod progress;
 mod reports;
 mod settling;
 mod setup;
@@ -24,7 +25,8 @@ pub use fault::Fault;
 pub use files::{script_of, topology_of};
 pub use merging::merge_of_files;
 pub use picking::Written;
-pub use reports::{Ending, Past, audit_of_files, ending_of, once_of_files, report_of};
+pub use progress::{Gauge, LineCounter, Progress, SoFar};
+pub use reports::{Ending, Manner, Past, audit_of_files, ending_of, once_of_files, report_of};
 pub use settling::settlement_line;
 pub use streams::stream_of_files;
 pub use telling::{

@@ -6,6 +6,7 @@ use crate::denial::{Denial, denial_of_audit, denial_of_fragments};
 use crate::fault::Fault;
 use crate::files::{fragments_of, script_of, topology_of};
 use crate::picking::{Trouble, Written, order_of, write_audit, write_once};
+use crate::progress::{Gauge, SoFar};
 use crate::share::share_of;
 use std::rt::Files;
 use std::sync::Arc;
@@ -75,6 +76,15 @@ pub fn ending_of(outcome: Outcome, denial: Option<Denial>) -> Ending {
     }
 }
 
+/// How a report is wanted.
+#[derive(Clone, Copy)]
+pub struct Manner<'a, 'v> {
+    /// How it is made.
+    pub how: How,
+    /// Which rows are written, and in which format.
+    pub view: &'a View<'v>,
+}
+
 /// How a command ends that wrote chosen rows.
 fn ending_with(written: Result<Written, Fault>) -> Result<Ending, Fault> {
     Ok(Ending::Picked(written?, None))
@@ -85,14 +95,13 @@ fn once_picked<R: Files + Threads + Sync + AllocGlobal, O: ByteOut>(
     rt: &R,
     topo: &Topo,
     fragments: &[Arc<Fragment>],
-    how: How,
-    view: &View<'_>,
+    manner: Manner<'_, '_>,
     out: &mut O,
 ) -> Result<Ending, Fault>
     requires { O.failure_count out.old < 2 ^ 63 }
 {
-    let judges = Judges::new(rt, how.workers);
-    match order_of(rt, topo, how, view) {
+    let judges = Judges::new(rt, manner.how.workers);
+    match order_of(rt, topo, manner.how, manner.view) {
         Ok(order) => ending_with(write_once(&judges, topo, fragments, &order, out)),
         Err(trouble) => ending_without(trouble),
     }
@@ -103,17 +112,16 @@ fn once_of<R: Files + Threads + Sync + AllocGlobal, O: ByteOut>(
     rt: &R,
     topo: &Topo,
     fragments: &[Arc<Fragment>],
-    how: How,
-    view: &View<'_>,
+    manner: Manner<'_, '_>,
     out: &mut O,
 ) -> Result<Ending, Fault>
     requires { O.failure_count out.old < 2 ^ 63 }
 {
-    if how.summary || !view.is_whole() {
-        return once_picked(rt, topo, fragments, how, view, out);
+    if manner.how.summary || !manner.view.is_whole() {
+        return once_picked(rt, topo, fragments, manner, out);
     }
-    let judges = Judges::new(rt, how.workers);
-    let rows = match view.format {
+    let judges = Judges::new(rt, manner.how.workers);
+    let rows = match manner.view.format {
         Format::Shown => run_once_beside(&judges, topo, fragments, &Shown, out)?,
         _ => run_once_beside(&judges, topo, fragments, &Plain, out)?,
     };
@@ -125,38 +133,37 @@ fn once_denied<R: Files + Threads + Sync + AllocGlobal, O: ByteOut>(
     rt: &R,
     topo: &Topo,
     fragments: &[Arc<Fragment>],
-    how: How,
-    view: &View<'_>,
+    manner: Manner<'_, '_>,
     out: &mut O,
 ) -> Result<Ending, Fault>
     requires { O.failure_count out.old < 2 ^ 63 }
 {
-    let ending = once_of(rt, topo, fragments, how, view, out)?;
-    Ok(ending.denied_by(denial_of_fragments(how.deny, fragments)))
+    let ending = once_of(rt, topo, fragments, manner, out)?;
+    Ok(ending.denied_by(denial_of_fragments(manner.how.deny, fragments)))
 }
 
 /// The report of the fragments of files on a topology, of those of a share; words stand for their files.
-fn once_shared<R: Files + Threads + Sync + AllocGlobal + Clone + Drop, O: ByteOut>(
+fn once_shared<R: Files + Threads + Sync + AllocGlobal + Clone + Drop, G: Gauge, O: ByteOut>(
     rt: &R,
     sieve: Sieve<'_>,
     words: &[&str],
-    how: How,
-    view: &View<'_>,
+    manner: Manner<'_, '_>,
+    gauge: &mut G,
     out: &mut O,
 ) -> Result<Ending, Fault>
     requires { O.failure_count out.old < 2 ^ 63 }
 {
-    let fragments = fragments_of(rt, words, sieve, how.workers)?;
-    once_denied(rt, sieve.topo, &fragments, how, view, out)
+    let fragments = fragments_of(rt, words, sieve, manner.how.workers, gauge)?;
+    once_denied(rt, sieve.topo, &fragments, manner, out)
 }
 
 /// The report of the fragments of a capture's files on a topology.
-fn once_on<R: Files + Threads + Sync + AllocGlobal + Clone + Drop, O: ByteOut>(
+fn once_on<R: Files + Threads + Sync + AllocGlobal + Clone + Drop, G: Gauge, O: ByteOut>(
     rt: &R,
     topo: &Topo,
     capture: &Capture<'_>,
-    how: How,
-    view: &View<'_>,
+    manner: Manner<'_, '_>,
+    gauge: &mut G,
     out: &mut O,
 ) -> Result<Ending, Fault>
     requires { O.failure_count out.old < 2 ^ 63 }
@@ -167,7 +174,7 @@ fn once_on<R: Files + Threads + Sync + AllocGlobal + Clone + Drop, O: ByteOut>(
                 topo,
                 share: &share,
             };
-            once_shared(rt, sieve, &capture.fragments, how, view, out)
+            once_shared(rt, sieve, &capture.fragments, manner, gauge, out)
         }
         Err(trouble) => ending_without(trouble),
     }
@@ -175,20 +182,25 @@ fn once_on<R: Files + Threads + Sync + AllocGlobal + Clone + Drop, O: ByteOut>(
 
 /// Writes the report of the fragments of a capture's files on a file's topology. A word stands for its file, `-` for standard input, a
 /// folder for its files, and `@LIST` for the files that the lines of LIST name. Where managers are named, the fragments of other known
-/// links are passed over. With workers, so many threads read files and judge beside this one. The fault of the first file that has one,
-/// that of the first fragment that is refused after those before it, want of memory, or a write that fails.
-pub fn once_of_files<R: Files + Threads + Sync + AllocGlobal + Clone + Drop, O: ByteOut>(
+/// links are passed over. With workers, so many threads read files and judge beside this one. The gauge is told of each file that was
+/// read. The fault of the first file that has one, that of the first fragment that is refused after those before it, want of memory, or
+/// a write that fails.
+pub fn once_of_files<
+    R: Files + Threads + Sync + AllocGlobal + Clone + Drop,
+    G: Gauge,
+    O: ByteOut,
+>(
     rt: &R,
     topology: &str,
     capture: &Capture<'_>,
-    how: How,
-    view: &View<'_>,
+    manner: Manner<'_, '_>,
+    gauge: &mut G,
     out: &mut O,
 ) -> Result<Ending, Fault>
     requires { O.failure_count out.old < 2 ^ 63 }
 {
     let topo = topology_of(rt, topology)?;
-    once_on(rt, &topo, capture, how, view, out)
+    once_on(rt, &topo, capture, manner, gauge, out)
 }
 
 /// The edits that an audit looks at.
@@ -217,15 +229,14 @@ struct Audit<'a> {
 fn audit_picked<R: Files + Threads + Sync + AllocGlobal, O: ByteOut>(
     rt: &R,
     audit: Audit<'_>,
-    how: How,
-    view: &View<'_>,
+    manner: Manner<'_, '_>,
     out: &mut O,
 ) -> Result<Ending, Fault>
     requires { O.failure_count out.old < 2 ^ 63 }
 {
     let Audit { topo, script, edit } = audit;
-    let judges = Judges::new(rt, how.workers);
-    match order_of(rt, topo, how, view) {
+    let judges = Judges::new(rt, manner.how.workers);
+    match order_of(rt, topo, manner.how, manner.view) {
         Ok(order) => ending_with(write_audit(&judges, topo, script, edit, &order, out)),
         Err(trouble) => ending_without(trouble),
     }
@@ -235,18 +246,17 @@ fn audit_picked<R: Files + Threads + Sync + AllocGlobal, O: ByteOut>(
 fn audit_of<R: Files + Threads + Sync + AllocGlobal, O: ByteOut>(
     rt: &R,
     audit: Audit<'_>,
-    how: How,
-    view: &View<'_>,
+    manner: Manner<'_, '_>,
     out: &mut O,
 ) -> Result<Ending, Fault>
     requires { O.failure_count out.old < 2 ^ 63 }
 {
-    if how.summary || !view.is_whole() {
-        return audit_picked(rt, audit, how, view, out);
+    if manner.how.summary || !manner.view.is_whole() {
+        return audit_picked(rt, audit, manner, out);
     }
     let Audit { topo, script, edit } = audit;
-    let judges = Judges::new(rt, how.workers);
-    let rows = match view.format {
+    let judges = Judges::new(rt, manner.how.workers);
+    let rows = match manner.view.format {
         Format::Shown => audit_script_beside(&judges, topo, script, edit, &Shown, out)?,
         _ => audit_script_beside(&judges, topo, script, edit, &Plain, out)?,
     };
@@ -257,48 +267,50 @@ fn audit_of<R: Files + Threads + Sync + AllocGlobal, O: ByteOut>(
 fn audit_denied<R: Files + Threads + Sync + AllocGlobal, O: ByteOut>(
     rt: &R,
     audit: Audit<'_>,
-    how: How,
-    view: &View<'_>,
+    manner: Manner<'_, '_>,
     out: &mut O,
 ) -> Result<Ending, Fault>
     requires { O.failure_count out.old < 2 ^ 63 }
 {
-    let ending = audit_of(rt, audit, how, view, out)?;
-    let denial = denial_of_audit(how.deny, rt.alloc(), audit.topo, audit.script, audit.edit)?;
+    let ending = audit_of(rt, audit, manner, out)?;
+    let deny = manner.how.deny;
+    let denial = denial_of_audit(deny, rt.alloc(), audit.topo, audit.script, audit.edit)?;
     Ok(ending.denied_by(denial))
 }
 
 /// What checking everything anew finds after so many accepted edits of a file's script, on a topology.
-fn audit_on<R: Files + Threads + Sync + AllocGlobal, O: ByteOut>(
+fn audit_on<R: Files + Threads + Sync + AllocGlobal, G: Gauge, O: ByteOut>(
     rt: &R,
     topo: &Topo,
     past: Past<'_>,
-    how: How,
-    view: &View<'_>,
+    manner: Manner<'_, '_>,
+    gauge: &mut G,
     out: &mut O,
 ) -> Result<Ending, Fault>
     requires { O.failure_count out.old < 2 ^ 63 }
 {
     let script = script_of(rt, past.script)?;
+    gauge.tell(SoFar::Script(script.len()));
     let audit = Audit {
         topo,
         script: &script,
         edit: past.edit,
     };
-    audit_denied(rt, audit, how, view, out)
+    audit_denied(rt, audit, manner, out)
 }
 
 /// Writes what checking everything anew finds after so many accepted edits of a file's script, on a file's topology. With workers, so
-/// many threads judge beside this one. The fault of the topology or of the script, want of memory, or a write that fails.
-pub fn audit_of_files<R: Files + Threads + Sync + AllocGlobal, O: ByteOut>(
+/// many threads judge beside this one. The gauge is told that the script was read. The fault of the topology or of the script, want of
+/// memory, or a write that fails.
+pub fn audit_of_files<R: Files + Threads + Sync + AllocGlobal, G: Gauge, O: ByteOut>(
     rt: &R,
     past: Past<'_>,
-    how: How,
-    view: &View<'_>,
+    manner: Manner<'_, '_>,
+    gauge: &mut G,
     out: &mut O,
 ) -> Result<Ending, Fault>
     requires { O.failure_count out.old < 2 ^ 63 }
 {
     let topo = topology_of(rt, past.topology)?;
-    audit_on(rt, &topo, past, how, view, out)
+    audit_on(rt, &topo, past, manner, gauge, out)
 }

@@ -17,8 +17,8 @@ use tl_beats::Watch;
 use tl_options::StreamOptions;
 use tl_show::ShownStream;
 use tl_stream::{
-    Parsers, PlainRows, RowForm, Share, Source, Stream, StreamStop, TellFault, Teller, stream_end,
-    stream_input, stream_sources,
+    Listener, Parsers, PlainRows, RowForm, Share, Source, Stream, StreamStop, TellFault, Teller,
+    stream_end, stream_input, stream_sources,
 };
 use tl_text::{ByteIn, ByteOut, CountedReader, write_all};
 
@@ -70,7 +70,7 @@ fn read_all<
     F: RowForm,
     I: ByteIn,
     O: ByteOut,
-    E: ByteOut,
+    E: Listener,
 >(
     rt: &R,
     teller: &mut Teller<'_, F>,
@@ -116,7 +116,7 @@ fn stream_in_form<
     F: RowForm,
     I: ByteIn,
     O: ByteOut,
-    E: ByteOut,
+    E: Listener,
 >(
     rt: &R,
     mut teller: Teller<'_, F>,
@@ -149,13 +149,13 @@ struct Streams<'a> {
 
 /// Streams the fragments of files, or of standard input where none is named or `-` alone, and writes each row once it is certain. A
 /// word is one input: its file, or the files of a folder or of a list one after another. Where managers are named, the fragments of
-/// other known links are passed over. With workers, so many threads parse fragments beside this one. The fault of the topology, of the
-/// setup, or of the first file of an input that can't be opened; want of memory, or a write that fails.
+/// other known links are passed over. With workers, so many threads parse fragments beside this one. `err` hears of each fragment. The
+/// fault of the topology, of the setup, or of the first file of an input that can't be opened; want of memory, or a write that fails.
 pub fn stream_of_files<
     R: Files + Threads + Sync + AllocGlobal + Clone + Drop,
     I: ByteIn,
     O: ByteOut,
-    E: ByteOut,
+    E: Listener,
 >(
     rt: &R,
     topology: &str,

@@ -5,6 +5,7 @@ ghost use Rattle.std.specs.Prelude.{◌<◌, ◌^◌};
 use crate::fault::Fault;
 use crate::files::{all_fragments_of, topology_of};
 use crate::picking::{Trouble, link_of};
+use crate::progress::Gauge;
 use crate::reports::{Ending, ending_without, report_of};
 use std::alloc::{AllocError, Global};
 use std::fs;
@@ -196,31 +197,37 @@ fn view_of<R: Files + AllocGlobal, O: ByteOut>(
 }
 
 /// Draws a row of the report of the fragments of files on a topology.
-fn view_on<R: Files + Threads + Sync + AllocGlobal + Clone + Drop, O: ByteOut>(
+fn view_on<R: Files + Threads + Sync + AllocGlobal + Clone + Drop, G: Gauge, O: ByteOut>(
     rt: &R,
     topo: &Topo,
     words: &[&str],
     picture: &Picture<'_>,
+    gauge: &mut G,
     out: &mut O,
 ) -> Result<Ending, Fault>
     requires { O.failure_count out.old < 2 ^ 63 }
 {
-    let fragments = all_fragments_of(rt, topo, words)?;
+    let fragments = all_fragments_of(rt, topo, words, gauge)?;
     view_of(rt, topo, &fragments, picture, out)
 }
 
 /// Draws a row of the report of the fragments of files on a file's topology, and writes it into a file or to `out`. Words stand for
-/// files as for `once_of_files`, and the faults are the same; that the report has no such row, or that the file can't be written, is an
-/// objection.
-pub fn view_of_files<R: Files + Threads + Sync + AllocGlobal + Clone + Drop, O: ByteOut>(
+/// files as for `once_of_files`, and the faults and what the gauge is told are the same; that the report has no such row, or that the
+/// file can't be written, is an objection.
+pub fn view_of_files<
+    R: Files + Threads + Sync + AllocGlobal + Clone + Drop,
+    G: Gauge,
+    O: ByteOut,
+>(
     rt: &R,
     topology: &str,
     words: &[&str],
     picture: &Picture<'_>,
+    gauge: &mut G,
     out: &mut O,
 ) -> Result<Ending, Fault>
     requires { O.failure_count out.old < 2 ^ 63 }
 {
     let topo = topology_of(rt, topology)?;
-    view_on(rt, &topo, words, picture, out)
+    view_on(rt, &topo, words, picture, gauge, out)
 }

@@ -186,7 +186,7 @@ fn summary<'a>(alloc: Global) -> Arg<'a> {
     flag(
         alloc,
         "summary",
-        "Says on standard error, after the run, what was checked and found, as at a terminal",
+        "Says on standard error how far a long run is, and after it what was checked and found, as at a terminal",
     )
 }
 

@@ -4,6 +4,7 @@ ghost use Rattle.std.specs.Prelude.{◌≡◌, ◌<◌, ◌^◌, OnOk};
 
 use crate::feed::{Cut, Feed};
 use crate::form::RowForm;
+use crate::listener::Listener;
 use crate::parsers::Parsers;
 use crate::share::Passed;
 use crate::teller::{TellFault, Teller};
@@ -76,7 +77,7 @@ impl Place {
 }
 
 /// Reads the next fragment of an input and writes what comes of it.
-fn take_step<R: Threads + Sync + AllocGlobal, I: ByteIn, F: RowForm, O: ByteOut, E: ByteOut>(
+fn take_step<R: Threads + Sync + AllocGlobal, I: ByteIn, F: RowForm, O: ByteOut, E: Listener>(
     parsers: &Parsers<'_, R>,
     place: &mut Place,
     input: &mut I,
@@ -98,10 +99,12 @@ fn take_step<R: Threads + Sync + AllocGlobal, I: ByteIn, F: RowForm, O: ByteOut,
             let last = fragment.last();
             place.pass(&fragment);
             teller.take(alloc, fragment, out, err)?;
+            err.hear(teller.count());
             Ok(Step::Took(last))
         }
         Ok(Some(Cut::Passed(passed))) => {
             place.pass_over(passed);
+            err.hear(teller.count());
             Ok(Step::Took(passed.last))
         }
         Ok(None) => Ok(Step::Ended),
@@ -156,8 +159,8 @@ fn next_of<I: ByteIn>(sources: &[Source<I>]) -> Option<usize> {
     found
 }
 
-/// Streams one input, up to its end or to the first fault of its text.
-pub fn stream_input<R: Threads + Sync + AllocGlobal, I: ByteIn, F: RowForm, O: ByteOut, E: ByteOut>(
+/// Streams one input, up to its end or to the first fault of its text. `err` hears of each fragment.
+pub fn stream_input<R: Threads + Sync + AllocGlobal, I: ByteIn, F: RowForm, O: ByteOut, E: Listener>(
     parsers: &Parsers<'_, R>,
     teller: &mut Teller<'_, F>,
     input: &mut I,
@@ -180,13 +183,13 @@ pub fn stream_input<R: Threads + Sync + AllocGlobal, I: ByteIn, F: RowForm, O: B
     Ok(None)
 }
 
-/// Streams several inputs, up to the ends of all or to the first fault of a text.
+/// Streams several inputs, up to the ends of all or to the first fault of a text. `err` hears of each fragment.
 pub fn stream_sources<
     R: Threads + Sync + AllocGlobal,
     I: ByteIn,
     F: RowForm,
     O: ByteOut,
-    E: ByteOut,
+    E: Listener,
 >(
     parsers: &Parsers<'_, R>,
     teller: &mut Teller<'_, F>,

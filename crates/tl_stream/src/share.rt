@@ -1,10 +1,10 @@
 //! The managers that are checked, where they are not all.
 
-ghost use Rattle.std.specs.Prelude.{◌≡◌, ◌≤◌, ℕ, ◌∷◌, [], List, Ok, codes, length, option_map, is_some, is_none, IfOk, IfSome};
+ghost use Rattle.std.specs.Prelude.{◌≡◌, ◌≤◌, ℕ, List, Ok, length, option_map, is_none, IfOk, IfSome};
 ghost use Rattle.tl_text.specs.Words.{lines_of, first_line};
 ghost use Rattle.tl_beats.specs.Fragments.{Frag};
 ghost use Rattle.tl_beats.specs.Reading.{fragment_in};
-ghost use Rattle.tl_stream.specs.Shares.{leaves, left_at, passed_over};
+ghost use Rattle.tl_stream.specs.Shares.{leaves, left_in, passed_over, without_beats, TellsOf};
 
 use crate::ending::sought;
 use std::alloc::{AllocError, Global};
@@ -41,7 +41,7 @@ pub struct Passed {
 
 /// The text of a fragment with the first line of this text and no beats, if that ends. AllocError where memory is refused.
 fn header_alone(alloc: Global, text: &[u8]) -> Result<Option<Vec<u8>>, AllocError>
-    ensures { IfOk result (λ found. option_map (λ alone. lines_of alone.items) found ≡ option_map (λ x. x.0 ∷ codes "end" ∷ [] ∷ []) (first_line (lines_of text.now))) }
+    ensures { IfOk result (λ found. option_map (λ alone. lines_of alone.items) found ≡ option_map (λ first. without_beats first.0) (first_line (lines_of text.now))) }
 {
     let Some((header, _)) = line(text) else {
         return Ok(None);
@@ -88,14 +88,16 @@ impl Share {
         }
     }
 
-    /// The last cycle of the range of the fragment without beats whose text this is, if it is one of a link of another manager.
+    /// The last cycle of the range of the fragment at the front of a text, if it is one of a link of another manager. AllocError where
+    /// memory is refused.
     fn left_out(&self, alloc: Global, topo: &Topo, text: &[u8]) -> Result<Option<u64>, AllocError>
-        ensures { (line : List ℕ) → lines_of text.now ≡ line ∷ codes "end" ∷ [] ∷ [] → IfOk result (λ last. last ≡ left_at topo.now self.now line) }
+        ensures { IfOk result (λ last. last ≡ left_in topo.now self.now (fragment_in (lines_of text.now))) }
     {
         match parse_fragment(alloc, text) {
             Ok((fragment, _)) if self.leaves(topo, &fragment.link()) => Ok(Some(fragment.last())),
+            Ok(_) => Ok(None),
             Err(FragmentFault::Memory) => Err(AllocError),
-            _ => Ok(None),
+            Err(_) => Ok(None),
         }
     }
 
@@ -110,8 +112,7 @@ impl Share {
         ensures within { IfOk result (λ found. IfSome found (λ passed. passed.bytes ≤ length text.now)) }
         ensures exact { IfOk result (λ found. found ≡ passed_over topo.now self.now (lines_of text.now)) }
         // Of a text with a fragment at its front the fragment's link decides.
-        ensures fragments { (f : Frag) (rest : List (List ℕ)) → fragment_in (lines_of text.now) ≡ Ok (f, rest)
-            → IfOk result (λ found. is_some found ≡ leaves topo.now self.now f.link) }
+        ensures fragments { (f : Frag) (rest : List (List ℕ)) → fragment_in (lines_of text.now) ≡ Ok (f, rest) → IfOk result (TellsOf topo.now self.now f) }
     {
         if self.is_all() {
             return Ok(None);

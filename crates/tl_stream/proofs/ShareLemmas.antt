@@ -4,7 +4,7 @@ use Rattle.std.specs.Prelude.{codes, option_map, is_none, is_some, if◌then◌e
 use Rattle.std.specs.Str.{bytes_eq}
 use Rattle.std.proofs.lemmas.Option.{none-some, same_Some}
 use Rattle.std.proofs.lemmas.Slice.Eq.{bytes_eq-Decides}
-use Rattle.tl_text.specs.Words.{◌>>=◌, cut, before_stop, word_at, line_at, lines_of, first_line}
+use Rattle.tl_text.specs.Words.{◌>>=◌, cut, word_at, line_at, lines_of, first_line}
 use Rattle.tl_text.specs.Readings.{◌>>>◌, or_fault}
 use Rattle.tl_text.proofs.Cuts.{Line, lines_by, lines_cut}
 use Rattle.tl_topology.specs.Topology.{Topology}
@@ -75,9 +75,9 @@ pub passed_by : (topo : Topology) (managers : Option (List ℕ)) (lines alone : 
 unfolding passed_over with_end
 passed_by topo managers lines alone last end has is ends = elim (first_line lines) as (λ (o : Option Line). Some alone ≡ option_map (λ (first : Line). without_beats first.0) o
     → (o >>= λ first. left_at topo managers first.0 >>= λ l. end_from 0 0 lines >>= λ e. made l e) ≡ with_end last end) [
-  | None ↦ λ h. absurd (none-some _ (sym h))
-  | Some first ↦ λ h. (let left : left_at topo managers first.0 ≡ last = sym (alone_is topo managers first.0) ∙ ap (λ (ls : List (List ℕ)). left_in topo managers (fragment_in ls)) (sym (same_Some _ _ h)) ∙ sym is in rw (left, ends) refl)
-] has
+      | None ↦ λ h. absurd (none-some _ (sym h))
+      | Some first ↦ λ h. (let left : left_at topo managers first.0 ≡ last = sym (alone_is topo managers first.0) ∙ ap (λ (ls : List (List ℕ)). left_in topo managers (fragment_in ls)) (sym (same_Some _ _ h)) ∙ sym is in rw (left, ends) refl)
+    ] has
 
 pub not_of_others : (topo : Topology) (managers : Option (List ℕ)) (lines alone : List (List ℕ)) → Some alone ≡ option_map (λ (first : Line). without_beats first.0) (first_line lines)
     → None ≡ left_in topo managers (fragment_in alone) → passed_over topo managers lines ≡ None
@@ -130,13 +130,13 @@ beats_end first last number n at before [] x e = absurd (ok-err x (fault.Truncat
 beats_end first last number n at before (line ∷ []) x e = absurd (ok-err x (fault.Truncated number) (sym e))
 beats_end first last number n at before (line ∷ next ∷ lines) x e = elim (bytes_eq line (codes "end")) as (λ (b : Bool). cond b (Ok (before, next ∷ lines)) (next_at first last number before line >>> λ beat. beats_from first last (number + 1) (before ++ beat ∷ []) (next ∷ lines)) ≡ Ok x
     → (y : ℕ × ℕ) × (cond b (Some (n + 1, at + (length line + 1))) (end_from (n + 1) (at + (length line + 1)) (next ∷ lines)) ≡ Some y) × (y.0 + length before ≡ n + 1 + length x.0)) [
-  | true ↦ λ h. ((n + 1, at + (length line + 1)), refl, ap (λ (q : Left). n + 1 + length q.0) (ok_is {A = Left} _ _ h))
-  | false ↦ λ h. (let one = bind_ok (next_at first last number before line) (λ beat. beats_from first last (number + 1) (before ++ beat ∷ []) (next ∷ lines)) x h in
-      let more = beats_end first last (number + 1) (n + 1) (at + (length line + 1)) (before ++ one.0 ∷ []) (next ∷ lines) x one.2 in
-      let grown : length (before ++ one.0 ∷ []) ≡ length before + 1 = length-append before (one.0 ∷ []) in
-      let counted = more.2 in
-      (more.0, more.1, omega (arith, grown, counted)))
-] e
+      | true ↦ λ h. ((n + 1, at + (length line + 1)), refl, ap (λ (q : Left). n + 1 + length q.0) (ok_is {A = Left} _ _ h))
+      | false ↦ λ h. (let one = bind_ok (next_at first last number before line) (λ beat. beats_from first last (number + 1) (before ++ beat ∷ []) (next ∷ lines)) x h in
+          let more = beats_end first last (number + 1) (n + 1) (at + (length line + 1)) (before ++ one.0 ∷ []) (next ∷ lines) x one.2 in
+          let grown : length (before ++ one.0 ∷ []) ≡ length before + 1 = length-append before (one.0 ∷ []) in
+          let counted = more.2 in
+          (more.0, more.1, omega (arith, grown, counted)))
+    ] e
 
 -- A header is no end.
 end_is_no_header : header_at (codes "end") ≡ None
@@ -179,6 +179,6 @@ front_decides topo managers [] rest f found e is = absurd (ok-err (f, rest) (fau
 front_decides topo managers (line ∷ []) rest f found e is = absurd (ok-err (f, rest) (fault.Truncated 1) (sym e))
 front_decides topo managers (line ∷ next ∷ lines) rest f found e is = rw is (elim (header_at line) as (λ o. header_at line ≡ o → (or_fault o fault.BadHeader >>> λ header. fragment_behind header (next ∷ lines)) ≡ Ok (f, rest)
     → TellsOf topo managers f (passed_over topo managers (line ∷ next ∷ lines))) [
-  | None ↦ λ has h. absurd (ok-err (f, rest) fault.BadHeader (sym h))
-  | Some header ↦ λ has h. header_tells topo managers line next lines rest header.link header.number header.first header.last f has h
-] refl e)
+      | None ↦ λ has h. absurd (ok-err (f, rest) fault.BadHeader (sym h))
+      | Some header ↦ λ has h. header_tells topo managers line next lines rest header.link header.number header.first header.last f has h
+    ] refl e)

@@ -1,4 +1,4 @@
-use Rattle.std.proofs.Common.{◌≡◌, ℕ, List, Some, None, Option, false, true, rules, sym, ap, ◌∙◌}
+use Rattle.std.proofs.Common.{◌≡◌, Some, None, false, true, rules, sym}
 use Rattle.std.specs.Prelude.{option_map}
 use Rattle.tl_text.specs.Words.{lines_of, first_line}
 use Rattle.tl_text.proofs.Cuts.{Line}

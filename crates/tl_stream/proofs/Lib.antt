@@ -7,3 +7,5 @@ pub mod StreamLemmas
 pub mod LawLemmas
 pub mod AcceptLemmas
 pub mod EndLemmas
+pub mod EndingLemmas
+pub mod ShareLemmas

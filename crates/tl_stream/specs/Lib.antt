@@ -7,3 +7,4 @@ pub mod Laws
 pub mod Feeds
 pub mod Parts
 pub mod Lookouts
+pub mod Shares

@@ -8,6 +8,7 @@ ghost use Rattle.tl_stream.specs.Feeds.{all_left, Gives, IsCut};
 ghost use Rattle.tl_stream.specs.Parts.{joined_texts, BeginsWith};
 
 use crate::ahead::Ahead;
+use crate::ending::sought;
 use crate::parsers::Parsers;
 use crate::share::{Passed, Share};
 use std::alloc::{AllocError, Global};
@@ -15,7 +16,7 @@ use std::collections::VecDeque;
 use std::marker::Model;
 use std::thread::Threads;
 use tl_beats::{Fragment, FragmentFault, parse_fragment};
-use tl_text::{ByteIn, line};
+use tl_text::ByteIn;
 use tl_topology::Topo;
 
 /// The most bytes of a fragment's text.
@@ -58,25 +59,6 @@ impl Model for Feed {
     ghost view = { λ f. flat_map fragment_text f.parsed.items ++ f.ahead };
 }
 
-/// Whether a line from a place on is the last of a fragment, and the place after it; else where the line begins that no newline ends.
-fn sought(bytes: &[u8], from: usize) -> (bool, usize)
-    requires { from ≤ length bytes.now }
-    ensures after { from ≤ result.1 }
-    ensures within { result.1 ≤ length bytes.now }
-{
-    let mut place = from;
-    for _ in from..bytes.len() {
-        let Some((next, _)) = line(&bytes[place..]) else {
-            return (false, place);
-        };
-        place += next.len() + 1;
-        if next == b"end".as_slice() {
-            return (true, place);
-        }
-    }
-    (false, place)
-}
-
 /// The texts at the front, each up to a line that is the last of a fragment. AllocError where memory is refused.
 fn whole_texts(alloc: Global, bytes: &[u8]) -> Result<Vec<Vec<u8>>, AllocError>
     ensures { IfOk result (λ texts. BeginsWith bytes.now texts.items) }
@@ -84,12 +66,12 @@ fn whole_texts(alloc: Global, bytes: &[u8]) -> Result<Vec<Vec<u8>>, AllocError>
     let mut texts = Vec::new(alloc);
     let mut start = 0;
     for _ in 0..bytes.len() {
-        let (has_end, place) = sought(bytes, start);
-        if !has_end {
+        let found = sought(bytes, start);
+        if !found.has_end {
             break;
         }
-        texts.push(Vec::from_slice(alloc, &bytes[start..place])?)?;
-        start = place;
+        texts.push(Vec::from_slice(alloc, &bytes[start..found.place])?)?;
+        start = found.place;
     }
     Ok(texts)
 }
@@ -155,14 +137,14 @@ fn fill<I: ByteIn>(ahead: &mut Ahead, input: &mut I) -> Result<bool, FragmentFau
     let mut searched = 0;
     for _ in 0..MOST_BYTES + 2 {
         let left = ahead.left();
-        let (has_end, next) = sought(&left[..left.len().min(MOST_BYTES)], searched);
-        if has_end {
+        let found = sought(&left[..left.len().min(MOST_BYTES)], searched);
+        if found.has_end {
             return Ok(false);
         }
         if left.len() > MOST_BYTES {
             return Err(FragmentFault::TooLong);
         }
-        searched = next;
+        searched = found.place;
         if ahead.read_more(input)? {
             return Ok(true);
         }

@@ -3,6 +3,7 @@
 
 mod ahead;
 mod course;
+mod ending;
 mod fault;
 mod feed;
 mod form;

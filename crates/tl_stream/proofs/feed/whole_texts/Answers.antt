@@ -5,9 +5,9 @@ use Rattle.tl_stream.proofs.feed.whole_texts.Goals as goal
 
 pub loop-preserved : goal.loop-preserved
 loop-preserved c = record {
-  within = c.sought-has_end.ensures.within;
+  within = c.sought-found.ensures.within;
   taken = ap joined_texts c.in_ok-push.ensures.items
-      ∙ text_taken c.args.bytes.now c.loop.texts.items c.in_ok-from_slice.field-0 c.loop.start c.sought-has_end.result.1 c.loop.invariant.taken c.sought-has_end.ensures.after (search rules);
+      ∙ text_taken c.args.bytes.now c.loop.texts.items c.in_ok-from_slice.field-0 c.loop.start c.sought-found.result.place c.loop.invariant.taken c.sought-found.ensures.after (search rules);
 }
 
 pub returns : goal.returns

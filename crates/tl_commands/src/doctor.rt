@@ -60,13 +60,7 @@ pub fn doctor_of_files<
     R: Files + Threads + Sync + AllocGlobal + Clone + Drop,
     G: Gauge,
     O: ByteOut,
->(
-    rt: &R,
-    topology: &str,
-    words: &[&str],
-    gauge: &mut G,
-    out: &mut O,
-) -> Result<Ending, Fault>
+>(rt: &R, topology: &str, words: &[&str], gauge: &mut G, out: &mut O) -> Result<Ending, Fault>
     requires { O.failure_count out.old < 2 ^ 63 }
 {
     let topo = topology_of(rt, topology)?;

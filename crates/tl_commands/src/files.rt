@@ -212,10 +212,7 @@ fn listed<R: Files + AllocGlobal + Clone + Drop>(
 
 /// The fragments of the files that words stand for, of those that are checked, read by so many threads beside this one. The gauge is
 /// told of each file that was read. The fault is that of the first file or word that has one.
-pub(crate) fn fragments_of<
-    R: Files + Threads + Sync + AllocGlobal + Clone + Drop,
-    G: Gauge,
->(
+pub(crate) fn fragments_of<R: Files + Threads + Sync + AllocGlobal + Clone + Drop, G: Gauge>(
     rt: &R,
     words: &[&str],
     sieve: Sieve<'_>,
@@ -236,10 +233,7 @@ pub(crate) fn fragments_of<
 }
 
 /// The fragments of the files that words stand for, whatever their managers are, read by this thread alone.
-pub(crate) fn all_fragments_of<
-    R: Files + Threads + Sync + AllocGlobal + Clone + Drop,
-    G: Gauge,
->(
+pub(crate) fn all_fragments_of<R: Files + Threads + Sync + AllocGlobal + Clone + Drop, G: Gauge>(
     rt: &R,
     topo: &Topo,
     words: &[&str],

@@ -185,11 +185,7 @@ fn once_on<R: Files + Threads + Sync + AllocGlobal + Clone + Drop, G: Gauge, O: 
 /// links are passed over. With workers, so many threads read files and judge beside this one. The gauge is told of each file that was
 /// read. The fault of the first file that has one, that of the first fragment that is refused after those before it, want of memory, or
 /// a write that fails.
-pub fn once_of_files<
-    R: Files + Threads + Sync + AllocGlobal + Clone + Drop,
-    G: Gauge,
-    O: ByteOut,
->(
+pub fn once_of_files<R: Files + Threads + Sync + AllocGlobal + Clone + Drop, G: Gauge, O: ByteOut>(
     rt: &R,
     topology: &str,
     capture: &Capture<'_>,

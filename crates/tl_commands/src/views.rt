@@ -214,11 +214,7 @@ fn view_on<R: Files + Threads + Sync + AllocGlobal + Clone + Drop, G: Gauge, O: 
 /// Draws a row of the report of the fragments of files on a file's topology, and writes it into a file or to `out`. Words stand for
 /// files as for `once_of_files`, and the faults and what the gauge is told are the same; that the report has no such row, or that the
 /// file can't be written, is an objection.
-pub fn view_of_files<
-    R: Files + Threads + Sync + AllocGlobal + Clone + Drop,
-    G: Gauge,
-    O: ByteOut,
->(
+pub fn view_of_files<R: Files + Threads + Sync + AllocGlobal + Clone + Drop, G: Gauge, O: ByteOut>(
     rt: &R,
     topology: &str,
     words: &[&str],

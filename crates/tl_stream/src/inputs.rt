@@ -160,7 +160,13 @@ fn next_of<I: ByteIn>(sources: &[Source<I>]) -> Option<usize> {
 }
 
 /// Streams one input, up to its end or to the first fault of its text. `err` hears of each fragment.
-pub fn stream_input<R: Threads + Sync + AllocGlobal, I: ByteIn, F: RowForm, O: ByteOut, E: Listener>(
+pub fn stream_input<
+    R: Threads + Sync + AllocGlobal,
+    I: ByteIn,
+    F: RowForm,
+    O: ByteOut,
+    E: Listener,
+>(
     parsers: &Parsers<'_, R>,
     teller: &mut Teller<'_, F>,
     input: &mut I,

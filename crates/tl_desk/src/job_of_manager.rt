@@ -8,8 +8,8 @@ use crate::Piece;
 use std::alloc::Global;
 use std::marker::Model;
 use tl_board::{Rows, SpanTask};
-use tl_check::SpanState;
 use tl_capture::Stored;
+use tl_check::SpanState;
 
 /// A window of a manager that went out to be checked, with its ticket. It must be spent, as a `Job`.
 pub struct ManagerJob {

@@ -8,8 +8,8 @@ use crate::Piece;
 use std::alloc::Global;
 use std::marker::Model;
 use tl_board::{Rows, Tally, WatchTask};
-use tl_monitor::Monitor;
 use tl_capture::Stored;
+use tl_monitor::Monitor;
 
 /// A window of a monitor that went out to be checked with its monitor, and with its ticket. It must be spent, as a `Job`.
 pub struct MonitorJob<M: Monitor> {

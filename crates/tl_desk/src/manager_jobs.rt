@@ -18,8 +18,8 @@ use crate::tickets::Taken;
 use crate::{Done, HandIn, ManagerDone, ManagerJob, Piece, TakeFault};
 use std::alloc::Global;
 use tl_board::{Watches, window_key};
-use tl_monitor::Monitor;
 use tl_capture::PieceKey;
+use tl_monitor::Monitor;
 
 /// If a ticket is a window's live one, the window has none any more. Answers whether it was.
 fn unmark(windows: &mut Watches, key: PieceKey, ticket: u64) -> bool

@@ -19,8 +19,8 @@ use crate::tickets::Taken;
 use crate::{Done, HandIn, MonitorDone, MonitorJob, Piece, TakeFault};
 use std::alloc::Global;
 use tl_board::{Watches, is_watch, watch_key};
-use tl_monitor::{Boxes, Monitor};
 use tl_capture::PieceKey;
+use tl_monitor::{Boxes, Monitor};
 
 /// If a ticket is a window's live one, the window has none any more. Answers whether it was.
 fn unmark(windows: &mut Watches, key: PieceKey, ticket: u64) -> bool

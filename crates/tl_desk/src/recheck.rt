@@ -18,8 +18,8 @@ use crate::desk::Desk;
 use crate::fault::RecheckFault;
 use std::alloc::{AllocError, Global};
 use tl_board::Watches;
-use tl_monitor::{Boxes, Monitor};
 use tl_capture::PieceKey;
+use tl_monitor::{Boxes, Monitor};
 
 /// Checks a window of a monitor that is here. AllocError where memory is refused: then no window has changed.
 fn check_here<M: Monitor>(

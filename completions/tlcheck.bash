@@ -3,9 +3,9 @@ _tlcheck() {
     local here=${COMP_WORDS[COMP_CWORD]} words=
     case $COMP_CWORD:${COMP_WORDS[1]} in
     1:*) words='once run audit stream merge doctor view explain help --help --version' ;;
-    *:once) words='--workers --manager --show --explain-faults --summary --deny --format --rule --link --from --to --waive --help' ;;
+    *:once) words='--workers --manager --show --explain-faults --summary --deny --format --rule --link --from --to --waive --midway --help' ;;
     *:run) words='--workers --show --explain-faults --summary --deny --help' ;;
-    *:audit) words='--workers --show --explain-faults --summary --deny --format --rule --link --from --to --waive --help' ;;
+    *:audit) words='--workers --show --explain-faults --summary --deny --format --rule --link --from --to --waive --midway --help' ;;
     *:stream) words='--workers --setup --manager --show --explain-faults --help' ;;
     *:merge) words='--explain-faults --help' ;;
     *:doctor) words='--explain-faults --help' ;;

@@ -7,6 +7,7 @@ mod doctor;
 mod fault;
 mod files;
 mod merging;
+mod midway;
 mod pasts;
 mod paths;
 mod picking;

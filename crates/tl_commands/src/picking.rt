@@ -1,9 +1,10 @@
 //! Runs of which the words choose the rows that are written.
 
-ghost use Rattle.std.specs.Prelude.{◌<◌, ◌≤◌, ◌^◌, length};
+ghost use Rattle.std.specs.Prelude.{◌<◌, ◌≤◌, ◌^◌, IfOk, length};
 ghost use Rattle.std.specs.List.{All};
 
 use crate::fault::Fault;
+use crate::midway::law_line;
 use crate::pasts::inputs_left;
 use std::alloc::{AllocError, AllocFailed, Global};
 use std::fs;
@@ -15,6 +16,7 @@ use tl_beats::{Fragment, Row};
 use tl_check::{Judges, all_added};
 use tl_edits::Inputs;
 use tl_formats::{Pick, Title, Waiver, WaiverFault, print_rows, read_waivers};
+use tl_midway::{Midway, midway_scratch};
 use tl_options::{How, View};
 use tl_rows::Format;
 use tl_text::{ByteOut, CountedReader, TextFault, read_text, write_all};
@@ -55,6 +57,8 @@ pub(crate) struct Order<'a> {
     waive: Option<&'a str>,
     /// Whether their summary is told.
     summary: bool,
+    /// By which law they stand, where the capture is from the middle of a run.
+    midway: Option<Midway>,
 }
 
 /// What was written.
@@ -62,7 +66,7 @@ pub(crate) struct Order<'a> {
 pub struct Written {
     /// How many rows.
     pub rows: u64,
-    /// What is told of waivers.
+    /// What is told of waivers, and of the law by which rows stand.
     pub notes: String,
     /// Their summary, if it is told.
     pub summary: Option<String>,
@@ -181,6 +185,7 @@ pub(crate) fn order_of<'a, R: Files + AllocGlobal>(
         pick,
         waive: view.waive,
         summary: how.summary,
+        midway: view.midway,
     })
 }
 
@@ -223,7 +228,7 @@ fn push_idle(
 }
 
 /// How many rows are waived, and which waivers accept none.
-fn notes_of(
+fn waiver_notes(
     alloc: Global,
     path: Option<&str>,
     pick: &Pick,
@@ -234,6 +239,13 @@ fn notes_of(
     };
     let mut notes = waived_line(alloc, path, pick, rows)?;
     push_idle(alloc, path, pick, rows, &mut notes)?;
+    Ok(notes)
+}
+
+/// What is told of these rows: of waivers, and of the law by which they stand.
+fn notes_of(alloc: Global, order: &Order<'_>, rows: &[Row]) -> Result<String, AllocError> {
+    let mut notes = waiver_notes(alloc, order.waive, &order.pick, rows)?;
+    notes.push_str(law_line(order.midway))?;
     Ok(notes)
 }
 
@@ -288,13 +300,27 @@ fn write_rows<O: ByteOut>(
     requires out { O.failure_count out.old < 2 ^ 63 }
     requires links { All (λ row. row.link < length inputs.now.topo.links) rows.now }
 {
-    let notes = notes_of(alloc, order.waive, &order.pick, rows)?;
+    let notes = notes_of(alloc, order, rows)?;
     let count = write_left(alloc, title, inputs, order, rows, out)?;
     Ok(Written {
         rows: count,
         notes,
         summary: summary_of(alloc, inputs, order, rows),
     })
+}
+
+/// The rows of what stands: all, or of a capture from the middle of a run those that stand by a law.
+fn rows_found<R: Threads + Sync + AllocGlobal>(
+    judges: &Judges<'_, R>,
+    inputs: &Inputs,
+    midway: Option<Midway>,
+) -> Result<Vec<Row>, AllocError>
+    ensures { IfOk result (λ rows. All (λ row. row.link < length inputs.now.topo.links) rows.items) }
+{
+    match midway {
+        Some(law) => midway_scratch(judges.alloc(), inputs, law),
+        None => judges.scratch(inputs),
+    }
 }
 
 /// Writes those rows of what stands that are wanted.
@@ -307,7 +333,7 @@ fn write_found<R: Threads + Sync + AllocGlobal, O: ByteOut>(
 ) -> Result<Written, Fault>
     requires { O.failure_count out.old < 2 ^ 63 }
 {
-    let rows = judges.scratch(inputs)?;
+    let rows = rows_found(judges, inputs, order.midway)?;
     write_rows(judges.alloc(), title, inputs, order, &rows, out)
 }
 

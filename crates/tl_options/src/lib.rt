@@ -7,6 +7,7 @@ mod explain;
 mod flow_entries;
 mod format_entries;
 mod merge;
+mod midway;
 mod permission_entries;
 mod picture;
 mod refusal_entries;

@@ -7,3 +7,5 @@ pub mod OpenedLaws
 pub mod KnownLaws
 pub mod StandLaws
 pub mod Results
+pub mod StandingLaws
+pub mod LinkReadingLaws

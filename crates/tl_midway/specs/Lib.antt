@@ -7,3 +7,8 @@ pub mod KnownTable
 pub mod CountedTable
 pub mod KnownBounds
 pub mod KnownLink
+pub mod Midway
+pub mod Standing
+pub mod LinkReadings
+pub mod ManagerReadings
+pub mod KnownPasts

@@ -7,5 +7,11 @@ pub mod OpenedLaws
 pub mod KnownLaws
 pub mod StandLaws
 pub mod Results
+pub mod KnownPastLaws
 pub mod StandingLaws
 pub mod LinkReadingLaws
+pub mod PlaceLaws
+pub mod ManagerReadingLaws
+pub mod PrintedLaws
+pub mod HeadRowLaws
+pub mod StateLaws

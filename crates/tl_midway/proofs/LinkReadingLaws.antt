@@ -132,8 +132,8 @@ pub known_after : (link : LinkDecl) (by_fields : Bool) (beat : Beat) (old new : 
 known_after link by_fields beat old new result takes known k =
     by_channel (λ c. one.IsKnown (channel_of new c)) beat.chan k
     (let was = known beat.chan in
-        let next = takes.own was.0 was.1 was.2 in
-        (map (reading_after link beat) (told by_fields link beat was.1 was.0), beat ∷ was.1, next.1))
+    let next = takes.own was.0 was.1 was.2 in
+    (map (reading_after link beat) (told by_fields link beat was.1 was.0), beat ∷ was.1, next.1))
     (λ other. subst (λ r. one.IsKnown r) (sym (takes.others k other)) (known k))
 
 same_itself : (k : Chan) → same_chan k k ≡ true
@@ -187,8 +187,7 @@ module _ (m : Manager) (start : Beginning) (before : List Placed) (p : Placed) w
       let here : Stands old before own = stands own in
       let at : channel.StandsFor (m.links p.link) (start.most p.link own) start.by_fields (channel_of old own) (before_on p.link own before) =
       subst (λ n. channel.StandsFor (m.links n) (start.most n own) start.by_fields (channel_of old own) (before_on n own before)) (sym is) here in
-      let next = takes.own (readings_after (m.links p.link) (start.most p.link own) start.by_fields (before_on p.link own before)) (before_on p.link own before) at in
-      (
+      let next = takes.own (readings_after (m.links p.link) (start.most p.link own) start.by_fields (before_on p.link own before)) (before_on p.link own before) at in (
         next.0,
         (λ k. by_channel (Stands new (p ∷ before)) own k
             (subst (λ n. channel.StandsFor (m.links n) (start.most n own) start.by_fields (channel_of new own) (before_on n own (p ∷ before))) (is ∙ sym takes.number)

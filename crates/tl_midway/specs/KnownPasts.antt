@@ -1,8 +1,8 @@
 -- What is known of the pasts of a manager's links, and what a head breaks by that.
-use Rattle.std.specs.Prelude.{ℕ, ◌≡◌, ◌==◌, ◌&&◌, not, Bool, true, false, List, ◌∷◌, length, map, Option, is_some}
+use Rattle.std.specs.Prelude.{ℕ, ◌≡◌, ◌==◌, ◌&&◌, not, Bool, true, false, List, ◌∷◌, ◌++◌, length, map, filter, Option, is_some}
 use Rattle.std.specs.List.{All, list_any}
 use Rattle.std.specs.List.Sorted.{IsStrictlySortedBy}
-use Rattle.std.specs.Option.{option_map_or}
+use Rattle.std.specs.Option.{option_and_then, option_map_or}
 use Rattle.std.specs.Ordering.{nat_cmp}
 use Rattle.tl_tables.specs.declared.Perm.{Perm}
 use Rattle.tl_tables.specs.declared.Rule.{Rule}
@@ -12,13 +12,14 @@ use Rattle.tl_topology.specs.Regions.{Area}
 use Rattle.tl_topology.specs.declared.LinkDecl.{LinkDecl}
 use Rattle.tl_beats.specs.declared.Placed.{Placed}
 use Rattle.tl_beats.specs.declared.Request.{Request}
-use Rattle.tl_definitions.specs.Messages.{Message, block_of, claim, granted_block}
+use Rattle.tl_definitions.specs.Messages.{Message, block_of, claim}
 use Rattle.tl_definitions.specs.Readings.{may_begin, must_begin}
-use Rattle.tl_definitions.specs.Rules.{Manager}
-use Rattle.tl_definitions.specs.Known.{Known, Beginning, surely, answering, readings_of}
-use Rattle.tl_definitions.specs.Printed.{every_bound}
+use Rattle.tl_definitions.specs.Rules.{Manager, flow_order, permission_order, manager_order}
+use Rattle.tl_definitions.specs.Known.{Known, Beginning, surely, answering, known_request, readings_of}
+use Rattle.tl_definitions.specs.Printed.{Front, front, every_bound, grant_open, breaks_flow_surely, breaks_manager_surely}
+use Rattle.tl_client_rules.specs.Client.{acquired_block}
 use Rattle.tl_midway.specs.KnownLink as known_link
-use Rattle.tl_midway.specs.KnownLink.{has_open_grant}
+use Rattle.tl_midway.specs.KnownLink.{has_open_grant, permission_surely}
 use Rattle.tl_midway.specs.declared.known_pasts.LinkPast.{LinkPast}
 use Rattle.tl_midway.specs.declared.known_pasts.KnownPasts.{KnownPasts}
 
@@ -61,12 +62,23 @@ abbrev pub conflicts_known : KnownPasts → ℕ → Known (Option Request) → M
 conflicts_known state link request message =
     surely (λ answered. option_map_or (conflicts_shown state link) (claim state.exponent (answering message answered)) false) request
 
-abbrev pub probe_known : KnownPasts → Known (Option Request) → Message → Bool
-probe_known state request message = surely (λ answered. option_map_or (probe_shown state) (granted_block state.exponent (answering message answered)) false) request
+abbrev pub probe_known : KnownPasts → Known (Option Request) → Bool
+probe_known state request = surely (λ answered. option_map_or (probe_shown state) (option_and_then (acquired_block state.exponent) answered) false) request
 
 -- The manager rules that a head with this message breaks.
 abbrev pub breaks_shown_manager : KnownPasts → ℕ → Known (Option Request) → Message → Rule → Bool
 breaks_shown_manager state link request message rule.M1 = is_grant message.op && conflicts_known state link request message
-breaks_shown_manager state link request message rule.M2 = is_grant message.op && probe_known state request message
+breaks_shown_manager state link request message rule.M2 = is_grant message.op && probe_known state request
 breaks_shown_manager state link request message rule.M3 = is_probe message.op && grant_shown state (block_of state.exponent message)
 breaks_shown_manager state link request message _ = false
+
+-- The flow rules, the permission rules and the manager rules that a certain head with this message breaks, on a link that is
+-- strict or isn't.
+abbrev pub message_broken : Bool → Manager → Front → ℕ → Message → List Rule
+message_broken strict m f link message = filter (breaks_flow_surely (f.past link).flow (known_request (f.past link).flow message) message) flow_order
+    ++ filter (permission_surely strict m f link message) permission_order
+    ++ filter (breaks_manager_surely m.clients m.exponent f.past (grant_open f) link (known_request (f.past link).flow message) message) manager_order
+
+-- This holds of what is known of each link after whatever beats of its manager the state stands for.
+abbrev pub AfterMessages : KnownPasts → (Manager → Front → Type 0) → Type 0
+AfterMessages state Holds = (m : Manager) (start : Beginning) (before : List Placed) → StandsFor m start state before → Holds m (front m start before)

@@ -12,3 +12,4 @@ pub mod Standing
 pub mod LinkReadings
 pub mod ManagerReadings
 pub mod KnownPasts
+pub mod State

@@ -1,7 +1,7 @@
 //! What is known of the pasts of a manager's links.
 
-ghost use Rattle.std.specs.Prelude.{◌≡◌, ◌<◌, [], ◌∷◌, List, length, map, IfOk, OnOk};
-ghost use Rattle.std.specs.List.{All};
+ghost use Rattle.std.specs.Prelude.{◌≡◌, ◌==◌, ◌<◌, [], ◌∷◌, List, length, map, IfOk, OnOk};
+ghost use Rattle.std.specs.List.{All, position};
 ghost use Rattle.tl_topology.specs.Regions.{Area};
 ghost use Rattle.tl_definitions.specs.Known.{Beginning, first_past};
 ghost use Rattle.tl_definitions.specs.Managers.{declared_links, manager_at};
@@ -56,6 +56,13 @@ fn first_pasts(
     Ok(links)
 }
 
+/// The place of a link among these, if it is one of them.
+fn place_in(links: &[LinkPast], link: u16) -> Option<usize>
+    ensures { result ≡ position (λ (own : AnyLink). own.number == link) links.now }
+{
+    links.iter().position(|own| own.number == link)
+}
+
 impl KnownPasts {
     ghost use Rattle.tl_midway.specs.KnownPasts.{StandsFor, AfterBeats, numbers_of};
 
@@ -75,7 +82,7 @@ impl KnownPasts {
     pub fn place(&self, link: u16) -> Option<usize>
         ensures { result ≡ place_of link (numbers_of self.now) }
     {
-        self.links.iter().position(|own| own.number == link)
+        place_in(&self.links, link)
     }
 
     /// What is known after the manager's next beat, which begins a message for certain, or may. AllocError where memory is refused:

@@ -48,13 +48,7 @@ impl LinkReadings {
     }
 
     /// What the link's next beat is, which is this one; then makes the readings of its channel those of the beat after it.
-    pub fn take(
-        &mut self,
-        alloc: Global,
-        by_fields: bool,
-        link: &LinkDecl,
-        beat: &Beat,
-    ) -> Standing
+    pub fn take(&mut self, alloc: Global, by_fields: bool, link: &LinkDecl, beat: &Beat) -> Standing
         requires link { IsSound link.now }
         requires beat { IsWellFormed beat.now }
         requires known { IsKnown self.old }

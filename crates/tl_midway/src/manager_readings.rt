@@ -1,6 +1,6 @@
 //! The readings of each channel of a manager's links.
 
-ghost use Rattle.std.specs.Prelude.{◌≡◌, ◌<◌, [], List, length, take, IfOk, OnOk, map};
+ghost use Rattle.std.specs.Prelude.{◌≡◌, ◌==◌, ◌<◌, [], List, length, take, IfOk, OnOk, map};
 ghost use Rattle.std.specs.List.{All, position};
 ghost use Rattle.tl_topology.specs.Regions.{Area};
 ghost use Rattle.tl_topology.specs.Topology.{IsSound};
@@ -49,6 +49,13 @@ fn first_readings(
     Ok(links)
 }
 
+/// The place of a link among these, if it is one of them.
+fn place_in(links: &[LinkReadings], link: u16) -> Option<usize>
+    ensures { result ≡ position (λ (own : AnyLink). own.number == link) links.now }
+{
+    links.iter().position(|own| own.number == link)
+}
+
 impl ManagerReadings {
     ghost use Rattle.tl_midway.specs.ManagerReadings.{StandsFor, Takes, AreKnown, numbers_of};
 
@@ -73,7 +80,7 @@ impl ManagerReadings {
     fn place(&self, link: u16) -> Option<usize>
         ensures { result ≡ place_of link (numbers_of self.now) }
     {
-        self.links.iter().position(|own| own.number == link)
+        place_in(&self.links, link)
     }
 
     /// What the next beat of the manager is, which is this one: the first of a message for certain, one that may be, or a later one.

@@ -46,13 +46,7 @@ impl Readings {
 
     /// What the channel's next beat is, which is this one; then makes these readings those of the beat after it. Where bursts are
     /// told by their fields, those of a beat of the lead-in drop the readings that they speak against.
-    pub fn take(
-        &mut self,
-        alloc: Global,
-        by_fields: bool,
-        link: &LinkDecl,
-        beat: &Beat,
-    ) -> Standing
+    pub fn take(&mut self, alloc: Global, by_fields: bool, link: &LinkDecl, beat: &Beat) -> Standing
         requires link { IsSound link.now }
         requires beat { IsWellFormed beat.now }
         requires known { IsKnown self.old }

@@ -15,3 +15,4 @@ pub mod ManagerReadingLaws
 pub mod PrintedLaws
 pub mod HeadRowLaws
 pub mod StateLaws
+pub mod WalkLaws

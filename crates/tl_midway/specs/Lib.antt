@@ -13,3 +13,4 @@ pub mod LinkReadings
 pub mod ManagerReadings
 pub mod KnownPasts
 pub mod State
+pub mod Walked

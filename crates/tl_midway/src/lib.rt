@@ -18,6 +18,7 @@ mod seen;
 mod standing;
 mod state;
 mod table;
+mod walked;
 
 pub use known::Known;
 pub use known_bounds::Possible;
@@ -31,3 +32,4 @@ pub use readings::Readings;
 pub use seen::Seen;
 pub use standing::Standing;
 pub use state::MidwayState;
+pub use walked::midway_rows;

@@ -16,3 +16,4 @@ pub mod PrintedLaws
 pub mod HeadRowLaws
 pub mod StateLaws
 pub mod WalkLaws
+pub mod MidwayReportLaws

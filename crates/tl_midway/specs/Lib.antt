@@ -14,3 +14,4 @@ pub mod ManagerReadings
 pub mod KnownPasts
 pub mod State
 pub mod Walked
+pub mod Report

@@ -7,3 +7,13 @@ pub mod OpenedLaws
 pub mod KnownLaws
 pub mod StandLaws
 pub mod Results
+pub mod KnownPastLaws
+pub mod StandingLaws
+pub mod LinkReadingLaws
+pub mod PlaceLaws
+pub mod ManagerReadingLaws
+pub mod PrintedLaws
+pub mod HeadRowLaws
+pub mod StateLaws
+pub mod WalkLaws
+pub mod MidwayReportLaws

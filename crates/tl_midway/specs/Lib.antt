@@ -7,3 +7,11 @@ pub mod KnownTable
 pub mod CountedTable
 pub mod KnownBounds
 pub mod KnownLink
+pub mod Midway
+pub mod Standing
+pub mod LinkReadings
+pub mod ManagerReadings
+pub mod KnownPasts
+pub mod State
+pub mod Walked
+pub mod Report

@@ -1,0 +1,81 @@
+-- Walks: one beat more, and all of them.
+use Rattle.std.proofs.Common.{◌≡◌, ◌⊎◌, inl, inr, ℕ, ◌+◌, ◌<◌, List, [], ◌∷◌, ◌++◌, length, map, get_or, Some, refl, sym, ap, subst, ◌∙◌, append_assoc, append-nil, arith}
+use Rattle.std.specs.List.{All, Contains}
+use Rattle.std.proofs.lemmas.List.{length-map}
+use Rattle.tl_topology.specs.Regions.{Area}
+use Rattle.tl_topology.specs.Topology.{Topology}
+use Rattle.tl_topology.specs.declared.LinkDecl.{LinkDecl}
+use Rattle.tl_beats.specs.declared.Placed.{Placed}
+use Rattle.tl_beats.specs.declared.Row.{Row}
+use Rattle.tl_definitions.specs.Breaks.{row_of}
+use Rattle.tl_definitions.specs.Managers.{declared_links, manager_at}
+use Rattle.tl_definitions.specs.Positions.{links_of, clients_of}
+use Rattle.tl_definitions.specs.Rules.{Manager}
+use Rattle.tl_definitions.specs.Known.{Beginning}
+use Rattle.tl_definitions.specs.Printed.{printed_rules, printed_after, printed_rows}
+use Rattle.tl_definitions.proofs.MidwayLaws.{any_past_has_printed_rows, pasts_of_whole_messages_have_printed_rows}
+use Rattle.tl_definitions.proofs.ToldLaws.{told_rows_are_certain}
+use Rattle.tl_client_rules.specs.Clients.{place_of}
+use Rattle.tl_client_rules.proofs.ClientsLaws.{contained_place, clients_below}
+use Rattle.tl_midway.specs.Midway.{beginning_of}
+use Rattle.tl_midway.specs.ManagerReadings as manager_readings
+use Rattle.tl_midway.specs.KnownPasts as known_pasts
+use Rattle.tl_midway.specs.ManagerReadings.{HasPlace}
+use Rattle.tl_midway.specs.State.{StandsFor, Serves, HasLink}
+use Rattle.tl_midway.specs.Walked.{rows_by, AreCertain}
+use Rattle.tl_midway.specs.declared.midway.Midway.{Midway}
+use Rattle.tl_midway.specs.declared.midway.Midway.TheVariants as midway
+use Rattle.tl_midway.specs.declared.state.MidwayState.{MidwayState}
+
+-- The state stands for the beats so far, and the rows so far with those of the beats that are left are all.
+abbrev pub IsOn : Manager → Beginning → MidwayState → List Row → List Placed → List Placed → Type 0
+IsOn m start state rows rest all = (before : List Placed) × StandsFor m start state before × (rows ++ printed_after m start before rest ≡ printed_rows m start all)
+
+pub begun : (m : Manager) (start : Beginning) (state : MidwayState) (rows : List Row) (rest all : List Placed) → StandsFor m start state [] → rows ≡ [] → rest ≡ all
+    → IsOn m start state rows rest all
+begun m start state rows rest all stands none is = ([], stands, ap (λ (rs : List Row). rs ++ printed_after m start [] rest) none ∙ ap (printed_after m start []) is)
+
+pub one_more : (m : Manager) (start : Beginning) (old new : MidwayState) (rows more : List Row) (p : Placed) (now rest all : List Placed) → now ≡ p ∷ rest
+    → ((before : List Placed) → StandsFor m start old before → more ≡ rows ++ map (row_of p) (printed_rules m start before p))
+    → ((before : List Placed) → StandsFor m start old before → StandsFor m start new (p ∷ before)) → IsOn m start old rows now all → IsOn m start new more rest all
+one_more m start old new rows more p now rest all steps put next on =
+    let before : List Placed = on.0 in
+    let own : List Row = map (row_of p) (printed_rules m start before p) in (
+      p ∷ before,
+      next before on.1,
+      ap (λ (rs : List Row). rs ++ printed_after m start (p ∷ before) rest) (put before on.1) ∙ append_assoc rows own (printed_after m start (p ∷ before) rest)
+          ∙ sym (ap (λ ps. rows ++ printed_after m start before ps) steps) ∙ on.2,
+    )
+
+pub done : (m : Manager) (start : Beginning) (state : MidwayState) (rows : List Row) (now all : List Placed) → now ≡ [] → IsOn m start state rows now all → rows ≡ printed_rows m start all
+done m start state rows now all none on = sym (append-nil rows) ∙ ap (λ ps. rows ++ printed_after m start on.0 ps) (sym none) ∙ on.2
+
+-- The law of the rows, by how the capture begins.
+rows_certain : (law : Midway) (m : Manager) (beats : List Placed) → AreCertain law m beats (rows_by law m beats)
+rows_certain midway.Any m beats = λ past lawful row h. any_past_has_printed_rows m past beats lawful row h
+rows_certain midway.Bursts m beats = λ past lawful. told_rows_are_certain m past beats lawful
+rows_certain midway.Heads m beats = λ past lawful most row h. pasts_of_whole_messages_have_printed_rows m past beats lawful most row h
+
+pub are_certain : (law : Midway) (m : Manager) (beats : List Placed) (rows : List Row) → rows ≡ rows_by law m beats → AreCertain law m beats rows
+are_certain law m beats rows is = subst (AreCertain law m beats) (sym is) (rows_certain law m beats)
+
+-- ---- links of the manager
+
+placed : (m : Manager) (numbers : List ℕ) (link : ℕ) → numbers ≡ m.clients → (place : ℕ) × (place_of link m.clients ≡ Some place) × (place < length m.clients) → HasPlace numbers link
+placed m numbers link are found = subst (λ ns. HasPlace ns link) (sym are) found
+
+pub has_link : (m : Manager) (start : Beginning) (state : MidwayState) (link : ℕ) (before : List Placed) → StandsFor m start state before → Contains m.clients link → HasLink state link
+has_link m start state link before stands has =
+    let found = contained_place m.clients link stands.readings.rises has in
+    record {
+      readings = placed m (manager_readings.numbers_of state.readings) link stands.readings.clients found;
+      pasts = placed m (known_pasts.numbers_of state.pasts) link stands.pasts.clients found;
+    }
+
+pub below : (topo : Topology) (manager link : ℕ) → Contains (clients_of manager (declared_links topo)) link → link < length topo.links
+below topo manager link has =
+    let less : link < 0 + length (declared_links topo) = clients_below manager 0 (declared_links topo) link has in
+    omega (arith, less, length-map topo.links (λ (p : List ℕ × LinkDecl). p.1))
+
+pub serves : (topo : Topology) (manager link : ℕ) (decl : LinkDecl) (areas : List Area) → decl ≡ links_of (declared_links topo) link → Serves (manager_at topo manager areas) link decl areas
+serves topo manager link decl areas is = record { declared = sym is; regions = refl }

@@ -1,0 +1,40 @@
+-- What the readings of a manager's links stand for.
+use Rattle.std.specs.Prelude.{ℕ, ◌≡◌, ◌<◌, Bool, List, ◌∷◌, length, map, Some}
+use Rattle.std.specs.List.{All}
+use Rattle.std.specs.List.Sorted.{IsStrictlySortedBy}
+use Rattle.std.specs.Ordering.{nat_cmp}
+use Rattle.tl_topology.specs.declared.LinkDecl.{LinkDecl}
+use Rattle.tl_beats.specs.declared.Placed.{Placed}
+use Rattle.tl_definitions.specs.Rules.{Manager}
+use Rattle.tl_definitions.specs.Known.{Beginning, readings_of}
+use Rattle.tl_client_rules.specs.Clients.{place_of}
+use Rattle.tl_midway.specs.LinkReadings as link_readings
+use Rattle.tl_midway.specs.Standing.{IsStanding}
+use Rattle.tl_midway.specs.declared.link_readings.LinkReadings.{LinkReadings}
+use Rattle.tl_midway.specs.declared.manager_readings.ManagerReadings.{ManagerReadings}
+use Rattle.tl_midway.specs.declared.standing.Standing.{Standing}
+
+-- The link is among those with these numbers.
+abbrev pub HasPlace : List ℕ → ℕ → Type 0
+HasPlace numbers link = (place : ℕ) × (place_of link numbers ≡ Some place) × (place < length numbers)
+
+-- The numbers of the links that the state has.
+abbrev pub numbers_of : ManagerReadings → List ℕ
+numbers_of state = map (λ (link : LinkReadings). link.number) state.links.items
+
+-- It has the readings of each, whatever they are, after some beats.
+abbrev pub AreKnown : ManagerReadings → Type 0
+AreKnown state = All (λ (link : LinkReadings). link_readings.IsKnown link) state.links.items
+
+-- The state has the readings of each link of the manager after these beats.
+pub record StandsFor (m : Manager) (start : Beginning) (state : ManagerReadings) (before : List Placed) : Type 0 where
+  pub clients : numbers_of state ≡ m.clients
+  pub rises : IsStrictlySortedBy nat_cmp m.clients
+  pub by_fields : state.by_fields ≡ start.by_fields
+  pub each : All (λ (link : LinkReadings). link_readings.StandsFor m start link before) state.links.items
+
+-- Of whatever manager the link is declared so in and whatever beats of it the old state stands for: this is what the next beat
+-- is, and the new state stands for them and the beat.
+abbrev pub Takes : LinkDecl → Placed → ManagerReadings → Standing → ManagerReadings → Type 0
+Takes link p old result new = (m : Manager) (start : Beginning) (before : List Placed) → StandsFor m start old before → m.links p.link ≡ link
+    → IsStanding link p.beat (readings_of m start before p) result × StandsFor m start new (p ∷ before)

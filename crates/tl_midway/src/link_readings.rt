@@ -1,0 +1,65 @@
+//! The readings of each channel of a link.
+
+ghost use Rattle.std.specs.Prelude.{◌≡◌, IfOk};
+ghost use Rattle.tl_topology.specs.Topology.{IsSound};
+ghost use Rattle.tl_beats.specs.Beats.{IsWellFormed};
+ghost use Rattle.tl_midway.specs.LinkReadings.{IsFirst, IsKnown, Takes};
+
+use crate::midway::Midway;
+use crate::readings::Readings;
+use crate::standing::Standing;
+use std::alloc::{AllocError, Global};
+use tl_beats::Beat;
+use tl_tables::Chan;
+use tl_topology::LinkDecl;
+
+/// What the next beat of each channel of a link may be.
+#[derive(Drop)]
+pub struct LinkReadings {
+    /// The number of the link.
+    pub number: u16,
+    a: Readings,
+    b: Readings,
+    c: Readings,
+    d: Readings,
+    e: Readings,
+}
+
+impl LinkReadings {
+    /// The readings of a link's first beats, where its capture begins so. AllocError where memory is refused.
+    pub fn new(
+        alloc: Global,
+        law: Midway,
+        number: u16,
+        link: &LinkDecl,
+    ) -> Result<LinkReadings, AllocError>
+        requires { IsSound link.now }
+        ensures first { IfOk result (λ state. IsFirst law link.now state) }
+        ensures number { IfOk result (λ state. state.number ≡ number) }
+    {
+        Ok(LinkReadings {
+            number,
+            a: Readings::new(alloc, law.most(link, Chan::A))?,
+            b: Readings::new(alloc, law.most(link, Chan::B))?,
+            c: Readings::new(alloc, law.most(link, Chan::C))?,
+            d: Readings::new(alloc, law.most(link, Chan::D))?,
+            e: Readings::new(alloc, law.most(link, Chan::E))?,
+        })
+    }
+
+    /// What the link's next beat is, which is this one; then makes the readings of its channel those of the beat after it.
+    pub fn take(&mut self, alloc: Global, by_fields: bool, link: &LinkDecl, beat: &Beat) -> Standing
+        requires link { IsSound link.now }
+        requires beat { IsWellFormed beat.now }
+        requires known { IsKnown self.old }
+        ensures { Takes link.now by_fields beat.now self.old result self.new }
+    {
+        match beat.chan {
+            Chan::A => self.a.take(alloc, by_fields, link, beat),
+            Chan::B => self.b.take(alloc, by_fields, link, beat),
+            Chan::C => self.c.take(alloc, by_fields, link, beat),
+            Chan::D => self.d.take(alloc, by_fields, link, beat),
+            Chan::E => self.e.take(alloc, by_fields, link, beat),
+        }
+    }
+}

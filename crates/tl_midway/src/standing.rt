@@ -1,0 +1,60 @@
+//! What a beat is by the readings of its channel: the first of a message for certain, one that may be, or a later one.
+
+ghost use Rattle.tl_topology.specs.Topology.{IsSound};
+ghost use Rattle.tl_beats.specs.Beats.{IsWellFormed};
+ghost use Rattle.tl_midway.specs.Standing.{IsKnown, Takes};
+
+use crate::readings::Readings;
+use std::alloc::Global;
+use tl_beats::Beat;
+use tl_link_rules::RuleList;
+use tl_topology::LinkDecl;
+
+/// What a beat is by its readings.
+#[derive(Drop)]
+pub enum Standing {
+    /// It begins a message for certain.
+    Head,
+    /// It may begin one, and may be a later beat: by each reading it breaks these rules of later beats and no other.
+    Either(RuleList),
+    /// It is a later beat of a message, and breaks these rules by each reading.
+    Later(RuleList),
+}
+
+impl Readings {
+    ghost use Rattle.tl_midway.specs.Reading.{AreFormed};
+    ghost use Rattle.tl_midway.specs.Readings.{shown_readings};
+    ghost use Rattle.tl_midway.specs.Standing.{IsStanding};
+
+    /// What the beat is by these readings.
+    fn standing(&self, alloc: Global, link: &LinkDecl, beat: &Beat) -> Standing
+        requires link { IsSound link.now }
+        requires beat { IsWellFormed beat.now }
+        requires formed { AreFormed (shown_readings self.now) }
+        ensures { IsStanding link.now beat.now (shown_readings self.now) result }
+    {
+        if self.must_begin() {
+            return Standing::Head;
+        }
+        let later = self.later_rules(alloc, link, beat);
+        if self.may_begin() {
+            Standing::Either(later)
+        } else {
+            Standing::Later(later)
+        }
+    }
+
+    /// What the channel's next beat is, which is this one; then makes these readings those of the beat after it. Where bursts are
+    /// told by their fields, those of a beat of the lead-in drop the readings that they speak against.
+    pub fn take(&mut self, alloc: Global, by_fields: bool, link: &LinkDecl, beat: &Beat) -> Standing
+        requires link { IsSound link.now }
+        requires beat { IsWellFormed beat.now }
+        requires known { IsKnown self.old }
+        ensures { Takes link.now by_fields beat.now self.old result self.new }
+    {
+        self.meet(by_fields, link, beat);
+        let standing = self.standing(alloc, link, beat);
+        self.pass(link, beat);
+        standing
+    }
+}

@@ -1,0 +1,41 @@
+//! The rows of a manager's capture that begins in the middle of a run.
+
+ghost use Rattle.std.specs.Prelude.{◌≡◌, IfOk};
+ghost use Rattle.std.specs.List.{All, Contains};
+ghost use Rattle.tl_topology.specs.Regions.{areas_of};
+ghost use Rattle.tl_beats.specs.Beats.{IsWellFormed};
+ghost use Rattle.tl_definitions.specs.Managers.{declared_links, manager_at};
+ghost use Rattle.tl_definitions.specs.Positions.{clients_of};
+ghost use Rattle.tl_midway.specs.Walked.{rows_by, AreCertain};
+
+use crate::midway::Midway;
+use crate::state::MidwayState;
+use std::alloc::{AllocError, Global};
+use tl_beats::Row;
+use tl_capture::Merged;
+use tl_topology::{RegionMap, Topo};
+
+/// The rows of the beats of a manager with these regions that a walk gives, where its capture begins in the middle of a run: those that
+/// it has whatever came before, by the law that is asked for. They stand in the order of positions. AllocError where memory is
+/// refused.
+pub fn midway_rows<'a>(
+    alloc: Global,
+    topo: &Topo,
+    manager: u16,
+    regions: &RegionMap,
+    law: Midway,
+    walk: Merged<'a>,
+) -> Result<Vec<Row>, AllocError>
+    requires formed { All (λ p. IsWellFormed p.beat) walk }
+    requires linked { All (λ p. Contains (clients_of manager (declared_links topo.now)) p.link) walk }
+    ensures exact { IfOk result (λ rows. rows.items ≡ rows_by law (manager_at topo.now manager (areas_of regions.now)) walk.entry) }
+    ensures certain { IfOk result (λ rows. AreCertain law (manager_at topo.now manager (areas_of regions.now)) walk.entry rows.items) }
+{
+    let mut state = MidwayState::new(alloc, topo, manager, law)?;
+    let mut rows = Vec::new(alloc);
+    for at in walk {
+        let link = topo.link(at.link).unwrap();
+        state.step(alloc, link, regions, &at, &mut rows)?;
+    }
+    Ok(rows)
+}

@@ -16,7 +16,7 @@ use tl_beats::{Fragment, Row};
 use tl_check::{Judges, all_added};
 use tl_edits::Inputs;
 use tl_formats::{Pick, Title, Waiver, WaiverFault, print_rows, read_waivers};
-use tl_midway::{Midway, midway_scratch};
+use tl_midway::{Midway, midway_report};
 use tl_options::{How, View};
 use tl_rows::Format;
 use tl_text::{ByteOut, CountedReader, TextFault, read_text, write_all};
@@ -318,7 +318,10 @@ fn rows_found<R: Threads + Sync + AllocGlobal>(
     ensures { IfOk result (λ rows. All (λ row. row.link < length inputs.now.topo.links) rows.items) }
 {
     match midway {
-        Some(law) => midway_scratch(judges.alloc(), inputs, law),
+        Some(law) => {
+            let topo = inputs.topo();
+            midway_report(judges.alloc(), topo, inputs.present(), inputs.regions(), law)
+        }
         None => judges.scratch(inputs),
     }
 }

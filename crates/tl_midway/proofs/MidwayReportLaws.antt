@@ -1,11 +1,11 @@
 -- The rows of all managers, and their order.
-use Rattle.std.proofs.Common.{◌≡◌, ◌⊎◌, inl, inr, ℕ, zero, suc, ◌+◌, ◌<◌, ◌≤◌, ◌==◌, true, false, List, [], ◌∷◌, ◌++◌, length, map, refl, sym, ap, subst, ◌∙◌, arith}
+use Rattle.std.proofs.Common.{◌≡◌, ◌⊎◌, inl, inr, ℕ, zero, suc, ◌+◌, ◌<◌, ◌≤◌, ◌==◌, true, false, List, [], ◌∷◌, ◌++◌, length, get_or, map, refl, sym, ap, subst, ◌∙◌, arith}
 use Rattle.std.specs.Prelude.{◌↔◌, nat_lt}
-use Rattle.std.specs.List.{Contains}
+use Rattle.std.specs.List.{All, Contains}
 use Rattle.std.specs.List.Sorted.{IsStrictlySortedBy}
 use Rattle.std.specs.declared.cmp.Ordering.TheVariants.{Equal}
 use Rattle.std.proofs.lemmas.Bool.Decides.{nat_tests}
-use Rattle.std.proofs.lemmas.List.Elements.{Contains-append_cases, Contains-append_left, Contains-append_right}
+use Rattle.std.proofs.lemmas.List.Elements.{Contains-append_cases, Contains-append_left, Contains-append_right, Contains-get_or}
 use Rattle.tl_topology.specs.Regions.{Area}
 use Rattle.tl_topology.specs.Topology.{Topology}
 use Rattle.tl_capture.specs.Present.{IsPresent}
@@ -13,8 +13,8 @@ use Rattle.tl_beats.specs.declared.Placed.{Placed}
 use Rattle.tl_beats.specs.declared.Row.{Row}
 use Rattle.tl_definitions.specs.Breaks.{row_of}
 use Rattle.tl_definitions.specs.Captures.{manager_beats, captures_from, captures_of}
-use Rattle.tl_definitions.specs.Managers.{manager_at}
-use Rattle.tl_definitions.specs.Positions.{Recorded}
+use Rattle.tl_definitions.specs.Managers.{declared_links, manager_at}
+use Rattle.tl_definitions.specs.Positions.{Recorded, clients_of}
 use Rattle.tl_definitions.specs.Report.{key_order, row_order, Capture, of_manager}
 use Rattle.tl_definitions.specs.Rules.{Manager}
 use Rattle.tl_definitions.specs.Known.{Beginning}
@@ -22,7 +22,8 @@ use Rattle.tl_definitions.specs.Printed.{printed_rules, printed_after}
 use Rattle.tl_definitions.proofs.Lists.{contains_none, contains_here, contains_there, mapped_from}
 use Rattle.tl_definitions.proofs.ReportLaws.{rises_by_key, same_position}
 use Rattle.tl_check.specs.Captured.{areas_at}
-use Rattle.tl_check.proofs.CaptureLaws.{one_place}
+use Rattle.tl_check.proofs.CaptureLaws.{one_place, linked_in}
+use Rattle.tl_midway.proofs.WalkLaws.{below}
 use Rattle.tl_midway.specs.Midway.{beginning_of}
 use Rattle.tl_midway.specs.Report.{manager_rows, IsPrinted, ArePrinted, IsMidwayReport}
 use Rattle.tl_midway.specs.declared.midway.Midway.{Midway}
@@ -86,6 +87,17 @@ module _ (law : Midway) (topo : Topology) (given : List (List (ℕ × Area))) (f
         (λ h. (members row).1 ((are row).1 h)),
       ) in
       record { rises = rises_by_key rows (λ x y h g. same_place x y ((printed x).0 h) ((printed y).0 g)) rises; members = printed }
+
+  -- A row that is printed is of a link of the topology.
+  printed_linked : (row : Row) → IsPrinted law topo regions fs (length topo.managers) row → row.link < length topo.links
+  printed_linked row printed =
+      let m : Manager = manager_at topo printed.0 (regions printed.0) in
+      let one = printed_from m (beginning_of law m) [] (manager_beats topo fs printed.0) row printed.2 in
+      let linked = linked_in topo fs is (clients_of printed.0 (declared_links topo)) one.0 one.1 in
+      subst (λ (n : ℕ). n < length topo.links) (sym (ap (λ (r : Row). r.link) one.2)) (below topo printed.0 one.0.link linked)
+
+  pub report_linked : (rows : List Row) → IsMidwayReport law topo regions fs rows → All (λ (row : Row). row.link < length topo.links) rows
+  report_linked rows report k d less = printed_linked (get_or rows k d) ((report.members (get_or rows k d)).0 (Contains-get_or rows k d less))
 
 module _ (law : Midway) (topo : Topology) (regions : ℕ → List Area) (fs : List Recorded) where
   -- One manager more.

@@ -1,6 +1,7 @@
 //! The report of all managers of a capture that begins in the middle of a run.
 
 ghost use Rattle.std.specs.Prelude.{◌≡◌, ◌<◌, length, IfOk};
+ghost use Rattle.std.specs.List.{All};
 ghost use Rattle.tl_topology.specs.Regions.{areas_of};
 ghost use Rattle.tl_definitions.specs.Captures.{manager_beats};
 ghost use Rattle.tl_definitions.specs.Managers.{manager_at};
@@ -64,7 +65,8 @@ pub fn midway_report(
     regions: &[RegionMap],
     law: Midway,
 ) -> Result<Vec<Row>, AllocError>
-    ensures { IfOk result (λ rows. IsMidwayReport law topo.now (areas_at regions.now) present.now rows.items) }
+    ensures report { IfOk result (λ rows. IsMidwayReport law topo.now (areas_at regions.now) present.now rows.items) }
+    ensures links { IfOk result (λ rows. All (λ row. row.link < length topo.now.links) rows.items) }
 {
     let _ = present.is_empty();
     let rows = managers_rows(alloc, topo, present, regions, law)?;

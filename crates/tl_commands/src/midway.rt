@@ -6,7 +6,8 @@ use tl_midway::Midway;
 pub(crate) fn law_line(midway: Option<Midway>) -> &'static str {
     match midway {
         None => "",
-        Some(Midway::Any) => "tlcheck: each row stands whatever lawful beats came before the capture\n",
+        Some(Midway::Any) =>
+            "tlcheck: each row stands whatever lawful beats came before the capture\n",
         Some(Midway::Bursts) => {
             "tlcheck: each row stands whatever lawful beats came before the capture, if no burst that its beginning cuts breaks U1\n"
         }

@@ -320,7 +320,13 @@ fn rows_found<R: Threads + Sync + AllocGlobal>(
     match midway {
         Some(law) => {
             let topo = inputs.topo();
-            midway_report(judges.alloc(), topo, inputs.present(), inputs.regions(), law)
+            midway_report(
+                judges.alloc(),
+                topo,
+                inputs.present(),
+                inputs.regions(),
+                law,
+            )
         }
         None => judges.scratch(inputs),
     }

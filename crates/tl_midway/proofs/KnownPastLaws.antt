@@ -1,5 +1,5 @@
 -- What is known of the pasts of a manager's links, after one more of its beats.
-use Rattle.std.proofs.Common.{◌≡◌, ◌<◌, ◌==◌, ◌&&◌, ℕ, Bool, true, false, cond, Result, Ok, Err, List, [], ◌∷◌, length, map, get_or, Some, refl, sym, ap, subst, ◌∙◌, arith}
+use Rattle.std.proofs.Common.{◌≡◌, ◌==◌, ◌&&◌, ℕ, Bool, true, false, cond, Result, List, ◌∷◌, map, get_or, Some, refl, sym, ap, subst, ◌∙◌, arith}
 use Rattle.std.specs.Prelude.{OnOk}
 use Rattle.std.specs.List.{All}
 use Rattle.std.specs.List.Sorted.{IsStrictlySortedBy}
@@ -11,13 +11,12 @@ use Rattle.tl_beats.specs.declared.Placed.{Placed}
 use Rattle.tl_definitions.specs.Heads.{message_of}
 use Rattle.tl_definitions.specs.Readings.{Reading, may_begin, must_begin}
 use Rattle.tl_definitions.specs.Rules.{Manager}
-use Rattle.tl_definitions.specs.Known.{Beginning, KnownPast, first_past, known_with, readings_of, known_pasts, known_step}
+use Rattle.tl_definitions.specs.Known.{Beginning, KnownPast, known_with, readings_of, known_pasts}
 use Rattle.tl_client_rules.specs.Clients.{place_of}
 use Rattle.tl_midway.specs.KnownLink as known_link
 use Rattle.tl_midway.specs.KnownLink.{Shows}
 use Rattle.tl_midway.specs.ManagerReadings.{HasPlace}
 use Rattle.tl_midway.specs.KnownPasts.{numbers_of, StandsFor, MayBegin}
-use Rattle.tl_midway.specs.declared.known_link.KnownLink.{KnownLink}
 use Rattle.tl_midway.specs.declared.known_pasts.LinkPast.{LinkPast}
 use Rattle.tl_midway.specs.declared.known_pasts.KnownPasts.{KnownPasts}
 use Rattle.tl_midway.proofs.PlaceLaws.{inside, own_number, numbers_stay, each_set}

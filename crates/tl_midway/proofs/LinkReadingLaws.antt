@@ -8,7 +8,7 @@ use Rattle.tl_topology.specs.declared.LinkDecl.{LinkDecl}
 use Rattle.tl_beats.specs.declared.Beat.{Beat}
 use Rattle.tl_beats.specs.declared.Placed.{Placed}
 use Rattle.tl_definitions.specs.Heads.{before_on}
-use Rattle.tl_definitions.specs.Readings.{Reading, first_readings, readings_after, told, reading_after}
+use Rattle.tl_definitions.specs.Readings.{first_readings, readings_after, told, reading_after}
 use Rattle.tl_definitions.specs.Rules.{Manager}
 use Rattle.tl_definitions.specs.Known.{Beginning, readings_of}
 use Rattle.tl_midway.specs.Members.{SameMembers}

@@ -1,5 +1,5 @@
 -- The readings of a manager's links, after one more of its beats.
-use Rattle.std.proofs.Common.{◌≡◌, ◌<◌, ◌==◌, ℕ, false, List, ◌∷◌, length, map, get_or, Some, refl, sym, ap, subst, ◌∙◌}
+use Rattle.std.proofs.Common.{◌≡◌, ◌<◌, ℕ, ◌∷◌, length, map, get_or, Some, sym, ap, subst, ◌∙◌}
 use Rattle.std.specs.List.{All}
 use Rattle.std.specs.List.Sorted.{IsStrictlySortedBy}
 use Rattle.std.specs.Ordering.{nat_cmp}
@@ -7,11 +7,10 @@ use Rattle.std.proofs.Math.ListN.{set}
 use Rattle.std.proofs.lemmas.List.Elements.{All-set}
 use Rattle.tl_topology.specs.declared.LinkDecl.{LinkDecl}
 use Rattle.tl_beats.specs.declared.Placed.{Placed}
-use Rattle.tl_definitions.specs.Rules.{Manager}
-use Rattle.tl_definitions.specs.Known.{Beginning, readings_of}
+use Rattle.tl_definitions.specs.Known.{readings_of}
 use Rattle.tl_client_rules.specs.Clients.{place_of}
 use Rattle.tl_midway.specs.LinkReadings as link_readings
-use Rattle.tl_midway.specs.ManagerReadings.{HasPlace, numbers_of, AreKnown, StandsFor, Takes}
+use Rattle.tl_midway.specs.ManagerReadings.{HasPlace, numbers_of, AreKnown, Takes}
 use Rattle.tl_midway.specs.Standing.{IsStanding}
 use Rattle.tl_midway.specs.declared.link_readings.LinkReadings.{LinkReadings}
 use Rattle.tl_midway.specs.declared.manager_readings.ManagerReadings.{ManagerReadings}

@@ -1,5 +1,5 @@
 -- Items of a manager's links, each found by the number of its link.
-use Rattle.std.proofs.Common.{◌≡◌, ◌≢◌, ℕ, zero, suc, ◌+◌, ◌<◌, ◌==◌, Bool, true, false, cond, List, [], ◌∷◌, ◌++◌, length, map, take, get_or, Option, Some, None, refl, sym, ap, subst, ◌∙◌, arith, length-set}
+use Rattle.std.proofs.Common.{◌≡◌, ◌≢◌, ℕ, ◌+◌, ◌<◌, ◌==◌, true, false, cond, List, [], ◌∷◌, ◌++◌, length, map, take, get_or, Option, Some, None, refl, sym, ap, subst, ◌∙◌, arith, length-set}
 use Rattle.std.specs.Prelude.{not, nat_lt, slice_get, slice_index, option_map, unwrap_or}
 use Rattle.std.specs.List.{All, Contains, position, position_or_len}
 use Rattle.std.specs.List.Sorted.{IsStrictlySortedBy}

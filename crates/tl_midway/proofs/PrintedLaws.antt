@@ -15,11 +15,11 @@ use Rattle.tl_beats.specs.declared.Beat.{Beat}
 use Rattle.tl_beats.specs.declared.Placed.{Placed}
 use Rattle.tl_definitions.specs.Heads.{message_of}
 use Rattle.tl_definitions.specs.Messages.{Message}
-use Rattle.tl_definitions.specs.Rules.{Manager, breaks_format, format_order, format_rules, flow_order, permission_order, manager_order, breaks_mask, breaks_denied}
-use Rattle.tl_definitions.specs.Breaks.{same_bit, same_request, same_reply, is_alike, breaks_later, later_order}
+use Rattle.tl_definitions.specs.Rules.{Manager, breaks_format, format_order, flow_order, permission_order, manager_order, breaks_mask, breaks_denied}
+use Rattle.tl_definitions.specs.Breaks.{same_bit, same_request, same_reply, is_alike, breaks_later}
 use Rattle.tl_definitions.specs.Readings.{Reading, due, rest, is_due, may_begin, must_begin}
 use Rattle.tl_definitions.specs.Known.{bare, known_request}
-use Rattle.tl_definitions.specs.Printed.{Front, grant_open, acquire_open, release_open, breaks_flow_surely, breaks_permission_surely, breaks_manager_surely, breaks_surely, breaks_past, breaks_by, is_f1, beat_rules, printed_of}
+use Rattle.tl_definitions.specs.Printed.{Front, grant_open, breaks_flow_surely, breaks_manager_surely, breaks_surely, breaks_by, is_f1, beat_rules, printed_of}
 use Rattle.tl_definitions.proofs.Bursts.{all_pass, passing}
 use Rattle.tl_definitions.proofs.Lists.{contains_none, contains_here, contains_there, contains_cases, kept_of_both}
 use Rattle.tl_midway.specs.Members.{SameMembers}

@@ -1,5 +1,5 @@
 -- The readings of a channel's next beat, whatever stands how often among them.
-use Rattle.std.proofs.Common.{◌≡◌, ℕ, zero, suc, ◌+◌, ◌-◌, ◌==◌, ◌&&◌, ◌||◌, inl, inr, Bool, true, false, cond, List, [], ◌∷◌, ◌++◌, length, get_or, map, ◌<◌, Option, Some, None, refl, sym, ap, subst, ◌∙◌, arith}
+use Rattle.std.proofs.Common.{◌≡◌, ℕ, zero, suc, ◌+◌, ◌-◌, ◌==◌, ◌&&◌, inl, inr, Bool, true, false, cond, List, [], ◌∷◌, ◌++◌, length, get_or, map, ◌<◌, Option, Some, None, refl, sym, ap, subst, ◌∙◌, arith}
 use Rattle.std.specs.Prelude.{not, nat_le, nat_lt, filter}
 use Rattle.std.specs.List.{All, Contains, find, list_any, list_all}
 use Rattle.std.specs.Option.{option_map_or}
@@ -10,7 +10,7 @@ use Rattle.tl_beats.specs.Beats.{IsWellFormed}
 use Rattle.tl_beats.specs.declared.Beat.{Beat}
 use Rattle.tl_definitions.specs.Heads.{message_of, beat_count}
 use Rattle.tl_definitions.specs.Breaks.{breaks_later, later_order, later_rules}
-use Rattle.tl_definitions.specs.Readings.{Reading, due, rest, is_due, missing_of, lacking, reading_after, first_readings, readings_after, in_lead_in, is_refuted, or_all, told}
+use Rattle.tl_definitions.specs.Readings.{Reading, due, rest, is_due, missing_of, lacking, reading_after, first_readings, in_lead_in, is_refuted, or_all, told}
 use Rattle.tl_definitions.proofs.Bursts.{some_passes, passing}
 use Rattle.tl_definitions.proofs.Lists.{contains_none, contains_here, contains_there, contains_cases, contains_mapped, mapped_from, contains_kept, kept_from}
 use Rattle.tl_midway.specs.Members.{SameMembers}
@@ -20,7 +20,6 @@ use Rattle.tl_midway.specs.Seen.{Tells}
 use Rattle.tl_midway.specs.declared.reading.Reading.{Reading as Kept}
 use Rattle.tl_midway.specs.declared.reading.Reading.TheVariants as coded
 use Rattle.tl_midway.specs.declared.readings.Readings.{Readings}
-use Rattle.tl_midway.specs.declared.seen.Seen.{Seen}
 use Rattle.tl_midway.proofs.MemberLaws.{iff_same, same_list, same_both, map_same, kept_same, each_fails, found_kept}
 
 -- ---- the lead-in

@@ -1,5 +1,5 @@
 -- One beat of a manager judged: its rows, and what is known after it.
-use Rattle.std.proofs.Common.{◌≡◌, ℕ, Bool, true, false, Result, Ok, Err, List, ◌∷◌, ◌++◌, map, refl, sym, ap, subst, ◌∙◌}
+use Rattle.std.proofs.Common.{◌≡◌, Bool, true, false, Result, List, ◌∷◌, ◌++◌, map, sym, ap, ◌∙◌}
 use Rattle.std.specs.Prelude.{OnOk}
 use Rattle.tl_topology.specs.Regions.{Area}
 use Rattle.tl_topology.specs.declared.LinkDecl.{LinkDecl}
@@ -18,9 +18,6 @@ use Rattle.tl_midway.specs.KnownPasts.{MayBegin}
 use Rattle.tl_midway.specs.State.{StandsFor, Serves}
 use Rattle.tl_midway.specs.declared.known_pasts.KnownPasts.{KnownPasts}
 use Rattle.tl_midway.specs.declared.manager_readings.ManagerReadings.{ManagerReadings}
-use Rattle.tl_midway.specs.declared.standing.Standing.{Standing}
-use Rattle.tl_midway.specs.declared.standing.Standing.TheVariants as standing
-use Rattle.tl_midway.specs.declared.state.MidwayState.{MidwayState}
 use Rattle.tl_midway.proofs.KnownPastLaws.{later_stands}
 use Rattle.tl_midway.proofs.PrintedLaws.{later_printed}
 use Rattle.tl_midway.proofs.Results.{on_ok, whatever}

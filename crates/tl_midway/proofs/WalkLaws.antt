@@ -1,6 +1,6 @@
 -- Walks: one beat more, and all of them.
-use Rattle.std.proofs.Common.{◌≡◌, ◌⊎◌, inl, inr, ℕ, ◌+◌, ◌<◌, List, [], ◌∷◌, ◌++◌, length, map, get_or, Some, refl, sym, ap, subst, ◌∙◌, append_assoc, append-nil, arith}
-use Rattle.std.specs.List.{All, Contains}
+use Rattle.std.proofs.Common.{◌≡◌, ℕ, ◌+◌, ◌<◌, List, [], ◌∷◌, ◌++◌, length, map, Some, refl, sym, ap, subst, ◌∙◌, append_assoc, append-nil, arith}
+use Rattle.std.specs.List.{Contains}
 use Rattle.std.proofs.lemmas.List.{length-map}
 use Rattle.tl_topology.specs.Regions.{Area}
 use Rattle.tl_topology.specs.Topology.{Topology}
@@ -17,7 +17,6 @@ use Rattle.tl_definitions.proofs.MidwayLaws.{any_past_has_printed_rows, pasts_of
 use Rattle.tl_definitions.proofs.ToldLaws.{told_rows_are_certain}
 use Rattle.tl_client_rules.specs.Clients.{place_of}
 use Rattle.tl_client_rules.proofs.ClientsLaws.{contained_place, clients_below}
-use Rattle.tl_midway.specs.Midway.{beginning_of}
 use Rattle.tl_midway.specs.ManagerReadings as manager_readings
 use Rattle.tl_midway.specs.KnownPasts as known_pasts
 use Rattle.tl_midway.specs.ManagerReadings.{HasPlace}

@@ -1,5 +1,5 @@
 -- What one reading of a beat shows, and what a beat breaks by it.
-use Rattle.std.specs.Prelude.{ℕ, not, Bool, false, List, Option, Some, None, nat_le, filter}
+use Rattle.std.specs.Prelude.{ℕ, not, Bool, false, List, Some, None, nat_le, filter}
 use Rattle.std.specs.Option.{option_map_or}
 use Rattle.std.specs.List.{Contains}
 use Rattle.tl_tables.specs.declared.Rule.{Rule}

@@ -1,5 +1,5 @@
 -- The rows of a manager's capture that begins in the middle of a run.
-use Rattle.std.specs.Prelude.{ℕ, ◌⊎◌, List, ◌++◌}
+use Rattle.std.specs.Prelude.{◌⊎◌, List, ◌++◌}
 use Rattle.std.specs.List.{Contains}
 use Rattle.tl_beats.specs.declared.Placed.{Placed}
 use Rattle.tl_beats.specs.declared.Row.{Row}

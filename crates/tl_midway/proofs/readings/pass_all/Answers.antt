@@ -1,4 +1,4 @@
-use Rattle.std.proofs.Common.{◌<◌, arith}
+use Rattle.std.proofs.Common.{arith}
 use Rattle.tl_midway.proofs.ReadingLaws.{all_passed}
 use Rattle.tl_midway.proofs.readings.pass_all.Goals as goal
 

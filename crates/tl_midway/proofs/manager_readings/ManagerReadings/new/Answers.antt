@@ -1,7 +1,6 @@
-use Rattle.std.proofs.Common.{◌≡◌, List, get_or, sym, ap, subst, ◌∙◌}
-use Rattle.std.specs.List.{All}
+use Rattle.std.proofs.Common.{get_or, ◌∙◌}
 use Rattle.tl_definitions.specs.Managers.{declared_links, manager_at}
-use Rattle.tl_definitions.specs.Positions.{links_of, clients_of}
+use Rattle.tl_definitions.specs.Positions.{links_of}
 use Rattle.tl_client_rules.proofs.ClientsLaws.{clients_rise}
 use Rattle.tl_midway.specs.declared.link_readings.LinkReadings.{LinkReadings}
 use Rattle.tl_midway.proofs.PlaceLaws.{clients_within}

@@ -1,7 +1,5 @@
-use Rattle.std.proofs.Common.{◌≡◌, Some, refl, sym, ◌∙◌}
+use Rattle.std.proofs.Common.{refl, sym, ◌∙◌}
 use Rattle.std.specs.Vec.{with_item}
-use Rattle.tl_client_rules.specs.Clients.{place_of}
-use Rattle.tl_midway.specs.ManagerReadings.{numbers_of}
 use Rattle.tl_midway.proofs.ManagerReadingLaws.{own_known, all_known, same_numbers, all_stand}
 use Rattle.tl_midway.proofs.manager_readings.ManagerReadings.take.Goals as goal
 

@@ -352,17 +352,25 @@ def later_beats(link, beats):
     return later
 
 
+def first_heads(topology, capture, cycle):
+    """The cycle of the first head of each channel of each link from a cycle on."""
+    begins = {}
+    for number, (link, beats) in enumerate(zip(topology.links, capture)):
+        for beat, later in zip(beats, later_beats(link, beats)):
+            if beat.cycle >= cycle and not later:
+                begins.setdefault((number, beat.channel), beat.cycle)
+    return begins
+
+
+def cut_from(capture, begins):
+    """What a recorder has that begins with these cycles, and of channels that have none nothing."""
+    never = last_cycle(capture) + 1
+    return [[beat for beat in beats if beat.cycle >= begins.get((link, beat.channel), never)] for link, beats in enumerate(capture)]
+
+
 def cut_at_heads(topology, capture, cycle):
     """What a recorder has that begins with a cycle and waits on each channel for the head of a message."""
-    cut = []
-    for link, beats in zip(topology.links, capture):
-        begun, kept = set(), []
-        for beat, later in zip(beats, later_beats(link, beats)):
-            if beat.cycle >= cycle and (beat.channel in begun or not later):
-                begun.add(beat.channel)
-                kept.append(beat)
-        cut.append(kept)
-    return cut
+    return cut_from(capture, first_heads(topology, capture, cycle))
 
 
 # ---- mistakes ----
@@ -389,7 +397,7 @@ FIELDS = {
     "D": ("opcode", "param", "size", "source", "sink", "denied", "corrupt"),
     "E": ("sink",),
 }
-RANGES = {"opcode": 8, "param": 6, "size": 8, "source": 10, "sink": 9, "denied": 2, "corrupt": 2}
+RANGES = {"opcode": 8, "param": 6, "size": 8, "source": 10, "sink": 10, "denied": 2, "corrupt": 2}
 
 
 def change(seed, beats, at):
@@ -409,13 +417,51 @@ def change(seed, beats, at):
 MISTAKES = (drop, double, change)
 
 
-def mistaken(seed, capture, cycle, mistakes=MISTAKES):
-    """The capture with one beat from a cycle on dropped, doubled or changed, and the cycle of that beat."""
+def mistaken(seed, capture, cycle):
+    """The capture with one beat from a cycle on dropped, doubled or changed."""
     places = [(link, at) for link, beats in enumerate(capture) for at, beat in enumerate(beats) if beat.cycle >= cycle]
     link, at = seed.choice(places)
     made = list(capture)
-    made[link] = seed.choice(mistakes)(seed, capture[link], at)
-    return made, capture[link][at].cycle
+    made[link] = seed.choice(MISTAKES)(seed, capture[link], at)
+    return made
+
+
+def message_at(link, beats, at):
+    """The indices of the beats of the message that a beat of a whole run belongs to."""
+    channel = [it for it, beat in enumerate(beats) if beat.channel == beats[at].channel]
+    later = later_beats(link, [beats[it] for it in channel])
+    place = first = channel.index(at)
+    while later[first]:
+        first -= 1
+    while place + 1 < len(channel) and later[place + 1]:
+        place += 1
+    return channel[first : place + 1]
+
+
+def send_again(link, beats, indices):
+    """A message once more, in the next cycles between two others of its channel. None where no such cycles come."""
+    channel = [beat for beat in beats if beat.channel == beats[indices[0]].channel]
+    later = later_beats(link, channel)
+    for place in range(channel.index(beats[indices[-1]]), len(channel) - 1):
+        free_from = channel[place].cycle + 1
+        if not later[place + 1] and channel[place + 1].cycle - free_from >= len(indices):
+            again = [beats[it]._replace(cycle=free_from + number) for number, it in enumerate(indices)]
+            return sorted(beats + again, key=lambda beat: (beat.cycle, beat.channel))
+    return None
+
+
+def mistaken_message(seed, link, beats, at):
+    """The beats with a whole message left out, sent twice, or with another value in one of its fields."""
+    indices = message_at(link, beats, at)
+    way = seed.choice(("leave out", "twice", "change"))
+    if way == "leave out":
+        return [beat for it, beat in enumerate(beats) if it not in indices]
+    if way == "twice":
+        return send_again(link, beats, indices) or mistaken_message(seed, link, beats, at)
+    field = seed.choice([field for field in FIELDS[beats[at].channel] if field in ("param", "source", "sink", "address", "denied")])
+    old = getattr(beats[at], field)
+    new = old ^ 1 << seed.choice((5, 6, 6, 7, 7, 8)) if field == "address" else seed.choice([it for it in range(max(2, RANGES[field] - 2)) if it != old])
+    return [beat._replace(**{field: new}) if it in indices else beat for it, beat in enumerate(beats)]
 
 
 # ---- text ----

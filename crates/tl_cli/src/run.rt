@@ -323,7 +323,7 @@ fn tell_entry<O: ByteOut, E: ByteOut>(
     alloc: Global,
     out: &mut O,
     err: &mut E,
-    entry: Option<&'static str>,
+    entry: Option<&str>,
 ) -> u8
     requires out { O.failure_count out.old < 2 ^ 63 }
     requires err { E.failure_count err.old < 2 ^ 63 }

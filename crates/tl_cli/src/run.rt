@@ -465,73 +465,76 @@ fn do_command<
     requires err { E.failure_count err.old < 2 ^ 63 }
     ensures { result ≤ 2 }
 {
-    let mut progress = Progress::new(rt, err, screen.has_progress(command));
-    let ending = match command {
-        Command::Input => return run_input(rt, input, out, &mut progress, screen),
-        Command::Explain { entry } => return tell_entry(rt.alloc(), out, &mut progress, *entry),
-        Command::Once {
-            topology,
-            capture,
-            how,
-            view,
-        } => {
-            let how = screen.how(*how);
-            let manner = Manner { how, view };
-            once_of_files(rt, *topology, capture, manner, &mut progress, out)
+    let ending = {
+        let mut progress = Progress::new(rt, err, screen.has_progress(command));
+        let ending = match command {
+            Command::Input => return run_input(rt, input, out, &mut progress, screen),
+            Command::Explain { entry } => return tell_entry(rt.alloc(), out, &mut progress, *entry),
+            Command::Once {
+                topology,
+                capture,
+                how,
+                view,
+            } => {
+                let how = screen.how(*how);
+                let manner = Manner { how, view };
+                once_of_files(rt, *topology, capture, manner, &mut progress, out)
+            }
+            Command::Run {
+                topology,
+                script: "-",
+                how,
+                ..
+            } => run_of_coming(rt, *topology, input, *how, &mut progress, out),
+            Command::Run {
+                topology,
+                script,
+                how,
+            } => {
+                let how = screen.how(*how);
+                run_of_files(rt, *topology, *script, how, &mut progress, out)
+            }
+            Command::Audit {
+                topology,
+                script,
+                edit,
+                how,
+                view,
+            } => {
+                let past = Past {
+                    topology: *topology,
+                    script: *script,
+                    edit: *edit,
+                };
+                let how = screen.how(*how);
+                audit_of_files(rt, past, Manner { how, view }, &mut progress, out)
+            }
+            Command::Stream { topology, options } => {
+                stream_of_files(rt, *topology, options, input, out, &mut progress)
+            }
+            Command::Merge {
+                topology,
+                reports,
+                ..
+            } => merge_of_files(rt, *topology, reports, out),
+            Command::Doctor {
+                topology,
+                fragments,
+                ..
+            } => doctor_of_files(rt, *topology, fragments, &mut progress, out),
+            Command::View {
+                topology,
+                fragments,
+                picture,
+                ..
+            } => view_of_files(rt, *topology, fragments, picture, &mut progress, out),
+        };
+        if progress.failures() >= MANY_FAILURES {
+            return FAULT;
         }
-        Command::Run {
-            topology,
-            script: "-",
-            how,
-            ..
-        } => run_of_coming(rt, *topology, input, *how, &mut progress, out),
-        Command::Run {
-            topology,
-            script,
-            how,
-        } => {
-            let how = screen.how(*how);
-            run_of_files(rt, *topology, *script, how, &mut progress, out)
-        }
-        Command::Audit {
-            topology,
-            script,
-            edit,
-            how,
-            view,
-        } => {
-            let past = Past {
-                topology: *topology,
-                script: *script,
-                edit: *edit,
-            };
-            let how = screen.how(*how);
-            audit_of_files(rt, past, Manner { how, view }, &mut progress, out)
-        }
-        Command::Stream { topology, options } => {
-            stream_of_files(rt, *topology, options, input, out, &mut progress)
-        }
-        Command::Merge {
-            topology,
-            reports,
-            ..
-        } => merge_of_files(rt, *topology, reports, out),
-        Command::Doctor {
-            topology,
-            fragments,
-            ..
-        } => doctor_of_files(rt, *topology, fragments, &mut progress, out),
-        Command::View {
-            topology,
-            fragments,
-            picture,
-            ..
-        } => view_of_files(rt, *topology, fragments, picture, &mut progress, out),
+        ending
     };
-    if progress.failures() >= MANY_FAILURES {
-        return FAULT;
-    }
-    tell_ending(rt, &mut progress, ending, command, screen)
+    tell_ending(rt, err, ending, command, screen)
 }
 
 /// Does what the words ask for, the first of which is the program's own, and answers the exit status: 0 where the last report

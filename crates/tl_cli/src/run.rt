@@ -467,7 +467,7 @@ fn do_command<
 {
     let ending = {
         let mut progress = Progress::new(rt, err, screen.has_progress(command));
-        let ending = match command {
+        match command {
             Command::Input => return run_input(rt, input, out, &mut progress, screen),
             Command::Explain { entry } => return tell_entry(rt.alloc(), out, &mut progress, *entry),
             Command::Once {
@@ -528,12 +528,11 @@ fn do_command<
                 picture,
                 ..
             } => view_of_files(rt, *topology, fragments, picture, &mut progress, out),
-        };
-        if progress.failures() >= MANY_FAILURES {
-            return FAULT;
         }
-        ending
     };
+    if err.failures() >= MANY_FAILURES {
+        return FAULT;
+    }
     tell_ending(rt, err, ending, command, screen)
 }
 

@@ -26,6 +26,7 @@ pub use form::{Form, Plain};
 pub use once::{OnceFault, all_added, run_once, run_once_as, run_once_beside};
 pub use plain_laws::guarded_reports_are_coherent;
 pub use report::{Report, audit_head, audit_text, head_text, listed, report_text, row_text};
+pub use rows::add_rows;
 pub use sorted::sort_rows;
 pub use standing::{audit, scratch};
 pub use state::SpanState;

@@ -14,7 +14,6 @@ mod midway;
 mod reading;
 mod readings;
 mod report;
-mod rows;
 mod seen;
 mod standing;
 mod state;

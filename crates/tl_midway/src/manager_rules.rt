@@ -17,9 +17,9 @@ ghost use Rattle.tl_midway.specs.declared.known_pasts.LinkPast.{LinkPast as AnyL
 
 use crate::known::Known;
 use crate::known_pasts::{KnownPasts, LinkPast};
-use crate::rows::add_rows;
 use std::alloc::{AllocError, Global};
 use tl_beats::{Beat, Placed, Request, Row};
+use tl_check::add_rows;
 use tl_client_rules::{block_of, claim, granted_block};
 use tl_link_rules::{RuleList, check_head};
 use tl_tables::{Op, Perm, Rule, is_grant, is_probe, op_of};

@@ -15,10 +15,10 @@ ghost use Rattle.tl_midway.specs.State.{StandsFor, Serves, HasLink, IsKnown};
 use crate::known_pasts::KnownPasts;
 use crate::manager_readings::ManagerReadings;
 use crate::midway::Midway;
-use crate::rows::add_rows;
 use crate::standing::Standing;
 use std::alloc::{AllocError, Global};
 use tl_beats::{Placed, Row};
+use tl_check::add_rows;
 use tl_topology::{LinkDecl, RegionMap, Topo};
 
 /// All that the beats of a manager so far leave for those that come, where nobody recorded the first of them: what the next beat of

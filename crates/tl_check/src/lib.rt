@@ -32,3 +32,4 @@ pub use standing::{audit, scratch};
 pub use state::SpanState;
 pub use tl_beats::{Placed, Row};
 pub use walked::{check_window, go_on};
+pub use watching::watches_rows;

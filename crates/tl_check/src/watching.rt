@@ -78,8 +78,8 @@ fn watch_rows(
     flagged_rows(alloc, number, watch, &beats)
 }
 
-/// The rows of the watches, each with the number of its monitor, one watch after the other.
-pub(crate) fn watches_rows(
+/// The rows of the watches, each with the number of its monitor, one watch after the other. AllocError where memory is refused.
+pub fn watches_rows(
     alloc: Global,
     topo: &Topo,
     present: &Present,

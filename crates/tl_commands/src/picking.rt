@@ -318,16 +318,7 @@ fn rows_found<R: Threads + Sync + AllocGlobal>(
     ensures { IfOk result (λ rows. All (λ row. row.link < length inputs.now.topo.links) rows.items) }
 {
     match midway {
-        Some(law) => {
-            let topo = inputs.topo();
-            midway_report(
-                judges.alloc(),
-                topo,
-                inputs.present(),
-                inputs.regions(),
-                law,
-            )
-        }
+        Some(law) => midway_report(judges.alloc(), inputs, law),
         None => judges.scratch(inputs),
     }
 }

@@ -169,7 +169,7 @@ rises_by_key (x ∷ rows) place rises = (
 )
 
 -- Rows with one key are of beats at one position.
-same_place : (p q : Placed) (r s : Rule) (m n : Option ℕ) → key_order (row_with p r m) (row_with q s n) ≡ Equal → position_order p q ≡ Equal
+pub same_place : (p q : Placed) (r s : Rule) (m n : Option ℕ) → key_order (row_with p r m) (row_with q s n) ≡ Equal → position_order p q ≡ Equal
 same_place p q r s m n h =
     let link : Ordering = nat_cmp p.link q.link in
     let cycle : Ordering = nat_cmp p.beat.cycle q.beat.cycle in

@@ -15,17 +15,20 @@ use Rattle.tl_definitions.specs.Breaks.{row_of}
 use Rattle.tl_definitions.specs.Captures.{manager_beats, captures_from, captures_of}
 use Rattle.tl_definitions.specs.Managers.{declared_links, manager_at}
 use Rattle.tl_definitions.specs.Positions.{Recorded, clients_of}
-use Rattle.tl_definitions.specs.Report.{key_order, row_order, Capture, of_manager}
+use Rattle.tl_definitions.specs.Report.{key_order, row_order, Capture, of_manager, captured}
 use Rattle.tl_definitions.specs.Rules.{Manager}
 use Rattle.tl_definitions.specs.Known.{Beginning}
 use Rattle.tl_definitions.specs.Printed.{printed_rules, printed_after}
 use Rattle.tl_definitions.proofs.Lists.{contains_none, contains_here, contains_there, mapped_from}
-use Rattle.tl_definitions.proofs.ReportLaws.{rises_by_key, same_position}
-use Rattle.tl_check.specs.Captured.{areas_at}
-use Rattle.tl_check.proofs.CaptureLaws.{one_place, linked_in}
+use Rattle.tl_definitions.proofs.ReportLaws.{rises_by_key, same_place, stands_in}
+use Rattle.tl_definitions.proofs.RisingLaws.{row_with}
+use Rattle.tl_edits.specs.Inputs.{InputData, attached}
+use Rattle.tl_check.specs.Captured.{areas_at, watch_captures}
+use Rattle.tl_check.specs.Found.{AreFound}
+use Rattle.tl_check.proofs.CaptureLaws.{one_place, linked_in, row_linked as any_linked}
 use Rattle.tl_midway.proofs.WalkLaws.{below}
 use Rattle.tl_midway.specs.Midway.{beginning_of}
-use Rattle.tl_midway.specs.Report.{manager_rows, IsPrinted, ArePrinted, IsMidwayReport}
+use Rattle.tl_midway.specs.Report.{manager_rows, IsPrinted, ArePrinted, StandsIn, IsMidwayReport}
 use Rattle.tl_midway.specs.declared.midway.Midway.{Midway}
 
 -- A row that is printed is of one of the beats.
@@ -54,50 +57,87 @@ manager_captured topo regions fs number (manager ∷ managers) (suc k) below =
     (contains_there own (captures_from topo regions fs (number + 1) managers) (of_manager (manager_at topo (number + 1 + k) (regions (number + 1 + k))) (manager_beats topo fs (number + 1 + k)))
     (manager_captured topo regions fs (number + 1) managers k (omega arith)))
 
-module _ (law : Midway) (topo : Topology) (given : List (List (ℕ × Area))) (fs : List Recorded) (is : IsPresent fs) where
-  abbrev regions : ℕ → List Area
-  regions = areas_at given
+-- The row is one of a beat of these captures.
+abbrev IsAtBeat : List Capture → Row → Type 0
+IsAtBeat captures row = (capture : Capture) × (p : Placed) × Contains captures capture × Contains (captured capture) p × (row ≡ row_with p row.rule row.monitor)
 
-  captured_at : (k : ℕ) → k < length topo.managers → Contains (captures_of topo regions fs ++ []) (of_manager (manager_at topo k (regions k)) (manager_beats topo fs k))
+module _ (law : Midway) (now : InputData) (is : IsPresent now.fragments) where
+  abbrev topo : Topology
+  topo = now.topo
+
+  abbrev fs : List Recorded
+  fs = now.fragments
+
+  abbrev regions : ℕ → List Area
+  regions = areas_at now.regions
+
+  abbrev of_managers : List Capture
+  of_managers = captures_of topo regions fs
+
+  abbrev of_monitors : List Capture
+  of_monitors = watch_captures topo fs (attached now.monitors)
+
+  captured_at : (k : ℕ) → k < length topo.managers → Contains of_managers (of_manager (manager_at topo k (regions k)) (manager_beats topo fs k))
   captured_at k below =
       let same : 0 + k ≡ k = omega arith in
-      Contains-append_left (captures_of topo regions fs) [] (of_manager (manager_at topo k (regions k)) (manager_beats topo fs k))
-      (subst (λ n. Contains (captures_of topo regions fs) (of_manager (manager_at topo n (regions n)) (manager_beats topo fs n))) same (manager_captured topo regions fs 0 topo.managers k below))
+      subst (λ n. Contains of_managers (of_manager (manager_at topo n (regions n)) (manager_beats topo fs n))) same (manager_captured topo regions fs 0 topo.managers k below)
+
+  -- The beat of a row that stands.
+  at_beat : (row : Row) → StandsIn law now row → IsAtBeat (of_managers ++ of_monitors) row
+  at_beat row (inl printed) =
+      let m : Manager = manager_at topo printed.0 (regions printed.0) in
+      let own : Capture = of_manager m (manager_beats topo fs printed.0) in
+      let one = printed_from m (beginning_of law m) [] (manager_beats topo fs printed.0) row printed.2 in (
+        own,
+        one.0,
+        Contains-append_left of_managers of_monitors own (captured_at printed.0 printed.1),
+        one.1,
+        one.2 ∙ ap (row_with one.0 row.rule) (sym (ap (λ (r : Row). r.monitor) one.2)),
+      )
+  at_beat row (inr flagged) =
+      let one = stands_in flagged.0 row flagged.2 in
+      (flagged.0, one.0, Contains-append_right of_managers of_monitors flagged.0 flagged.1, one.1, one.2)
 
   -- Rows with one key are written at one place.
-  same_place : (x y : Row) → IsPrinted law topo regions fs (length topo.managers) x → IsPrinted law topo regions fs (length topo.managers) y → key_order x y ≡ Equal → (x.fragment ≡ y.fragment) × (x.line ≡ y.line)
-  same_place x y first second tie =
-      let here : Manager = manager_at topo first.0 (regions first.0) in
-      let there : Manager = manager_at topo second.0 (regions second.0) in
-      let one = printed_from here (beginning_of law here) [] (manager_beats topo fs first.0) x first.2 in
-      let two = printed_from there (beginning_of law there) [] (manager_beats topo fs second.0) y second.2 in
-      let tied : key_order (row_of one.0 x.rule) (row_of two.0 y.rule) ≡ Equal =
-      sym (ap (λ z. key_order z (row_of two.0 y.rule)) one.2) ∙ sym (ap (key_order x) two.2) ∙ tie in
-      let found = one_place topo fs is given [] (of_manager here (manager_beats topo fs first.0)) (of_manager there (manager_beats topo fs second.0)) one.0 two.0
-      (captured_at first.0 first.1) (captured_at second.0 second.1) one.1 two.1 (same_position one.0 two.0 x.rule y.rule tied) in (
-        ap (λ (z : Row). z.fragment) one.2 ∙ found.0 ∙ sym (ap (λ (z : Row). z.fragment) two.2),
-        ap (λ (z : Row). z.line) one.2 ∙ found.1 ∙ sym (ap (λ (z : Row). z.line) two.2),
+  one_written : (x y : Row) → StandsIn law now x → StandsIn law now y → key_order x y ≡ Equal → (x.fragment ≡ y.fragment) × (x.line ≡ y.line)
+  one_written x y first second tie =
+      let one = at_beat x first in
+      let two = at_beat y second in
+      let p : Placed = one.1 in
+      let q : Placed = two.1 in
+      let tied : key_order (row_with p x.rule x.monitor) (row_with q y.rule y.monitor) ≡ Equal =
+      sym (ap (λ z. key_order z (row_with q y.rule y.monitor)) one.4) ∙ sym (ap (key_order x) two.4) ∙ tie in
+      let found = one_place topo fs is now.regions (attached now.monitors) one.0 two.0 p q one.2 two.2 one.3 two.3 (same_place p q x.rule y.rule x.monitor y.monitor tied) in (
+        ap (λ (z : Row). z.fragment) one.4 ∙ found.0 ∙ sym (ap (λ (z : Row). z.fragment) two.4),
+        ap (λ (z : Row). z.line) one.4 ∙ found.1 ∙ sym (ap (λ (z : Row). z.line) two.4),
       )
 
-  pub sorted_report : (found rows : List Row) → ArePrinted law topo regions fs (length topo.managers) found → IsStrictlySortedBy row_order rows
-      → ((row : Row) → Contains rows row ↔ Contains found row) → IsMidwayReport law topo regions fs rows
-  sorted_report found rows are rises members =
-      let printed : ArePrinted law topo regions fs (length topo.managers) rows = λ row. (
-        (λ h. (are row).0 ((members row).0 h)),
-        (λ h. (members row).1 ((are row).1 h)),
+  pub sorted_report : (found flagged both rows : List Row) → ArePrinted law topo regions fs (length topo.managers) found → AreFound of_monitors flagged → both ≡ found ++ flagged
+      → IsStrictlySortedBy row_order rows → ((row : Row) → Contains rows row ↔ Contains both row) → IsMidwayReport law now rows
+  sorted_report found flagged both rows printed are put rises same =
+      let members : (row : Row) → Contains rows row ↔ StandsIn law now row = λ row. (
+        (λ h. elim (Contains-append_cases found flagged row (subst (λ rs. Contains rs row) put ((same row).0 h))) [
+          | inl a ↦ inl ((printed row).0 a)
+          | inr b ↦ inr ((are row).0 b)
+        ]),
+        (λ stands. (same row).1 (subst (λ rs. Contains rs row) (sym put) (elim stands [
+          | inl a ↦ Contains-append_left found flagged row ((printed row).1 a)
+          | inr b ↦ Contains-append_right found flagged row ((are row).1 b)
+        ]))),
       ) in
-      record { rises = rises_by_key rows (λ x y h g. same_place x y ((printed x).0 h) ((printed y).0 g)) rises; members = printed }
+      record { rises = rises_by_key rows (λ x y h g. one_written x y ((members x).0 h) ((members y).0 g)) rises; members = members }
 
-  -- A row that is printed is of a link of the topology.
-  printed_linked : (row : Row) → IsPrinted law topo regions fs (length topo.managers) row → row.link < length topo.links
-  printed_linked row printed =
+  -- A row that stands is of a link of the topology.
+  row_linked : (row : Row) → StandsIn law now row → row.link < length topo.links
+  row_linked row (inl printed) =
       let m : Manager = manager_at topo printed.0 (regions printed.0) in
       let one = printed_from m (beginning_of law m) [] (manager_beats topo fs printed.0) row printed.2 in
       let linked = linked_in topo fs is (clients_of printed.0 (declared_links topo)) one.0 one.1 in
       subst (λ (n : ℕ). n < length topo.links) (sym (ap (λ (r : Row). r.link) one.2)) (below topo printed.0 one.0.link linked)
+  row_linked row (inr flagged) = any_linked topo fs is now.regions (attached now.monitors) row (flagged.0, Contains-append_right of_managers of_monitors flagged.0 flagged.1, flagged.2)
 
-  pub report_linked : (rows : List Row) → IsMidwayReport law topo regions fs rows → All (λ (row : Row). row.link < length topo.links) rows
-  report_linked rows report k d less = printed_linked (get_or rows k d) ((report.members (get_or rows k d)).0 (Contains-get_or rows k d less))
+  pub report_linked : (rows : List Row) → IsMidwayReport law now rows → All (λ (row : Row). row.link < length topo.links) rows
+  report_linked rows report k d less = row_linked (get_or rows k d) ((report.members (get_or rows k d)).0 (Contains-get_or rows k d less))
 
 module _ (law : Midway) (topo : Topology) (regions : ℕ → List Area) (fs : List Recorded) where
   -- One manager more.

@@ -14,8 +14,9 @@ use crate::walked::midway_rows;
 use std::alloc::{AllocError, Global};
 use tl_beats::Row;
 use tl_capture::Present;
-use tl_check::sort_rows;
+use tl_check::{sort_rows, watches_rows};
 use tl_client_rules::clients_of;
+use tl_edits::Inputs;
 use tl_topology::{RegionMap, Topo};
 
 /// The rows that are printed of a manager with these regions.
@@ -55,20 +56,18 @@ fn managers_rows(
     Ok(rows)
 }
 
-/// The report of a capture that begins in the middle of a run, so as the law says: of the fragments that are present on the links of a
-/// topology, with the regions of its managers, by number; a manager without an entry has no regions. AllocError where memory is
-/// refused.
-pub fn midway_report(
-    alloc: Global,
-    topo: &Topo,
-    present: &Present,
-    regions: &[RegionMap],
-    law: Midway,
-) -> Result<Vec<Row>, AllocError>
-    ensures report { IfOk result (λ rows. IsMidwayReport law topo.now (areas_at regions.now) present.now rows.items) }
-    ensures links { IfOk result (λ rows. All (λ row. row.link < length topo.now.links) rows.items) }
+/// The report of a capture that begins in the middle of a run, so as the law says, of what edits leave: the rows that are printed of all
+/// managers, and those of the monitors that are attached. AllocError where memory is refused.
+pub fn midway_report(alloc: Global, inputs: &Inputs, law: Midway) -> Result<Vec<Row>, AllocError>
+    ensures report { IfOk result (λ rows. IsMidwayReport law inputs.now rows.items) }
+    ensures links { IfOk result (λ rows. All (λ row. row.link < length inputs.now.topo.links) rows.items) }
 {
+    let topo = inputs.topo();
+    let present = inputs.present();
     let _ = present.is_empty();
-    let rows = managers_rows(alloc, topo, present, regions, law)?;
+    let watches = inputs.watches(alloc)?;
+    let mut rows = managers_rows(alloc, topo, present, inputs.regions(), law)?;
+    let flagged = watches_rows(alloc, topo, present, &watches)?;
+    rows.extend_from_slice(&flagged)?;
     Ok(sort_rows(rows))
 }

@@ -8,6 +8,7 @@ use Rattle.tl_tables.specs.declared.Perm.{Perm}
 use Rattle.tl_tables.specs.declared.Rule.{Rule}
 use Rattle.tl_tables.specs.declared.Rule.TheVariants as rule
 use Rattle.tl_tables.specs.Kinds.{conflicts, is_grant, is_probe}
+use Rattle.tl_topology.specs.Regions.{Area}
 use Rattle.tl_topology.specs.declared.LinkDecl.{LinkDecl}
 use Rattle.tl_beats.specs.declared.Placed.{Placed}
 use Rattle.tl_beats.specs.declared.Request.{Request}
@@ -43,6 +44,10 @@ pub record MayBegin (m : Manager) (start : Beginning) (before : List Placed) (p 
 abbrev pub AfterBeats : KnownPasts → Placed → Bool → LinkDecl → (Manager → Beginning → List Placed → Type 0) → Type 0
 AfterBeats state p certain link Holds = (m : Manager) (start : Beginning) (before : List Placed) → StandsFor m start state before
     → MayBegin m start before p certain link → Holds m start before
+
+-- The same of a head that comes for certain, where the manager has these regions.
+abbrev pub AtHead : KnownPasts → Placed → LinkDecl → List Area → (Manager → Beginning → List Placed → Type 0) → Type 0
+AtHead state p link areas Holds = AfterBeats state p true link (λ m start before. m.regions ≡ areas → Holds m start before)
 
 -- By what the state shows: what a message sets is forbidden by each bound that another client's may be; a Probe of the block is
 -- known to be open at a client; a Grant is.

@@ -1,5 +1,5 @@
 -- What the state of a manager stands for.
-use Rattle.std.specs.Prelude.{ℕ, ◌≡◌, List}
+use Rattle.std.specs.Prelude.{ℕ, ◌≡◌, List, []}
 use Rattle.tl_topology.specs.Regions.{Area}
 use Rattle.tl_topology.specs.declared.LinkDecl.{LinkDecl}
 use Rattle.tl_beats.specs.declared.Placed.{Placed}
@@ -8,6 +8,8 @@ use Rattle.tl_definitions.specs.Known.{Beginning}
 use Rattle.tl_midway.specs.ManagerReadings as manager_readings
 use Rattle.tl_midway.specs.ManagerReadings.{HasPlace}
 use Rattle.tl_midway.specs.KnownPasts as known_pasts
+use Rattle.tl_midway.specs.Midway.{beginning_of}
+use Rattle.tl_midway.specs.declared.midway.Midway.{Midway}
 use Rattle.tl_midway.specs.declared.state.MidwayState.{MidwayState}
 
 -- The state shows what is known after these beats of the manager: the readings of each channel's next beat, and each link's past.
@@ -28,3 +30,11 @@ pub record HasLink (state : MidwayState) (link : ℕ) : Type 0 where
 -- The state has the readings of each link's next beats, whatever they are.
 abbrev pub IsKnown : MidwayState → Type 0
 IsKnown state = manager_readings.AreKnown state.readings
+
+-- This holds of each manager, beginning and beats before that the state stands for, where the manager serves the link.
+abbrev pub WhereServed : MidwayState → ℕ → LinkDecl → List Area → (Manager → Beginning → List Placed → Type 0) → Type 0
+WhereServed state number decl areas Holds = (m : Manager) (start : Beginning) (before : List Placed) → StandsFor m start state before → Serves m number decl areas → Holds m start before
+
+-- The state stands for no beats of the manager, whose capture begins as the law says.
+abbrev pub IsNew : Midway → Manager → MidwayState → Type 0
+IsNew law m state = StandsFor m (beginning_of law m) state []

@@ -159,8 +159,8 @@ impl KnownPasts {
         requires link { IsSound link.now }
         requires beat { IsWellFormed at.now.beat }
         requires own { HasPlace (numbers_of self.now) at.now.link }
-        ensures { AfterBeats self.now at.now true link.now (λ m start before. m.regions ≡ areas_of regions.now
-            → OnOk result (rows.new.items ≡ rows.old.items ++ map (row_of at.now) (printed_rules m start before at.now))) }
+        ensures { AtHead self.now at.now link.now (areas_of regions.now) (λ m start before.
+            OnOk result (rows.new.items ≡ rows.old.items ++ map (row_of at.now) (printed_rules m start before at.now))) }
     {
         let format = check_head(alloc, link, self.exponent, regions, &at.beat);
         add_rows(rows, at, &format)?;

@@ -1,16 +1,13 @@
 //! What the beats of a manager leave for those that come, where its capture begins in the middle of a run.
 
-ghost use Rattle.std.specs.Prelude.{◌≡◌, ◌++◌, List, [], ◌∷◌, map, IfOk, OnOk};
+ghost use Rattle.std.specs.Prelude.{◌≡◌, ◌++◌, List, ◌∷◌, map, IfOk, OnOk};
 ghost use Rattle.tl_topology.specs.Regions.{Area, areas_of};
 ghost use Rattle.tl_topology.specs.Topology.{IsSound};
 ghost use Rattle.tl_beats.specs.Beats.{IsWellFormed};
 ghost use Rattle.tl_definitions.specs.Breaks.{row_of};
-ghost use Rattle.tl_definitions.specs.Known.{Beginning};
 ghost use Rattle.tl_definitions.specs.Managers.{manager_at};
 ghost use Rattle.tl_definitions.specs.Printed.{printed_rules};
-ghost use Rattle.tl_definitions.specs.Rules.{Manager};
-ghost use Rattle.tl_midway.specs.Midway.{beginning_of};
-ghost use Rattle.tl_midway.specs.State.{StandsFor, Serves, HasLink, IsKnown};
+ghost use Rattle.tl_midway.specs.State.{StandsFor, WhereServed, IsNew, HasLink, IsKnown};
 
 use crate::known_pasts::KnownPasts;
 use crate::manager_readings::ManagerReadings;
@@ -37,7 +34,7 @@ impl MidwayState {
         manager: u16,
         law: Midway,
     ) -> Result<MidwayState, AllocError>
-        ensures stands { (regions : List Area) → IfOk result (λ state. StandsFor (manager_at topo.now manager regions) (beginning_of law (manager_at topo.now manager regions)) state []) }
+        ensures stands { (regions : List Area) → IfOk result (IsNew law (manager_at topo.now manager regions)) }
         ensures known { IfOk result IsKnown }
     {
         Ok(MidwayState {
@@ -61,10 +58,9 @@ impl MidwayState {
         requires beat { IsWellFormed at.now.beat }
         requires own { HasLink self.old at.now.link }
         requires known { IsKnown self.old }
-        ensures rows { (m : Manager) (start : Beginning) (before : List Placed) → StandsFor m start self.old before → Serves m at.now.link link.now (areas_of regions.now)
-            → OnOk result (rows.new.items ≡ rows.old.items ++ map (row_of at.now) (printed_rules m start before at.now)) }
-        ensures next { (m : Manager) (start : Beginning) (before : List Placed) → StandsFor m start self.old before → Serves m at.now.link link.now (areas_of regions.now)
-            → OnOk result (StandsFor m start self.new (at.now ∷ before)) }
+        ensures rows { WhereServed self.old at.now.link link.now (areas_of regions.now) (λ m start before.
+            OnOk result (rows.new.items ≡ rows.old.items ++ map (row_of at.now) (printed_rules m start before at.now))) }
+        ensures next { WhereServed self.old at.now.link link.now (areas_of regions.now) (λ m start before. OnOk result (StandsFor m start self.new (at.now ∷ before))) }
         ensures known { IsKnown self.new }
     {
         match self.readings.take(alloc, link, at) {

@@ -50,7 +50,7 @@ fn any_grant_open(links: &[LinkPast], block: u64) -> bool
 }
 
 impl KnownPasts {
-    ghost use Rattle.tl_midway.specs.KnownPasts.{StandsFor, AfterBeats, numbers_of, conflicts_known, probe_known, breaks_shown_manager, message_broken, AfterMessages};
+    ghost use Rattle.tl_midway.specs.KnownPasts.{StandsFor, AtHead, AfterBeats, numbers_of, conflicts_known, probe_known, breaks_shown_manager, message_broken, AfterMessages};
 
     /// Whether what a Grant sets is surely forbidden by another client's bound: its request is known, and so its block.
     fn surely_conflicts(

@@ -11,6 +11,7 @@ use Rattle.tl_topology.specs.Topology.{Topology}
 use Rattle.tl_capture.specs.Present.{IsPresent}
 use Rattle.tl_beats.specs.declared.Placed.{Placed}
 use Rattle.tl_beats.specs.declared.Row.{Row}
+use Rattle.tl_beats.specs.declared.watch.Watch.{Watch}
 use Rattle.tl_definitions.specs.Breaks.{row_of}
 use Rattle.tl_definitions.specs.Captures.{manager_beats, captures_from, captures_of}
 use Rattle.tl_definitions.specs.Managers.{declared_links, manager_at}
@@ -138,6 +139,19 @@ module _ (law : Midway) (now : InputData) (is : IsPresent now.fragments) where
 
   pub report_linked : (rows : List Row) → IsMidwayReport law now rows → All (λ (row : Row). row.link < length topo.links) rows
   report_linked rows report k d less = row_linked (get_or rows k d) ((report.members (get_or rows k d)).0 (Contains-get_or rows k d less))
+
+-- What was read of what edits leave is what they leave.
+pub report_of : (law : Midway) (now : InputData) (topo : Topology) (fs : List Recorded) (given : List (List (ℕ × Area))) (watches : List (ℕ × Watch))
+    → topo ≡ now.topo → fs ≡ now.fragments → given ≡ now.regions → watches ≡ attached now.monitors → IsPresent now.fragments → (found flagged both rows : List Row)
+    → ArePrinted law topo (areas_at given) fs (length topo.managers) found → AreFound (watch_captures topo fs watches) flagged → both ≡ found ++ flagged
+    → IsStrictlySortedBy row_order rows → ((row : Row) → Contains rows row ↔ Contains both row) → IsMidwayReport law now rows
+report_of law now topo fs given watches one two three four is found flagged both rows printed are put rises same =
+    sorted_report law now is found flagged both rows
+    (subst (λ (t : Topology). ArePrinted law t (areas_at now.regions) now.fragments (length t.managers) found) one
+    (subst (λ g. ArePrinted law topo (areas_at g) now.fragments (length topo.managers) found) three (subst (λ f. ArePrinted law topo (areas_at given) f (length topo.managers) found) two printed)))
+    (subst (λ t. AreFound (watch_captures t now.fragments (attached now.monitors)) flagged) one
+    (subst (λ f. AreFound (watch_captures topo f (attached now.monitors)) flagged) two (subst (λ w. AreFound (watch_captures topo fs w) flagged) four are)))
+    put rises same
 
 module _ (law : Midway) (topo : Topology) (regions : ℕ → List Area) (fs : List Recorded) where
   -- One manager more.

@@ -4,7 +4,7 @@ ghost use Rattle.std.specs.Prelude.{◌<◌, ◌≤◌, ◌^◌, IfOk, length};
 ghost use Rattle.std.specs.List.{All};
 
 use crate::fault::Fault;
-use crate::midway::law_line;
+use crate::midway::push_midway;
 use crate::pasts::inputs_left;
 use std::alloc::{AllocError, AllocFailed, Global};
 use std::fs;
@@ -242,10 +242,15 @@ fn waiver_notes(
     Ok(notes)
 }
 
-/// What is told of these rows: of waivers, and of the law by which they stand.
-fn notes_of(alloc: Global, order: &Order<'_>, rows: &[Row]) -> Result<String, AllocError> {
+/// What is told of these rows of what stands: of waivers, and of what rows rest on where nobody recorded the past.
+fn notes_of(
+    alloc: Global,
+    inputs: &Inputs,
+    order: &Order<'_>,
+    rows: &[Row],
+) -> Result<String, AllocError> {
     let mut notes = waiver_notes(alloc, order.waive, &order.pick, rows)?;
-    notes.push_str(law_line(order.midway))?;
+    push_midway(alloc, inputs, order.midway, &mut notes)?;
     Ok(notes)
 }
 
@@ -300,7 +305,7 @@ fn write_rows<O: ByteOut>(
     requires out { O.failure_count out.old < 2 ^ 63 }
     requires links { All (λ row. row.link < length inputs.now.topo.links) rows.now }
 {
-    let notes = notes_of(alloc, order, rows)?;
+    let notes = notes_of(alloc, inputs, order, rows)?;
     let count = write_left(alloc, title, inputs, order, rows, out)?;
     Ok(Written {
         rows: count,

@@ -16,4 +16,5 @@ pub mod PrintedLaws
 pub mod HeadRowLaws
 pub mod StateLaws
 pub mod WalkLaws
+pub mod LeadInLaws
 pub mod MidwayReportLaws

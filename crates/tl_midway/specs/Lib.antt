@@ -15,3 +15,4 @@ pub mod KnownPasts
 pub mod State
 pub mod Walked
 pub mod Report
+pub mod LeadIns

@@ -1,5 +1,5 @@
 -- What the readings of a manager's links stand for.
-use Rattle.std.specs.Prelude.{ℕ, ◌≡◌, ◌<◌, List, ◌∷◌, length, map, Some}
+use Rattle.std.specs.Prelude.{ℕ, ◌≡◌, ◌<◌, Bool, List, ◌∷◌, length, map, Some}
 use Rattle.std.specs.List.{All}
 use Rattle.std.specs.List.Sorted.{IsStrictlySortedBy}
 use Rattle.std.specs.Ordering.{nat_cmp}
@@ -8,6 +8,7 @@ use Rattle.tl_beats.specs.declared.Placed.{Placed}
 use Rattle.tl_definitions.specs.Rules.{Manager}
 use Rattle.tl_definitions.specs.Known.{Beginning, readings_of}
 use Rattle.tl_client_rules.specs.Clients.{place_of}
+use Rattle.tl_midway.specs.LeadIns.{leads_in}
 use Rattle.tl_midway.specs.LinkReadings as link_readings
 use Rattle.tl_midway.specs.Standing.{IsStanding}
 use Rattle.tl_midway.specs.declared.link_readings.LinkReadings.{LinkReadings}
@@ -38,3 +39,7 @@ pub record StandsFor (m : Manager) (start : Beginning) (state : ManagerReadings)
 abbrev pub Takes : LinkDecl → Placed → ManagerReadings → Standing → ManagerReadings → Type 0
 Takes link p old result new = (m : Manager) (start : Beginning) (before : List Placed) → StandsFor m start old before → m.links p.link ≡ link
     → IsStanding link p.beat (readings_of m start before p) result × StandsFor m start new (p ∷ before)
+
+-- Of whatever manager and whatever beats of it the state stands for: whether the next beat is in its channel's lead-in.
+abbrev pub LeadsIn : Placed → ManagerReadings → Bool → Type 0
+LeadsIn p state result = (m : Manager) (start : Beginning) (before : List Placed) → StandsFor m start state before → result ≡ leads_in m start before p

@@ -3,7 +3,9 @@
 ghost use Rattle.std.specs.Prelude.{◌≡◌, IfOk};
 ghost use Rattle.tl_topology.specs.Topology.{IsSound};
 ghost use Rattle.tl_beats.specs.Beats.{IsWellFormed};
-ghost use Rattle.tl_midway.specs.LinkReadings.{IsFirst, IsKnown, Takes};
+ghost use Rattle.tl_definitions.specs.Readings.{in_lead_in};
+ghost use Rattle.tl_midway.specs.LinkReadings.{IsFirst, IsKnown, Takes, channel_of};
+ghost use Rattle.tl_midway.specs.Readings.{shown_readings};
 
 use crate::midway::Midway;
 use crate::readings::Readings;
@@ -45,6 +47,19 @@ impl LinkReadings {
             d: Readings::new(alloc, law.most(link, Chan::D))?,
             e: Readings::new(alloc, law.most(link, Chan::E))?,
         })
+    }
+
+    /// Whether the heads of a channel aren't known yet: by two readings another number of beats is missing.
+    pub fn in_lead_in(&self, chan: Chan) -> bool
+        ensures { result ≡ in_lead_in (shown_readings (channel_of self.now chan)) }
+    {
+        match chan {
+            Chan::A => self.a.in_lead_in(),
+            Chan::B => self.b.in_lead_in(),
+            Chan::C => self.c.in_lead_in(),
+            Chan::D => self.d.in_lead_in(),
+            Chan::E => self.e.in_lead_in(),
+        }
     }
 
     /// What the link's next beat is, which is this one; then makes the readings of its channel those of the beat after it.

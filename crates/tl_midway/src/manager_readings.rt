@@ -57,7 +57,7 @@ fn place_in(links: &[LinkReadings], link: u16) -> Option<usize>
 }
 
 impl ManagerReadings {
-    ghost use Rattle.tl_midway.specs.ManagerReadings.{StandsFor, Takes, AreKnown, numbers_of};
+    ghost use Rattle.tl_midway.specs.ManagerReadings.{StandsFor, Takes, AreKnown, LeadsIn, numbers_of};
 
     /// The readings of the first beats of a manager's links, where its capture begins so. AllocError where memory is refused.
     pub fn new(
@@ -81,6 +81,15 @@ impl ManagerReadings {
         ensures { result ≡ place_of link (numbers_of self.now) }
     {
         place_in(&self.links, link)
+    }
+
+    /// Whether the next beat of the manager, which is this one, is in its channel's lead-in.
+    pub fn in_lead_in(&self, at: &Placed) -> bool
+        requires own { HasPlace (numbers_of self.now) at.now.link }
+        ensures { LeadsIn at.now self.now result }
+    {
+        let place = self.place(at.link).unwrap();
+        self.links[place].in_lead_in(at.beat.chan)
     }
 
     /// What the next beat of the manager is, which is this one: the first of a message for certain, one that may be, or a later one.

@@ -1,0 +1,44 @@
+-- How many beats of a capture are in lead-ins: by what the capture has before each, two readings of its channel differ in how
+-- many beats are missing. So each may belong to a message of the past, or to one that begins elsewhere than it seems.
+use Rattle.std.specs.Prelude.{ℕ, zero, suc, ◌+◌, Bool, List, [], ◌∷◌, length, if◌then◌else◌}
+use Rattle.tl_topology.specs.Regions.{Area}
+use Rattle.tl_topology.specs.Topology.{Topology}
+use Rattle.tl_beats.specs.declared.Placed.{Placed}
+use Rattle.tl_definitions.specs.Captures.{manager_beats}
+use Rattle.tl_definitions.specs.Heads.{before_on}
+use Rattle.tl_definitions.specs.Known.{Beginning}
+use Rattle.tl_definitions.specs.Managers.{manager_at}
+use Rattle.tl_definitions.specs.Positions.{Recorded}
+use Rattle.tl_definitions.specs.Readings.{in_lead_in, readings_after}
+use Rattle.tl_definitions.specs.Rules.{Manager}
+use Rattle.tl_edits.specs.Inputs.{InputData}
+use Rattle.tl_check.specs.Captured.{areas_at}
+use Rattle.tl_midway.specs.Midway.{beginning_of}
+use Rattle.tl_midway.specs.declared.midway.Midway.{Midway}
+
+-- A beat of a manager that stands after these is in its channel's lead-in.
+abbrev pub leads_in : Manager → Beginning → List Placed → Placed → Bool
+leads_in m start before p =
+    in_lead_in (readings_after (m.links p.link) (start.most p.link p.beat.chan) start.by_fields (before_on p.link p.beat.chan before))
+
+-- How many of these beats in their order are, that come after others of the capture.
+abbrev pub leading_after : Manager → Beginning → List Placed → List Placed → ℕ
+leading_after m start before [] = 0
+leading_after m start before (p ∷ beats) = (if leads_in m start before p then 1 else 0) + leading_after m start (p ∷ before) beats
+
+-- Of all beats of a manager, where its capture begins so.
+abbrev pub leading : Midway → Manager → List Placed → ℕ
+leading law m beats = leading_after m (beginning_of law m) [] beats
+
+-- Of the beats of the manager with this number, with its regions.
+abbrev pub manager_leading : Midway → Topology → (ℕ → List Area) → List Recorded → ℕ → ℕ
+manager_leading law topo regions fs manager = leading law (manager_at topo manager (regions manager)) (manager_beats topo fs manager)
+
+-- Of the beats of the first so many managers.
+abbrev pub managers_leading : Midway → Topology → (ℕ → List Area) → List Recorded → ℕ → ℕ
+managers_leading law topo regions fs zero = 0
+managers_leading law topo regions fs (suc count) = managers_leading law topo regions fs count + manager_leading law topo regions fs count
+
+-- Of all beats that edits leave.
+abbrev pub lead_in_count : Midway → InputData → ℕ
+lead_in_count law now = managers_leading law now.topo (areas_at now.regions) now.fragments (length now.topo.managers)

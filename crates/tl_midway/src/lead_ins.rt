@@ -1,0 +1,78 @@
+//! How many beats of a capture are in lead-ins: they may belong to messages that began before it.
+
+ghost use Rattle.std.specs.Prelude.{◌≡◌, ◌+◌, List, Bool, if◌then◌else◌, IfOk};
+ghost use Rattle.std.specs.Io.Iter.{u64_saturate};
+ghost use Rattle.std.specs.List.{All, Contains};
+ghost use Rattle.tl_topology.specs.Regions.{Area};
+ghost use Rattle.tl_beats.specs.Beats.{IsWellFormed};
+ghost use Rattle.tl_definitions.specs.Captures.{manager_beats};
+ghost use Rattle.tl_definitions.specs.Managers.{declared_links, manager_at};
+ghost use Rattle.tl_definitions.specs.Positions.{clients_of};
+ghost use Rattle.tl_midway.specs.LeadIns.{leading, lead_in_count};
+
+use crate::manager_readings::ManagerReadings;
+use crate::midway::Midway;
+use std::alloc::{AllocError, Global};
+use tl_capture::{Merged, Present};
+use tl_client_rules::clients_of;
+use tl_edits::Inputs;
+use tl_topology::Topo;
+
+/// One more, where it counts.
+fn one_more(count: u64, counts: bool) -> u64
+    ensures { result ≡ u64_saturate (count + (if counts then 1 else 0)) }
+{
+    if counts { count.saturating_add(1) } else { count }
+}
+
+/// How many beats of a walk over a manager's beats are in lead-ins.
+fn walked_lead_ins<'a>(
+    alloc: Global,
+    topo: &Topo,
+    manager: u16,
+    law: Midway,
+    walk: Merged<'a>,
+) -> Result<u64, AllocError>
+    requires formed { All (λ p. IsWellFormed p.beat) walk }
+    requires linked { All (λ p. Contains (clients_of manager (declared_links topo.now)) p.link) walk }
+    ensures { (regions : List Area) → IfOk result (λ count. count ≡ u64_saturate (leading law (manager_at topo.now manager regions) walk.entry)) }
+{
+    let mut readings = ManagerReadings::new(alloc, topo, manager, law)?;
+    let mut count = 0;
+    for at in walk {
+        count = one_more(count, readings.in_lead_in(&at));
+        let link = topo.link(at.link).unwrap();
+        drop(readings.take(alloc, link, &at));
+    }
+    Ok(count)
+}
+
+/// How many beats of a manager are in lead-ins.
+fn manager_lead_ins(
+    alloc: Global,
+    topo: &Topo,
+    present: &Present,
+    manager: u16,
+    law: Midway,
+) -> Result<u64, AllocError>
+    ensures { (regions : List Area) → IfOk result (λ count. count ≡ u64_saturate (leading law (manager_at topo.now manager regions) (manager_beats topo.now present.now manager))) }
+{
+    let links = clients_of(alloc, topo, manager)?;
+    let walk = present.walk(alloc, &links)?;
+    walked_lead_ins(alloc, topo, manager, law, walk)
+}
+
+/// How many beats that edits leave are in lead-ins, where the capture begins in the middle of a run: before them the heads of their
+/// channel aren't known yet. It saturates at 2^64 - 1. AllocError where memory is refused.
+pub fn lead_in_beats(alloc: Global, inputs: &Inputs, law: Midway) -> Result<u64, AllocError>
+    ensures { IfOk result (λ count. count ≡ u64_saturate (lead_in_count law inputs.now)) }
+{
+    let topo = inputs.topo();
+    let present = inputs.present();
+    let mut count = 0u64;
+    for manager in 0..topo.manager_count() {
+        let own = manager_lead_ins(alloc, topo, present, manager as u16, law)?;
+        count = count.saturating_add(own);
+    }
+    Ok(count)
+}

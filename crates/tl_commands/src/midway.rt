@@ -24,7 +24,9 @@ fn lead_in_line(alloc: Global, count: u64) -> Result<String, AllocError> {
     } else {
         ("beats", "their")
     };
-    format!(in alloc; "tlcheck: {count} {beats} came while it was uncertain where messages begin on {their} channel\n")
+    format!(in alloc;
+        "tlcheck: {count} {beats} came while it was uncertain where messages begin on {their} channel\n"
+    )
 }
 
 /// Puts what rows of a capture from the middle of a run rest on after a text: the law by which they stand, and how many beats are in

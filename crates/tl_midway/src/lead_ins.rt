@@ -22,7 +22,11 @@ use tl_topology::Topo;
 fn one_more(count: u64, counts: bool) -> u64
     ensures { result ≡ u64_saturate (count + (if counts then 1 else 0)) }
 {
-    if counts { count.saturating_add(1) } else { count }
+    if counts {
+        count.saturating_add(1)
+    } else {
+        count
+    }
 }
 
 /// How many beats of a walk over a manager's beats are in lead-ins.

@@ -1,5 +1,5 @@
 -- How many beats of a capture are in lead-ins: by what the capture has before each, two readings of its channel differ in how
--- many beats are missing. So each may belong to a message of the past, or to one that begins elsewhere than it seems.
+-- many beats are missing. So it isn't certain where the channel's next message begins.
 use Rattle.std.specs.Prelude.{ℕ, zero, suc, ◌+◌, Bool, List, [], ◌∷◌, length, if◌then◌else◌}
 use Rattle.tl_topology.specs.Regions.{Area}
 use Rattle.tl_topology.specs.Topology.{Topology}

@@ -1,6 +1,6 @@
-//! How many beats of a capture are in lead-ins: they may belong to messages that began before it.
+//! How many beats of a capture are in lead-ins: they came before the heads of their channel were known.
 
-ghost use Rattle.std.specs.Prelude.{◌≡◌, ◌+◌, List, Bool, if◌then◌else◌, IfOk};
+ghost use Rattle.std.specs.Prelude.{◌≡◌, ◌+◌, List, if◌then◌else◌, IfOk};
 ghost use Rattle.std.specs.Io.Iter.{u64_saturate};
 ghost use Rattle.std.specs.List.{All, Contains};
 ghost use Rattle.tl_topology.specs.Regions.{Area};

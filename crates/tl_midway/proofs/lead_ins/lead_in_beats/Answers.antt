@@ -1,4 +1,4 @@
-use Rattle.std.proofs.Common.{◌≡◌, ℕ, suc, ap, sym, ◌∙◌, add-one}
+use Rattle.std.proofs.Common.{◌≡◌, ℕ, ap, sym, ◌∙◌, add-one}
 use Rattle.std.specs.Io.Iter.{u64_saturate}
 use Rattle.tl_definitions.specs.Captures.{manager_beats}
 use Rattle.tl_definitions.specs.Managers.{manager_at}

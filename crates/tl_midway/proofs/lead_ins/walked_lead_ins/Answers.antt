@@ -8,7 +8,6 @@ use Rattle.tl_beats.specs.declared.Placed.{Placed}
 use Rattle.tl_definitions.specs.Managers.{declared_links, manager_at}
 use Rattle.tl_definitions.specs.Positions.{clients_of}
 use Rattle.tl_definitions.specs.Rules.{Manager}
-use Rattle.tl_midway.specs.ManagerReadings.{HasPlace, numbers_of}
 use Rattle.tl_midway.specs.Midway.{beginning_of}
 use Rattle.tl_midway.proofs.LeadInLaws.{begun, one_beat_more, done, has_place}
 use Rattle.tl_midway.proofs.PlaceLaws.{declared}

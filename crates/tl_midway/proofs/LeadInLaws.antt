@@ -1,15 +1,18 @@
 -- Beats of lead-ins: whether one is, and how many are.
-use Rattle.std.proofs.Common.{◌≡◌, ℕ, ◌+◌, Bool, List, [], ◌∷◌, get_or, Some, if◌then◌else◌, refl, sym, ap, subst, ◌∙◌, arith}
+use Rattle.std.proofs.Common.{◌≡◌, inl, inr, ℕ, ◌+◌, ◌&&◌, not, Bool, true, false, None, List, [], ◌∷◌, get_or, Some, if◌then◌else◌, refl, sym, ap, subst, ◌∙◌, arith}
 use Rattle.std.specs.Io.Iter.{u64_saturate}
 use Rattle.std.specs.List.{Contains}
+use Rattle.tl_tables.specs.declared.Chan.{Chan}
+use Rattle.tl_tables.specs.Messages.{same_chan}
 use Rattle.tl_beats.specs.declared.Placed.{Placed}
 use Rattle.tl_definitions.specs.Heads.{before_on}
 use Rattle.tl_definitions.specs.Known.{Beginning}
 use Rattle.tl_definitions.specs.Readings.{in_lead_in, readings_after}
 use Rattle.tl_definitions.specs.Rules.{Manager}
+use Rattle.tl_definitions.proofs.Lists.{contains_cases, contains_none}
 use Rattle.tl_client_rules.specs.Clients.{place_of}
 use Rattle.tl_client_rules.proofs.ClientsLaws.{contained_place}
-use Rattle.tl_midway.specs.LeadIns.{leads_in, leading_after}
+use Rattle.tl_midway.specs.LeadIns.{leads_in, leading_after, first_sure}
 use Rattle.tl_midway.specs.LinkReadings as link_readings
 use Rattle.tl_midway.specs.LinkReadings.{channel_of}
 use Rattle.tl_midway.specs.ManagerReadings.{HasPlace, StandsFor, numbers_of}
@@ -23,6 +26,13 @@ use Rattle.tl_midway.proofs.ReadingLaws.{lead_same}
 abbrev number : LinkReadings → ℕ
 number link = link.number
 
+link_leads_in : (m : Manager) (start : Beginning) (before : List Placed) (p : Placed) (own : LinkReadings) → own.number ≡ p.link → link_readings.StandsFor m start own before
+    → in_lead_in (shown_readings (channel_of own p.beat.chan)) ≡ leads_in m start before p
+link_leads_in m start before p own owns each =
+    let known : channel.StandsFor (m.links p.link) (start.most p.link p.beat.chan) start.by_fields (channel_of own p.beat.chan) (before_on p.link p.beat.chan before) =
+    subst (λ n. channel.StandsFor (m.links n) (start.most n p.beat.chan) start.by_fields (channel_of own p.beat.chan) (before_on n p.beat.chan before)) owns (each p.beat.chan) in
+    lead_same (shown_readings (channel_of own p.beat.chan)) (readings_after (m.links p.link) (start.most p.link p.beat.chan) start.by_fields (before_on p.link p.beat.chan before)) known.members
+
 pub own_leads_in : (m : Manager) (start : Beginning) (before : List Placed) (p : Placed) (state : ManagerReadings) (place : ℕ) (own : LinkReadings) (result : Bool)
     → place_of p.link (numbers_of state) ≡ Some place → HasPlace (numbers_of state) p.link → own ≡ get_or state.links.items place own
     → result ≡ in_lead_in (shown_readings (channel_of own p.beat.chan)) → StandsFor m start state before → result ≡ leads_in m start before p
@@ -30,9 +40,7 @@ own_leads_in m start before p state place own result at has here is stands =
     let within = inside number state.links.items p.link place has at in
     let owns : own.number ≡ p.link = own_number number state.links.items p.link place own at within here in
     let each : link_readings.StandsFor m start own before = subst (λ s. link_readings.StandsFor m start s before) (sym here) (stands.each place own within) in
-    let known : channel.StandsFor (m.links p.link) (start.most p.link p.beat.chan) start.by_fields (channel_of own p.beat.chan) (before_on p.link p.beat.chan before) =
-    subst (λ n. channel.StandsFor (m.links n) (start.most n p.beat.chan) start.by_fields (channel_of own p.beat.chan) (before_on n p.beat.chan before)) owns (each p.beat.chan) in
-    is ∙ lead_same (shown_readings (channel_of own p.beat.chan)) (readings_after (m.links p.link) (start.most p.link p.beat.chan) start.by_fields (before_on p.link p.beat.chan before)) known.members
+    is ∙ link_leads_in m start before p own owns each
 
 -- ---- counts
 
@@ -86,3 +94,38 @@ pub has_place : (m : Manager) (start : Beginning) (state : ManagerReadings) (lin
     → HasPlace (numbers_of state) link
 has_place m start state link before stands has =
     subst (λ ns. HasPlace ns link) (sym stands.clients) (contained_place m.clients link stands.rises has)
+
+-- ---- the first beat that is in no lead-in
+
+-- The state stands for the beats so far, and of the beats that are left the first sure one is that of all.
+abbrev pub IsSought : Manager → Beginning → Chan → LinkReadings → List Placed → List Placed → Type 0
+IsSought m start chan state rest all = (before : List Placed) × link_readings.StandsFor m start state before
+    × (first_sure m start chan before rest ≡ first_sure m start chan [] all)
+
+pub sought : (m : Manager) (start : Beginning) (chan : Chan) (state : LinkReadings) (rest all : List Placed) → link_readings.StandsFor m start state [] → rest ≡ all
+    → IsSought m start chan state rest all
+sought m start chan state rest all stands is = ([], stands, ap (first_sure m start chan []) is)
+
+module _ (m : Manager) (start : Beginning) (chan : Chan) (p : Placed) (state : LinkReadings) (now rest all : List Placed) (steps : now ≡ p ∷ rest) (owns : state.number ≡ p.link) (sure : Bool)
+    (is : sure ≡ (same_chan p.beat.chan chan && not (in_lead_in (shown_readings (channel_of state p.beat.chan))))) where
+  looked : (on : IsSought m start chan state now all) → sure ≡ (same_chan p.beat.chan chan && not (leads_in m start on.0 p))
+  looked on = is ∙ ap (λ b. same_chan p.beat.chan chan && not b) (link_leads_in m start on.0 p state owns on.1)
+
+  step_is : (on : IsSought m start chan state now all) → (if sure then Some p.beat.cycle else first_sure m start chan (p ∷ on.0) rest) ≡ first_sure m start chan [] all
+  step_is on = ap (λ (b : Bool). if b then Some p.beat.cycle else first_sure m start chan (p ∷ on.0) rest) (looked on)
+      ∙ sym (ap (first_sure m start chan on.0) steps) ∙ on.2
+
+  pub found_sure : sure ≡ true → IsSought m start chan state now all → Some p.beat.cycle ≡ first_sure m start chan [] all
+  found_sure so on = sym (ap (λ (b : Bool). if b then Some p.beat.cycle else first_sure m start chan (p ∷ on.0) rest) so) ∙ step_is on
+
+  pub sought_more : (new : LinkReadings) → sure ≡ false → ((before : List Placed) → link_readings.StandsFor m start state before → link_readings.StandsFor m start new (p ∷ before))
+      → IsSought m start chan state now all → IsSought m start chan new rest all
+  sought_more new fails next on =
+      (p ∷ on.0, next on.0 on.1, sym (ap (λ (b : Bool). if b then Some p.beat.cycle else first_sure m start chan (p ∷ on.0) rest) fails) ∙ step_is on)
+
+pub none_sure : (m : Manager) (start : Beginning) (chan : Chan) (state : LinkReadings) (now all : List Placed) → now ≡ [] → IsSought m start chan state now all
+    → None ≡ first_sure m start chan [] all
+none_sure m start chan state now all none on = sym (ap (first_sure m start chan on.0) none) ∙ on.2
+
+pub of_one : (number link : ℕ) → Contains (number ∷ []) link → number ≡ link
+of_one number link has = elim (contains_cases number [] link has) [ inl e ↦ e | inr none ↦ absurd (contains_none link none) ]

@@ -1,14 +1,16 @@
 -- How many beats of a capture are in lead-ins: by what the capture has before each, two readings of its channel differ in how
 -- many beats are missing. So it isn't certain where the channel's next message begins.
-use Rattle.std.specs.Prelude.{ℕ, zero, suc, ◌+◌, Bool, List, [], ◌∷◌, length, if◌then◌else◌}
+use Rattle.std.specs.Prelude.{ℕ, zero, suc, ◌+◌, ◌&&◌, not, Bool, List, [], ◌∷◌, length, Option, Some, None, if◌then◌else◌}
+use Rattle.tl_tables.specs.declared.Chan.{Chan}
+use Rattle.tl_tables.specs.Messages.{same_chan}
 use Rattle.tl_topology.specs.Regions.{Area}
 use Rattle.tl_topology.specs.Topology.{Topology}
 use Rattle.tl_beats.specs.declared.Placed.{Placed}
 use Rattle.tl_definitions.specs.Captures.{manager_beats}
 use Rattle.tl_definitions.specs.Heads.{before_on}
 use Rattle.tl_definitions.specs.Known.{Beginning}
-use Rattle.tl_definitions.specs.Managers.{manager_at}
-use Rattle.tl_definitions.specs.Positions.{Recorded}
+use Rattle.tl_definitions.specs.Managers.{declared_links, manager_at}
+use Rattle.tl_definitions.specs.Positions.{Recorded, beats_of_all, links_of}
 use Rattle.tl_definitions.specs.Readings.{in_lead_in, readings_after}
 use Rattle.tl_definitions.specs.Rules.{Manager}
 use Rattle.tl_edits.specs.Inputs.{InputData}
@@ -42,3 +44,19 @@ managers_leading law topo regions fs (suc count) = managers_leading law topo reg
 -- Of all beats that edits leave.
 abbrev pub lead_in_count : Midway → InputData → ℕ
 lead_in_count law now = managers_leading law now.topo (areas_at now.regions) now.fragments (length now.topo.managers)
+
+-- The cycle of the first of these beats that is on a channel and in no lead-in, where others of the capture come before them.
+abbrev pub first_sure : Manager → Beginning → Chan → List Placed → List Placed → Option ℕ
+first_sure m start chan before [] = None
+first_sure m start chan before (p ∷ beats) = if same_chan p.beat.chan chan && not (leads_in m start before p) then Some p.beat.cycle
+    else first_sure m start chan (p ∷ before) beats
+
+-- The manager of a link.
+abbrev pub manager_of : InputData → ℕ → Manager
+manager_of now link =
+    let number : ℕ = (links_of (declared_links now.topo) link).manager in
+    manager_at now.topo number (areas_at now.regions number)
+
+-- The cycle from which on the heads of a link's channel are known, of what edits leave; None where they aren't at any beat.
+abbrev pub heads_known : Midway → InputData → ℕ → Chan → Option ℕ
+heads_known law now link chan = first_sure (manager_of now link) (beginning_of law (manager_of now link)) chan [] (beats_of_all (link ∷ []) now.fragments)

@@ -1,22 +1,32 @@
 //! How many beats of a capture are in lead-ins: they came before the heads of their channel were known.
 
-ghost use Rattle.std.specs.Prelude.{◌≡◌, ◌+◌, List, if◌then◌else◌, IfOk};
+ghost use Rattle.std.specs.Prelude.{◌≡◌, ◌+◌, ◌<◌, ◌&&◌, not, List, [], ◌∷◌, length, if◌then◌else◌, IfOk};
 ghost use Rattle.std.specs.Io.Iter.{u64_saturate};
 ghost use Rattle.std.specs.List.{All, Contains};
+ghost use Rattle.tl_tables.specs.Messages.{same_chan};
 ghost use Rattle.tl_topology.specs.Regions.{Area};
+ghost use Rattle.tl_topology.specs.Topology.{IsSound};
 ghost use Rattle.tl_beats.specs.Beats.{IsWellFormed};
 ghost use Rattle.tl_definitions.specs.Captures.{manager_beats};
 ghost use Rattle.tl_definitions.specs.Managers.{declared_links, manager_at};
 ghost use Rattle.tl_definitions.specs.Positions.{clients_of};
-ghost use Rattle.tl_midway.specs.LeadIns.{leading, lead_in_count};
+ghost use Rattle.tl_definitions.specs.Readings.{in_lead_in};
+ghost use Rattle.tl_definitions.specs.Rules.{Manager};
+ghost use Rattle.tl_midway.specs.LeadIns.{leading, lead_in_count, first_sure, heads_known};
+ghost use Rattle.tl_midway.specs.LinkReadings.{channel_of};
+ghost use Rattle.tl_midway.specs.Midway.{beginning_of};
+ghost use Rattle.tl_midway.specs.Readings.{shown_readings};
 
+use crate::link_readings::LinkReadings;
 use crate::manager_readings::ManagerReadings;
 use crate::midway::Midway;
 use std::alloc::{AllocError, Global};
+use tl_beats::Beat;
 use tl_capture::{Merged, Present};
 use tl_client_rules::clients_of;
 use tl_edits::Inputs;
-use tl_topology::Topo;
+use tl_tables::Chan;
+use tl_topology::{LinkDecl, Topo};
 
 /// One more, where it counts.
 fn one_more(count: u64, counts: bool) -> u64
@@ -79,4 +89,53 @@ pub fn lead_in_beats(alloc: Global, inputs: &Inputs, law: Midway) -> Result<u64,
         count = count.saturating_add(own);
     }
     Ok(count)
+}
+
+/// Whether the next beat of a link, which is this one, is on a channel and in no lead-in.
+fn is_sure(readings: &LinkReadings, chan: Chan, beat: &Beat) -> bool
+    ensures { result ≡ (same_chan beat.now.chan chan && not (in_lead_in (shown_readings (channel_of readings.now beat.now.chan)))) }
+{
+    beat.chan == chan && !readings.in_lead_in(beat.chan)
+}
+
+/// The cycle of the first beat of a walk over a link's beats that is on a channel and in no lead-in.
+fn first_sure<'a>(
+    alloc: Global,
+    number: u16,
+    link: &LinkDecl,
+    chan: Chan,
+    law: Midway,
+    walk: Merged<'a>,
+) -> Result<Option<u64>, AllocError>
+    requires link { IsSound link.now }
+    requires formed { All (λ p. IsWellFormed p.beat) walk }
+    requires linked { All (λ p. Contains (number ∷ []) p.link) walk }
+    ensures { (m : Manager) → m.links number ≡ link.now → IfOk result (λ cycle. cycle ≡ first_sure m (beginning_of law m) chan [] walk.entry) }
+{
+    let by_fields = law.by_fields();
+    let mut readings = LinkReadings::new(alloc, law, number, link)?;
+    for at in walk {
+        if is_sure(&readings, chan, &at.beat) {
+            return Ok(Some(at.beat.cycle));
+        }
+        drop(readings.take(alloc, by_fields, link, &at.beat));
+    }
+    Ok(None)
+}
+
+/// The cycle from which on the heads of a link's channel are known, of what edits leave: that of the channel's first beat that is in
+/// no lead-in. None where it has no such beat. AllocError where memory is refused.
+pub fn heads_known(
+    alloc: Global,
+    inputs: &Inputs,
+    link: u16,
+    chan: Chan,
+    law: Midway,
+) -> Result<Option<u64>, AllocError>
+    requires { link < length inputs.now.topo.links }
+    ensures { IfOk result (λ cycle. cycle ≡ heads_known law inputs.now link chan) }
+{
+    let decl = inputs.topo().link(link).unwrap();
+    let walk = inputs.present().walk(alloc, &[link])?;
+    first_sure(alloc, link, decl, chan, law, walk)
 }

@@ -1,7 +1,8 @@
--- How many beats of a capture are in lead-ins: by what the capture has before each, two readings of its channel differ in how
--- many beats are missing. So it isn't certain where the channel's next message begins.
-use Rattle.std.specs.Prelude.{ℕ, zero, suc, ◌+◌, ◌&&◌, not, Bool, List, [], ◌∷◌, length, Option, Some, None, if◌then◌else◌}
+-- Lead-ins of a capture: how many beats are in them, and where they end. By what the capture has before a beat of a lead-in, two
+-- readings of its channel differ in how many beats are missing. So it isn't certain where the channel's next message begins.
+use Rattle.std.specs.Prelude.{ℕ, zero, suc, ◌+◌, ◌&&◌, not, Bool, List, [], ◌∷◌, ◌++◌, length, map, Option, Some, None, if◌then◌else◌}
 use Rattle.tl_tables.specs.declared.Chan.{Chan}
+use Rattle.tl_tables.specs.declared.Chan.TheVariants as chan
 use Rattle.tl_tables.specs.Messages.{same_chan}
 use Rattle.tl_topology.specs.Regions.{Area}
 use Rattle.tl_topology.specs.Topology.{Topology}
@@ -16,6 +17,7 @@ use Rattle.tl_definitions.specs.Rules.{Manager}
 use Rattle.tl_edits.specs.Inputs.{InputData}
 use Rattle.tl_check.specs.Captured.{areas_at}
 use Rattle.tl_midway.specs.Midway.{beginning_of}
+use Rattle.tl_midway.specs.declared.lead_ins.HeadsKnown.{HeadsKnown}
 use Rattle.tl_midway.specs.declared.midway.Midway.{Midway}
 
 -- A beat of a manager that stands after these is in its channel's lead-in.
@@ -58,5 +60,18 @@ manager_of now link =
     manager_at now.topo number (areas_at now.regions number)
 
 -- The cycle from which on the heads of a link's channel are known, of what edits leave; None where they aren't at any beat.
-abbrev pub heads_known : Midway → InputData → ℕ → Chan → Option ℕ
-heads_known law now link chan = first_sure (manager_of now link) (beginning_of law (manager_of now link)) chan [] (beats_of_all (link ∷ []) now.fragments)
+abbrev pub known_from : Midway → InputData → ℕ → Chan → Option ℕ
+known_from law now link chan = first_sure (manager_of now link) (beginning_of law (manager_of now link)) chan [] (beats_of_all (link ∷ []) now.fragments)
+
+-- With its link and its channel.
+abbrev pub channel_heads : Midway → InputData → ℕ → Chan → HeadsKnown
+channel_heads law now link chan = record { link = link; chan = chan; cycle = known_from law now link chan }
+
+-- Of each channel of the first so many links, from A to E.
+abbrev pub links_heads : Midway → InputData → ℕ → List HeadsKnown
+links_heads law now zero = []
+links_heads law now (suc count) = links_heads law now count ++ map (channel_heads law now count) (chan.A ∷ chan.B ∷ chan.C ∷ chan.D ∷ chan.E ∷ [])
+
+-- Of all links.
+abbrev pub all_heads : Midway → InputData → List HeadsKnown
+all_heads law now = links_heads law now (length now.topo.links)

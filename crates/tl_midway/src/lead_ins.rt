@@ -1,6 +1,6 @@
-//! How many beats of a capture are in lead-ins: they came before the heads of their channel were known.
+//! Lead-ins: how many beats of a capture came before the heads of their channel were known, and from which cycle on these are.
 
-ghost use Rattle.std.specs.Prelude.{◌≡◌, ◌+◌, ◌<◌, ◌&&◌, not, List, [], ◌∷◌, length, if◌then◌else◌, IfOk};
+ghost use Rattle.std.specs.Prelude.{◌≡◌, ◌+◌, ◌<◌, ◌&&◌, not, List, [], ◌∷◌, length, map, if◌then◌else◌, IfOk};
 ghost use Rattle.std.specs.Io.Iter.{u64_saturate};
 ghost use Rattle.std.specs.List.{All, Contains};
 ghost use Rattle.tl_tables.specs.Messages.{same_chan};
@@ -12,7 +12,7 @@ ghost use Rattle.tl_definitions.specs.Managers.{declared_links, manager_at};
 ghost use Rattle.tl_definitions.specs.Positions.{clients_of};
 ghost use Rattle.tl_definitions.specs.Readings.{in_lead_in};
 ghost use Rattle.tl_definitions.specs.Rules.{Manager};
-ghost use Rattle.tl_midway.specs.LeadIns.{leading, lead_in_count, first_sure, heads_known};
+ghost use Rattle.tl_midway.specs.LeadIns.{leading, lead_in_count, first_sure, known_from, channel_heads, all_heads};
 ghost use Rattle.tl_midway.specs.LinkReadings.{channel_of};
 ghost use Rattle.tl_midway.specs.Midway.{beginning_of};
 ghost use Rattle.tl_midway.specs.Readings.{shown_readings};
@@ -27,6 +27,17 @@ use tl_client_rules::clients_of;
 use tl_edits::Inputs;
 use tl_tables::Chan;
 use tl_topology::{LinkDecl, Topo};
+
+/// From which cycle on the heads of a link's channel are known.
+#[derive(Clone, Copy, Debug, PartialEq, Eq)]
+pub struct HeadsKnown {
+    /// The link's number in its topology.
+    pub link: u16,
+    /// The channel.
+    pub chan: Chan,
+    /// The cycle of its first beat that is in no lead-in; None where it has no such beat.
+    pub cycle: Option<u64>,
+}
 
 /// One more, where it counts.
 fn one_more(count: u64, counts: bool) -> u64
@@ -123,9 +134,8 @@ fn first_sure<'a>(
     Ok(None)
 }
 
-/// The cycle from which on the heads of a link's channel are known, of what edits leave: that of the channel's first beat that is in
-/// no lead-in. None where it has no such beat. AllocError where memory is refused.
-pub fn heads_known(
+/// The cycle of the first beat of a link's channel that is in no lead-in.
+fn known_from(
     alloc: Global,
     inputs: &Inputs,
     link: u16,
@@ -133,9 +143,50 @@ pub fn heads_known(
     law: Midway,
 ) -> Result<Option<u64>, AllocError>
     requires { link < length inputs.now.topo.links }
-    ensures { IfOk result (λ cycle. cycle ≡ heads_known law inputs.now link chan) }
+    ensures { IfOk result (λ cycle. cycle ≡ known_from law inputs.now link chan) }
 {
     let decl = inputs.topo().link(link).unwrap();
     let walk = inputs.present().walk(alloc, &[link])?;
     first_sure(alloc, link, decl, chan, law, walk)
+}
+
+/// The cycles of the first beats of these channels of a link that are in no lead-in.
+fn link_heads(
+    alloc: Global,
+    inputs: &Inputs,
+    link: u16,
+    chans: &[Chan],
+    law: Midway,
+) -> Result<Vec<HeadsKnown>, AllocError>
+    requires { link < length inputs.now.topo.links }
+    ensures { IfOk result (λ heads. heads.items ≡ map (channel_heads law inputs.now link) chans.now) }
+{
+    let mut heads = Vec::new(alloc);
+    for chan in chans {
+        let cycle = known_from(alloc, inputs, link, *chan, law)?;
+        heads.push(HeadsKnown {
+            link,
+            chan: *chan,
+            cycle,
+        })?;
+    }
+    Ok(heads)
+}
+
+/// From which cycle on the heads of each channel are known, of what edits leave: of the links in the order of their numbers, and of
+/// each from A to E. AllocError where memory is refused.
+pub fn heads_known(
+    alloc: Global,
+    inputs: &Inputs,
+    law: Midway,
+) -> Result<Vec<HeadsKnown>, AllocError>
+    ensures { IfOk result (λ heads. heads.items ≡ all_heads law inputs.now) }
+{
+    let chans = [Chan::A, Chan::B, Chan::C, Chan::D, Chan::E];
+    let mut heads = Vec::new(alloc);
+    for link in 0..inputs.topo().link_count() {
+        let own = link_heads(alloc, inputs, link as u16, &chans, law)?;
+        heads.extend_from_slice(&own)?;
+    }
+    Ok(heads)
 }

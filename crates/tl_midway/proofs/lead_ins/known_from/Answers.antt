@@ -8,7 +8,7 @@ use Rattle.tl_definitions.specs.Rules.{Manager}
 use Rattle.tl_midway.specs.LeadIns.{first_sure, manager_of}
 use Rattle.tl_midway.specs.Midway.{beginning_of}
 use Rattle.tl_midway.proofs.PlaceLaws.{declared}
-use Rattle.tl_midway.proofs.lead_ins.heads_known.Goals as goal
+use Rattle.tl_midway.proofs.lead_ins.known_from.Goals as goal
 
 pub walk-requires : goal.walk-requires
 unfolding IsStrictlySortedBy

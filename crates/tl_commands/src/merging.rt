@@ -54,7 +54,7 @@ fn path_at(paths: &[String], place: usize) -> &str {
 }
 
 /// What a link is called.
-fn link_name(topo: &Topo, link: u16) -> &str {
+pub(crate) fn link_name(topo: &Topo, link: u16) -> &str {
     match topo.link(link) {
         Some(decl) => decl.name.as_str(),
         None => "",

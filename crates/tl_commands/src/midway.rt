@@ -1,8 +1,12 @@
 //! What is told of rows of a capture from the middle of a run.
 
+use crate::merging::link_name;
 use std::alloc::{AllocError, Global};
 use tl_edits::Inputs;
-use tl_midway::{Midway, lead_in_beats};
+use tl_midway::{HeadsKnown, Midway, heads_known, lead_in_beats};
+use tl_rows::chan_text;
+use tl_tables::Chan;
+use tl_topology::Topo;
 
 /// The law by which rows stand, as a line.
 fn law_line(law: Midway) -> &'static str {
@@ -53,4 +57,46 @@ pub(crate) fn push_midway(
         Some(law) => push_law(alloc, inputs, law, notes),
         None => Ok(()),
     }
+}
+
+/// From which cycle on the heads of a channel are known.
+fn heads_part(alloc: Global, heads: &HeadsKnown) -> Result<String, AllocError> {
+    let chan = chan_text(heads.chan);
+    match heads.cycle {
+        Some(cycle) => format!(in alloc; " {chan} from cycle {cycle}"),
+        None => format!(in alloc; " {chan} never"),
+    }
+}
+
+/// Puts a channel after those of its link that come before it, of which A is the first and E the last.
+fn push_heads(
+    alloc: Global,
+    topo: &Topo,
+    heads: &HeadsKnown,
+    text: &mut String,
+) -> Result<(), AllocError> {
+    if heads.chan == Chan::A {
+        text.push_str("  ")?;
+        text.push_str(link_name(topo, heads.link))?;
+        text.push_str(": heads known on")?;
+    }
+    text.push_str(&heads_part(alloc, heads)?)?;
+    text.push_str(if heads.chan == Chan::E { "\n" } else { "," })
+}
+
+/// From which cycle on the heads of each channel are known, a line for each link; nothing where the capture is a whole run's.
+pub(crate) fn heads_text(
+    alloc: Global,
+    inputs: &Inputs,
+    midway: Option<Midway>,
+) -> Result<String, AllocError> {
+    let mut text = String::new(alloc);
+    let Some(law) = midway else {
+        return Ok(text);
+    };
+    let found = heads_known(alloc, inputs, law)?;
+    for heads in &found {
+        push_heads(alloc, inputs.topo(), heads, &mut text)?;
+    }
+    Ok(text)
 }

@@ -4,7 +4,7 @@ ghost use Rattle.std.specs.Prelude.{◌<◌, ◌≤◌, ◌^◌, IfOk, length};
 ghost use Rattle.std.specs.List.{All};
 
 use crate::fault::Fault;
-use crate::midway::push_midway;
+use crate::midway::{heads_text, push_midway};
 use crate::pasts::inputs_left;
 use std::alloc::{AllocError, AllocFailed, Global};
 use std::fs;
@@ -282,12 +282,24 @@ fn summary_left(
     report_summary(alloc, inputs, &left)
 }
 
+/// The summary of those of these rows that are wanted; of a capture from the middle of a run it tells where heads are known, too.
+fn summed(
+    alloc: Global,
+    inputs: &Inputs,
+    order: &Order<'_>,
+    rows: &[Row],
+) -> Result<String, AllocError> {
+    let mut summary = summary_left(alloc, inputs, &order.pick, rows)?;
+    summary.push_str(&heads_text(alloc, inputs, order.midway)?)?;
+    Ok(summary)
+}
+
 /// The summary of those of these rows that are wanted, if it is told; None where memory is refused.
 fn summary_of(alloc: Global, inputs: &Inputs, order: &Order<'_>, rows: &[Row]) -> Option<String> {
     if !order.summary {
         return None;
     }
-    match summary_left(alloc, inputs, &order.pick, rows) {
+    match summed(alloc, inputs, order, rows) {
         Ok(summary) => Some(summary),
         Err(_) => None,
     }

@@ -8,6 +8,9 @@ use tl_rows::chan_text;
 use tl_tables::Chan;
 use tl_topology::Topo;
 
+/// How many channels a link has.
+const CHANNELS: usize = 5;
+
 /// The law by which rows stand, as a line.
 fn law_line(law: Midway) -> &'static str {
     match law {
@@ -59,29 +62,32 @@ pub(crate) fn push_midway(
     }
 }
 
-/// From which cycle on the heads of a channel are known.
-fn heads_part(alloc: Global, heads: &HeadsKnown) -> Result<String, AllocError> {
-    let chan = chan_text(heads.chan);
-    match heads.cycle {
-        Some(cycle) => format!(in alloc; " {chan} from cycle {cycle}"),
-        None => format!(in alloc; " {chan} never"),
+/// Puts the channel of a link whose heads are known from a cycle on after those before it.
+fn push_known(alloc: Global, chan: Chan, cycle: u64, known: &mut String) -> Result<(), AllocError> {
+    let chan = chan_text(chan);
+    if !known.is_empty() {
+        known.push_str(", ")?;
     }
+    known.push_str(&format!(in alloc; "{chan} from cycle {cycle}")?)
 }
 
-/// Puts a channel after those of its link that come before it, of which A is the first and E the last.
-fn push_heads(
-    alloc: Global,
-    topo: &Topo,
-    heads: &HeadsKnown,
-    text: &mut String,
-) -> Result<(), AllocError> {
-    if heads.chan == Chan::A {
-        text.push_str("  ")?;
-        text.push_str(link_name(topo, heads.link))?;
-        text.push_str(": heads known on")?;
+/// From which cycle on the heads of each channel of a link are known, as a line; a channel without such a beat is left out.
+fn link_heads(alloc: Global, topo: &Topo, own: &[HeadsKnown]) -> Result<String, AllocError> {
+    let name = match own.first() {
+        Some(heads) => link_name(topo, heads.link),
+        None => "",
+    };
+    let mut known = String::new(alloc);
+    for heads in own {
+        if let Some(cycle) = heads.cycle {
+            push_known(alloc, heads.chan, cycle, &mut known)?;
+        }
     }
-    text.push_str(&heads_part(alloc, heads)?)?;
-    text.push_str(if heads.chan == Chan::E { "\n" } else { "," })
+    if known.is_empty() {
+        format!(in alloc; "  {name}: no heads known\n")
+    } else {
+        format!(in alloc; "  {name}: heads known on {known}\n")
+    }
 }
 
 /// From which cycle on the heads of each channel are known, a line for each link; nothing where the capture is a whole run's.
@@ -95,8 +101,8 @@ pub(crate) fn heads_text(
         return Ok(text);
     };
     let found = heads_known(alloc, inputs, law)?;
-    for heads in &found {
-        push_heads(alloc, inputs.topo(), heads, &mut text)?;
+    for own in found.chunks(CHANNELS) {
+        text.push_str(&link_heads(alloc, inputs.topo(), own)?)?;
     }
     Ok(text)
 }

@@ -6,7 +6,7 @@ _tlcheck() {
     *:once) words='--workers --manager --show --explain-faults --summary --deny --format --rule --link --from --to --waive --midway --help' ;;
     *:run) words='--workers --show --explain-faults --summary --deny --help' ;;
     *:audit) words='--workers --show --explain-faults --summary --deny --format --rule --link --from --to --waive --midway --help' ;;
-    *:stream) words='--workers --setup --manager --show --explain-faults --help' ;;
+    *:stream) words='--workers --setup --manager --show --explain-faults --midway --help' ;;
     *:merge) words='--explain-faults --help' ;;
     *:doctor) words='--explain-faults --help' ;;
     *:view) words='--row --out --explain-faults --help' ;;

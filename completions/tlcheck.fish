@@ -48,6 +48,7 @@ complete -c tlcheck -n '__fish_seen_subcommand_from stream' -r -l setup -d 'Carr
 complete -c tlcheck -n '__fish_seen_subcommand_from stream' -x -l manager -d 'Checks only the links of this manager, or of one of several, and passes over the fragments of others'
 complete -c tlcheck -n '__fish_seen_subcommand_from stream' -l show -d 'Puts after each row its beat in words and the earlier beat that makes it so'
 complete -c tlcheck -n '__fish_seen_subcommand_from stream' -l explain-faults -d 'Says on standard error what is wrong in a file and what would be right, as at a terminal'
+complete -c tlcheck -n '__fish_seen_subcommand_from stream' -l midway -d 'Writes only rows that stand whatever came before a capture from the middle of a run (any, the default), or if no burst that it cuts breaks U1 (bursts), or if it begins each channel with the head of a message (heads)'
 complete -c tlcheck -n '__fish_seen_subcommand_from stream' -s h -l help -d 'Print help'
 complete -c tlcheck -n '__fish_seen_subcommand_from merge' -l explain-faults -d 'Says on standard error what is wrong in a file and what would be right, as at a terminal'
 complete -c tlcheck -n '__fish_seen_subcommand_from merge' -s h -l help -d 'Print help'

@@ -12,7 +12,7 @@ use tl_topology::Topo;
 const CHANNELS: usize = 5;
 
 /// The law by which rows stand, as a line.
-fn law_line(law: Midway) -> &'static str {
+pub(crate) fn law_line(law: Midway) -> &'static str {
     match law {
         Midway::Any => "tlcheck: each row stands whatever lawful beats came before the capture\n",
         Midway::Bursts => {

@@ -5,6 +5,7 @@ ghost use Rattle.std.specs.Prelude.{◌≡◌, ◌<◌, ◌^◌, OnOk};
 use crate::chain::Chain;
 use crate::fault::Fault;
 use crate::files::topology_of;
+use crate::midway::law_line;
 use crate::paths::files_of;
 use crate::reports::{Ending, ending_without, report_of};
 use crate::setup::{Setup, setup_of};
@@ -18,7 +19,7 @@ use tl_options::StreamOptions;
 use tl_show::ShownStream;
 use tl_stream::{
     Listener, Parsers, PlainRows, RowForm, Share, Source, Stream, StreamStop, TellFault, Teller,
-    stream_end, stream_input, stream_sources,
+    stream_end, stream_input, stream_sources, tell_line,
 };
 use tl_text::{ByteIn, ByteOut, CountedReader, write_all};
 
@@ -149,8 +150,8 @@ struct Streams<'a> {
 
 /// Streams the fragments of files, or of standard input where none is named or `-` alone, and writes each row once it is certain. A
 /// word is one input: its file, or the files of a folder or of a list one after another. Where managers are named, the fragments of
-/// other known links are passed over. With workers, so many threads parse fragments beside this one. `err` hears of each fragment. The
-/// fault of the topology, of the setup, or of the first file of an input that can't be opened; want of memory, or a write that fails.
+/// other known links are passed over. With workers, so many threads parse fragments beside this one. `err` hears of each fragment, and
+/// first of the law by which rows stand, where the capture begins in the middle of a run. The fault of the topology, of the setup, or of the first file of an input that can't be opened; want of memory, or a write that fails.
 pub fn stream_of_files<
     R: Files + Threads + Sync + AllocGlobal + Clone + Drop,
     I: ByteIn,
@@ -186,13 +187,16 @@ pub fn stream_of_files<
         refused: refused.as_str(),
         told: settlements.as_str(),
     };
+    if let Some(law) = options.midway {
+        tell_line(law_line(law), err);
+    }
     if options.show {
         let mut form = ShownStream::new(alloc, &topo)?;
-        let stream = Stream::new(alloc, topo, regions)?;
+        let stream = Stream::new(alloc, topo, regions, options.midway)?;
         let teller = teller_of(alloc, stream, share, &watches, &mut form)?;
         stream_in_form(rt, teller, streams, input, out, err)
     } else {
-        let stream = Stream::new(alloc, topo, regions)?;
+        let stream = Stream::new(alloc, topo, regions, options.midway)?;
         let mut form = PlainRows;
         let teller = teller_of(alloc, stream, share, &watches, &mut form)?;
         stream_in_form(rt, teller, streams, input, out, err)

@@ -38,3 +38,10 @@ WhereServed state number decl areas Holds = (m : Manager) (start : Beginning) (b
 -- The state stands for no beats of the manager, whose capture begins as the law says.
 abbrev pub IsNew : Midway → Manager → MidwayState → Type 0
 IsNew law m state = StandsFor m (beginning_of law m) state []
+
+-- The state is one of the manager: it stands for some of its beats, whatever the beginning.
+pub record IsOf (m : Manager) (state : MidwayState) : Type 0 where
+  pub known : IsKnown state
+  pub start : Beginning
+  pub before : List Placed
+  pub stands : StandsFor m start state before

@@ -35,4 +35,4 @@ pub use report::midway_report;
 pub use seen::Seen;
 pub use standing::Standing;
 pub use state::MidwayState;
-pub use walked::midway_rows;
+pub use walked::{midway_rows, walk_on};

@@ -6,7 +6,8 @@ ghost use Rattle.tl_topology.specs.Regions.{areas_of};
 ghost use Rattle.tl_beats.specs.Beats.{IsWellFormed};
 ghost use Rattle.tl_definitions.specs.Managers.{declared_links, manager_at};
 ghost use Rattle.tl_definitions.specs.Positions.{clients_of};
-ghost use Rattle.tl_midway.specs.Walked.{rows_by, AreCertain};
+ghost use Rattle.tl_midway.specs.State.{IsOf};
+ghost use Rattle.tl_midway.specs.Walked.{rows_by, AreCertain, GoesOn};
 
 use crate::midway::Midway;
 use crate::state::MidwayState;
@@ -14,6 +15,30 @@ use std::alloc::{AllocError, Global};
 use tl_beats::Row;
 use tl_capture::Merged;
 use tl_topology::{RegionMap, Topo};
+
+/// Judges the beats of a manager of a topology that a walk has left with these regions, from a state of the manager's links. Answers the
+/// rows that they have whatever came before the capture, in the order of positions, and the state goes on after the beats. AllocError
+/// where memory is refused: then the state is for nothing more.
+pub fn walk_on<'a>(
+    alloc: Global,
+    topo: &Topo,
+    manager: u16,
+    regions: &RegionMap,
+    walk: Merged<'a>,
+    state: &mut MidwayState,
+) -> Result<Vec<Row>, AllocError>
+    requires formed { All (λ p. IsWellFormed p.beat) walk }
+    requires linked { All (λ p. Contains (clients_of manager (declared_links topo.now)) p.link) walk }
+    requires state { IsOf (manager_at topo.now manager (areas_of regions.now)) state.old }
+    ensures { IfOk result (λ rows. GoesOn (manager_at topo.now manager (areas_of regions.now)) state.old walk.entry state.new rows.items) }
+{
+    let mut rows = Vec::new(alloc);
+    for at in walk {
+        let link = topo.link(at.link).unwrap();
+        state.step(alloc, link, regions, &at, &mut rows)?;
+    }
+    Ok(rows)
+}
 
 /// The rows of the beats of a manager with these regions that a walk gives, where its capture begins in the middle of a run: those that
 /// it has whatever came before, by the law that is asked for. They stand in the order of positions. AllocError where memory is
@@ -32,10 +57,6 @@ pub fn midway_rows<'a>(
     ensures certain { IfOk result (λ rows. AreCertain law (manager_at topo.now manager (areas_of regions.now)) walk.entry rows.items) }
 {
     let mut state = MidwayState::new(alloc, topo, manager, law)?;
-    let mut rows = Vec::new(alloc);
-    for at in walk {
-        let link = topo.link(at.link).unwrap();
-        state.step(alloc, link, regions, &at, &mut rows)?;
-    }
+    let rows = walk_on(alloc, topo, manager, regions, walk, &mut state)?;
     Ok(rows)
 }

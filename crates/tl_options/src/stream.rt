@@ -1,12 +1,14 @@
 //! The words of `stream`.
 
 use crate::capture::managers;
+use crate::midway::{midway_asked, midway_option};
 use crate::usage::{Draft, setting};
 use crate::words::{
     Command, described, explain_faults, paths_asked, show, topology, workers, workers_of,
 };
 use clap::{Arg, ArgAction, ArgMatches, Error};
 use std::alloc::Global;
+use tl_midway::Midway;
 
 /// What is streamed, and how.
 #[derive(Drop)]
@@ -17,6 +19,8 @@ pub struct StreamOptions<'a> {
     pub managers: Vec<&'a str>,
     /// The path of a script of regions and monitors that stand before the first beat.
     pub setup: Option<&'a str>,
+    /// How the capture begins, where it begins in the middle of a run.
+    pub midway: Option<Midway>,
     /// Whether rows are shown.
     pub show: bool,
     /// Whether faults are told in sentences.
@@ -62,6 +66,7 @@ pub(crate) fn stream<'a>(alloc: Global) -> Draft<'a> {
         .arg(managers(alloc))
         .arg(show(alloc))
         .arg(explain_faults(alloc))
+        .arg(midway_option(alloc))
 }
 
 /// What its words ask for.
@@ -75,6 +80,7 @@ pub(crate) fn stream_asked<'a>(
             inputs: paths_asked(alloc, found, "FILE")?,
             managers: paths_asked(alloc, found, "manager")?,
             setup: found.get_str("setup"),
+            midway: midway_asked(found),
             show: found.get_flag("show"),
             explain_faults: found.get_flag("explain-faults"),
             workers: workers_of(found),

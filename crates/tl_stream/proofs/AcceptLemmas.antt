@@ -18,7 +18,6 @@ use Rattle.tl_definitions.specs.Positions.{Recorded, clients_of}
 use Rattle.tl_client_rules.proofs.DeclaredLaws.{declared_is_client}
 use Rattle.tl_capture.specs.Present.{recorded, numbered, overlapped, put_in, IsCapture, IsPresent}
 use Rattle.tl_capture.proofs.TouchLemmas.{put_here}
-use Rattle.tl_check.specs.declared.state.SpanState.{SpanState}
 use Rattle.tl_stream.specs.Courses.{HasCome, Advances, AreNewRows}
 use Rattle.tl_stream.specs.Fronts.{front_at, refusal_of, has_reached, past, is_complete, IsFrontOf}
 use Rattle.tl_stream.specs.Streams.{StreamData, HasAccepted, Accepts, Refuses, IsCause, IsOn, areas_in, course_at, told_by}
@@ -27,6 +26,7 @@ use Rattle.tl_stream.specs.declared.course.Course.{Course}
 use Rattle.tl_stream.specs.declared.fault.StreamFault.{StreamFault}
 use Rattle.tl_stream.specs.declared.fault.StreamFault.TheVariants as fault
 use Rattle.tl_stream.specs.declared.front.Front.{Front}
+use Rattle.tl_stream.specs.declared.past.Past.{Past}
 use Rattle.tl_stream.proofs.FrontLemmas.{IsNewer, newest_is, front_elsewhere, complete_is_reached}
 use Rattle.tl_stream.proofs.StreamLemmas.{HasSet, newer_is, cause_is, is_absent, is_free, has_come, accepted_in, accepts_it, own_rows, still_present}
 use Rattle.tl_stream.proofs.LawLemmas.{telling_is_whole, whole_linked}
@@ -45,11 +45,11 @@ get_other xs i j v ne =
           slice_get_past (set xs i v) j (simp length-set (omega arith)) ∙ sym (slice_get_past xs j past)
     ] refl
 
-pub has_state : (o : Option SpanState) → is_none o ≡ false → (s : SpanState) × (o ≡ Some s)
+pub has_state : (o : Option Past) → is_none o ≡ false → (s : Past) × (o ≡ Some s)
 has_state None h = cc
 has_state (Some s) h = (s, refl)
 
-pub some_state : (o : Option SpanState) → is_some o ≡ true → (s : SpanState) × (o ≡ Some s)
+pub some_state : (o : Option Past) → is_some o ≡ true → (s : Past) × (o ≡ Some s)
 some_state None h = cc
 some_state (Some s) h = (s, refl)
 
@@ -129,7 +129,7 @@ module _ (old : StreamData) (link : ℕ) (f : Frag) (decl : LinkDecl) (course : 
   module _ (after : Course) (waiting : List Recorded)
       (advanced : Advances old.topo (areas_in old course.manager) (put_in (recorded link f) fs) course (put_in (recorded link f) old.waiting) after waiting) where
     abbrev pub with_it : StreamData
-    with_it = record { topo = old.topo; regions = old.regions; fronts = set old.fronts link (Some front); waiting = waiting; courses = set old.courses decl.manager after }
+    with_it = record { topo = old.topo; regions = old.regions; midway = old.midway; fronts = set old.fronts link (Some front); waiting = waiting; courses = set old.courses decl.manager after }
 
     its_place : decl.manager < length old.courses
     its_place = slice_get_within old.courses decl.manager course at
@@ -146,24 +146,24 @@ module _ (old : StreamData) (link : ℕ) (f : Frag) (decl : LinkDecl) (course : 
         some_is one two e = cc
 
     pub accepted : HasAccepted (put_in (recorded link f) fs) with_it
-    accepted = accepted_in old fs has link decl.manager f named on own short newer course at with_it after refl refl fronts_come (length-set old.fronts link (Some front)) (length-set old.courses decl.manager after)
+    accepted = accepted_in old fs has link decl.manager f named on own short newer course at with_it after refl refl refl fronts_come (length-set old.fronts link (Some front)) (length-set old.courses decl.manager after)
         its_courses advanced.present advanced
 
     -- What it tells.
-    pub accepts : (rows : List Row) (state : SpanState) → course.state ≡ Some state → AreNewRows old.topo (areas_in old course.manager) (put_in (recorded link f) fs) course rows → Accepts fs old f with_it rows
-    accepts rows state here found = accepts_it old fs has link decl.manager f named on own short newer course at with_it after refl refl fronts_come (length-set old.fronts link (Some front)) (length-set old.courses decl.manager after)
+    pub accepts : (rows : List Row) (state : Past) → course.state ≡ Some state → AreNewRows old.topo (areas_in old course.manager) (put_in (recorded link f) fs) course rows → Accepts fs old f with_it rows
+    accepts rows state here found = accepts_it old fs has link decl.manager f named on own short newer course at with_it after refl refl refl fronts_come (length-set old.fronts link (Some front)) (length-set old.courses decl.manager after)
         its_courses advanced.present advanced rows state here found
 
     -- Its rows are of links of the topology.
-    pub linked : (rows : List Row) (state : SpanState) → course.state ≡ Some state → AreNewRows old.topo (areas_in old course.manager) (put_in (recorded link f) fs) course rows → All (λ row. row.link < length old.topo.links) rows
+    pub linked : (rows : List Row) (state : Past) → course.state ≡ Some state → AreNewRows old.topo (areas_in old course.manager) (put_in (recorded link f) fs) course rows → All (λ row. row.link < length old.topo.links) rows
     linked rows state here found k d below =
         let come : List Recorded = put_in (recorded link f) fs in
         let row : Row = get_or rows k d in
-        let now : Contains (told_by old come decl.manager) row = subst (λ rs. Contains rs row) (sym (own_rows old fs has link decl.manager f named on own short newer course at with_it after refl refl fronts_come
+        let now : Contains (told_by old come decl.manager) row = subst (λ rs. Contains rs row) (sym (own_rows old fs has link decl.manager f named on own short newer course at with_it after refl refl refl fronts_come
         (length-set old.fronts link (Some front)) (length-set old.courses decl.manager after) its_courses advanced.present advanced rows state here found)) (Contains-append_right (told_by old fs decl.manager) rows row (Contains-get_or rows k d below)) in
-        whole_linked old.topo (areas_in old) come decl.manager row (still_present old fs has link decl.manager f named on own short newer course at)
-        (subst (λ rs. Contains rs row) (telling_is_whole old.topo (areas_in old) come decl.manager (still_present old fs has link decl.manager f named on own short newer course at))
-        (Contains-append_left (told_by old come decl.manager) (untold old.topo (areas_in old) come decl.manager) row now))
+        whole_linked old.midway old.topo (areas_in old) come decl.manager row (still_present old fs has link decl.manager f named on own short newer course at)
+        (subst (λ rs. Contains rs row) (telling_is_whole old.midway old.topo (areas_in old) come decl.manager (still_present old fs has link decl.manager f named on own short newer course at))
+        (Contains-append_left (told_by old come decl.manager) (untold old.topo (areas_in old) come decl.manager old.midway) row now))
 
 -- ---- what is complete
 

@@ -1,33 +1,43 @@
 -- Beats before a cycle and after it, and their rows.
-use Rattle.std.proofs.Common.{◌≡◌, ℕ, ◌+◌, ◌<◌, ◌≤◌, ◌^◌, inl, inr, Bool, true, false, ◌&&◌, ◌||◌, List, [], ◌∷◌, ◌++◌, refl, sym, ap, ◌∙◌, arith, append_assoc}
+use Rattle.std.proofs.Common.{◌≡◌, ℕ, ◌+◌, ◌<◌, ◌≤◌, ◌^◌, inl, inr, Bool, true, false, ◌&&◌, ◌||◌, List, [], ◌∷◌, ◌++◌, Option, Some, None, refl, sym, ap, subst, ◌∙◌, arith, append_assoc}
 use Rattle.std.specs.Prelude.{filter, map, reverse, nat_lt, nat_le}
 use Rattle.std.specs.List.{Contains}
 use Rattle.std.specs.List.Sorted.{IsStrictlySortedBy}
+use Rattle.std.specs.Ordering.{nat_cmp}
 use Rattle.std.proofs.lemmas.Bool.Decides.{nat_tests}
 use Rattle.std.proofs.lemmas.List.Elements.{All-contains, Contains-append_left, Contains-append_right, Contains-append_cases}
 use Rattle.std.proofs.lemmas.List.Kept.{IsStrictlySortedBy-filter}
 use Rattle.tl_beats.specs.declared.Beat.{Beat}
 use Rattle.tl_beats.specs.declared.Placed.{Placed}
 use Rattle.tl_beats.specs.declared.Row.{Row}
-use Rattle.tl_definitions.specs.Breaks.{row_of, rules_at, rows_after, rows_in}
+use Rattle.tl_definitions.specs.Breaks as breaks
+use Rattle.tl_definitions.specs.Breaks.{row_of, rules_at}
 use Rattle.tl_definitions.specs.Judging.{snapshot, judging}
+use Rattle.tl_definitions.specs.Known.{Beginning}
 use Rattle.tl_definitions.specs.Passes.{rows_judged, left_after}
 use Rattle.tl_definitions.specs.Positions.{Recorded, position_order, beats_of_all}
+use Rattle.tl_definitions.specs.Printed.{printed_rules, printed_after}
 use Rattle.tl_definitions.specs.Rules.{Manager}
 use Rattle.tl_definitions.proofs.JudgingLaws.{next_snapshot, all_exact}
-use Rattle.tl_definitions.proofs.Lists.{contains_kept, kept_from, onto, onto_reverse}
+use Rattle.tl_definitions.proofs.Lists.{contains_none, contains_here, contains_there, contains_kept, kept_from, mapped_from, onto, onto_reverse}
 use Rattle.tl_definitions.proofs.PositionLaws.{beats_are_in_order, position_total, positions_are_ordered}
-use Rattle.tl_definitions.proofs.ReportLaws.{strict_one}
+use Rattle.tl_definitions.proofs.ReportLaws.{strict_one, rows_are_breaks}
 use Rattle.tl_definitions.proofs.RisingLaws.{strict_both}
 use Rattle.tl_capture.specs.Present.{IsCapture, IsPresent}
 use Rattle.tl_capture.specs.Windows.{is_within, beats_within}
 use Rattle.tl_capture.proofs.GatherLemmas.{link_of_any}
 use Rattle.tl_capture.proofs.LawLemmas.{formed_of_all}
 use Rattle.tl_capture.proofs.PresentLemmas.{ranges_of, beats_rise, placed_is_of}
-use Rattle.tl_check.specs.Jobs.{GoesOn}
-use Rattle.tl_check.specs.States.{StandsFor}
+use Rattle.tl_check.specs.Jobs as jobs
 use Rattle.tl_check.specs.declared.state.SpanState.{SpanState}
+use Rattle.tl_midway.specs.Midway.{beginning_of}
+use Rattle.tl_midway.specs.Walked as walked
+use Rattle.tl_midway.specs.declared.midway.Midway.{Midway}
+use Rattle.tl_midway.specs.declared.state.MidwayState.{MidwayState}
 use Rattle.tl_stream.specs.Courses.{beats_before}
+use Rattle.tl_stream.specs.Pasts.{IsOf, StandsFor, GoesOn, rows_after, rows_in}
+use Rattle.tl_stream.specs.declared.past.Past.{Past}
+use Rattle.tl_stream.specs.declared.past.Past.TheVariants as past
 
 -- ---- beats in order
 
@@ -115,34 +125,98 @@ before_both from to ps strict order = parted (λ p. nat_lt p.beat.cycle from) (i
 
 -- ---- rows
 
-pub rows_both : (m : Manager) (before xs ys : List Placed) → rows_after m before (xs ++ ys) ≡ rows_after m before xs ++ rows_after m (onto before xs) ys
-rows_both m before [] ys = refl
-rows_both m before (p ∷ xs) ys =
-    ap (λ rows. map (row_of p) (rules_at m before p) ++ rows) (rows_both m (p ∷ before) xs ys)
-    ∙ sym (append_assoc (map (row_of p) (rules_at m before p)) (rows_after m (p ∷ before) xs) (rows_after m (onto (p ∷ before) xs) ys))
+whole_both : (m : Manager) (before xs ys : List Placed) → breaks.rows_after m before (xs ++ ys) ≡ breaks.rows_after m before xs ++ breaks.rows_after m (onto before xs) ys
+whole_both m before [] ys = refl
+whole_both m before (p ∷ xs) ys =
+    ap (λ rows. map (row_of p) (rules_at m before p) ++ rows) (whole_both m (p ∷ before) xs ys)
+    ∙ sym (append_assoc (map (row_of p) (rules_at m before p)) (breaks.rows_after m (p ∷ before) xs) (breaks.rows_after m (onto (p ∷ before) xs) ys))
+
+printed_both : (m : Manager) (start : Beginning) (before xs ys : List Placed) → printed_after m start before (xs ++ ys) ≡ printed_after m start before xs ++ printed_after m start (onto before xs) ys
+printed_both m start before [] ys = refl
+printed_both m start before (p ∷ xs) ys =
+    ap (λ rows. map (row_of p) (printed_rules m start before p) ++ rows) (printed_both m start (p ∷ before) xs ys)
+    ∙ sym (append_assoc (map (row_of p) (printed_rules m start before p)) (printed_after m start (p ∷ before) xs) (printed_after m start (onto (p ∷ before) xs) ys))
+
+rows_both : (midway : Option Midway) (m : Manager) (before xs ys : List Placed) → rows_after midway m before (xs ++ ys) ≡ rows_after midway m before xs ++ rows_after midway m (onto before xs) ys
+rows_both None m before xs ys = whole_both m before xs ys
+rows_both (Some law) m before xs ys = printed_both m (beginning_of law m) before xs ys
+
+pub none_after : (midway : Option Midway) (m : Manager) (before : List Placed) → rows_after midway m before [] ≡ []
+none_after None m before = refl
+none_after (Some law) m before = refl
 
 -- So are those of beats that come after others.
-pub rows_in_both : (m : Manager) (xs ys : List Placed) → rows_in m (xs ++ ys) ≡ rows_in m xs ++ rows_after m (reverse xs) ys
-rows_in_both m xs ys = rows_both m [] xs ys ∙ ap (λ before. rows_in m xs ++ rows_after m before ys) (onto_reverse [] xs)
+pub rows_in_both : (midway : Option Midway) (m : Manager) (xs ys : List Placed) → rows_in midway m (xs ++ ys) ≡ rows_in midway m xs ++ rows_after midway m (reverse xs) ys
+rows_in_both midway m xs ys = rows_both midway m [] xs ys ∙ ap (λ before. rows_in midway m xs ++ rows_after midway m before ys) (onto_reverse [] xs)
 
 onto_both : {X : Type 0} (before xs ys : List X) → onto (onto before xs) ys ≡ onto before (xs ++ ys)
 onto_both before [] ys = refl
 onto_both before (x ∷ xs) ys = onto_both (x ∷ before) xs ys
 
-pub reverse_both : {X : Type 0} (xs ys : List X) → onto (reverse xs) ys ≡ reverse (xs ++ ys)
+reverse_both : {X : Type 0} (xs ys : List X) → onto (reverse xs) ys ≡ reverse (xs ++ ys)
 reverse_both xs ys = ap (λ before. onto before ys) (sym (onto_reverse [] xs)) ∙ onto_both [] xs ys ∙ onto_reverse [] (xs ++ ys)
 
-pub left_is : (m : Manager) (before beats : List Placed) → left_after (judging m) (snapshot m before) beats ≡ snapshot m (onto before beats)
+left_is : (m : Manager) (before beats : List Placed) → left_after (judging m) (snapshot m before) beats ≡ snapshot m (onto before beats)
 left_is m before [] = refl
 left_is m before (p ∷ beats) = ap (λ s. left_after (judging m) s beats) (next_snapshot m before p) ∙ left_is m (p ∷ before) beats
 
+-- ---- states
+
+-- A state of a whole run that goes on after beats, and one where nobody recorded the first.
+pub whole_goes_on : (m : Manager) (old new : SpanState) (beats : List Placed) (rows : List Row) → jobs.GoesOn m old beats new rows → GoesOn m (past.Whole old) beats (past.Whole new) rows
+whole_goes_on m old new beats rows gone = record { is_of = gone.is_of; goes = goes }
+  where
+    goes : (midway : Option Midway) (before : List Placed) → StandsFor midway m (past.Whole old) (reverse before)
+        → StandsFor midway m (past.Whole new) (reverse (before ++ beats)) × (rows ≡ rows_after midway m (reverse before) beats)
+    goes None before stands = (
+      record {
+        is_of = gone.is_of;
+        shows = gone.left ∙ ap (λ s. left_after (judging m) s beats) stands.shows ∙ left_is m (reverse before) beats ∙ ap (snapshot m) (reverse_both before beats);
+      },
+      gone.found ∙ ap (λ s. rows_judged (judging m) s beats) stands.shows ∙ all_exact m (reverse before) beats,
+    )
+    goes (Some law) before stands = absurd stands
+
+pub middle_goes_on : (m : Manager) (old new : MidwayState) (beats : List Placed) (rows : List Row) → walked.GoesOn m old beats new rows → GoesOn m (past.Middle old) beats (past.Middle new) rows
+middle_goes_on m old new beats rows gone = record { is_of = gone.is_of; goes = goes }
+  where
+    goes : (midway : Option Midway) (before : List Placed) → StandsFor midway m (past.Middle old) (reverse before)
+        → StandsFor midway m (past.Middle new) (reverse (before ++ beats)) × (rows ≡ rows_after midway m (reverse before) beats)
+    goes None before stands = absurd stands
+    goes (Some law) before stands = let both = gone.goes (beginning_of law m) before stands.1 in ((gone.is_of.known, both.0), both.1)
+
+-- A state that stands for beats of a manager is one of it.
+pub stands_is_of : (midway : Option Midway) (m : Manager) (state : Past) (before : List Placed) → StandsFor midway m state before → IsOf m state
+stands_is_of None m (past.Whole state) before stands = stands.is_of
+stands_is_of None m (past.Middle state) before stands = absurd stands
+stands_is_of (Some law) m (past.Whole state) before stands = absurd stands
+stands_is_of (Some law) m (past.Middle state) before stands = record { known = stands.0; start = beginning_of law m; before = before; stands = stands.1 }
+
+-- The links of a manager rise.
+pub links_rise : (m : Manager) (state : Past) → IsOf m state → IsStrictlySortedBy nat_cmp m.clients
+links_rise m (past.Whole state) is = is.rises
+links_rise m (past.Middle state) is = is.stands.readings.rises
+
 -- A state that stands for beats and goes on after others stands for both, and the rows of both are those before and those that came.
-pub goes_on_stands : (m : Manager) (old new : SpanState) (xs ys : List Placed) (rows : List Row) → StandsFor m old (reverse xs) → GoesOn m old ys new rows
-    → StandsFor m new (reverse (xs ++ ys)) × (rows_in m (xs ++ ys) ≡ rows_in m xs ++ rows)
-goes_on_stands m old new xs ys rows stands gone = (
-  record {
-    is_of = gone.is_of;
-    shows = gone.left ∙ ap (λ s. left_after (judging m) s ys) stands.shows ∙ left_is m (reverse xs) ys ∙ ap (snapshot m) (reverse_both xs ys);
-  },
-  rows_in_both m xs ys ∙ ap (λ more. rows_in m xs ++ more) (sym (gone.found ∙ ap (λ s. rows_judged (judging m) s ys) stands.shows ∙ all_exact m (reverse xs) ys)),
-)
+pub goes_on_stands : (midway : Option Midway) (m : Manager) (old new : Past) (xs ys : List Placed) (rows : List Row) → StandsFor midway m old (reverse xs) → GoesOn m old ys new rows
+    → StandsFor midway m new (reverse (xs ++ ys)) × (rows_in midway m (xs ++ ys) ≡ rows_in midway m xs ++ rows)
+goes_on_stands midway m old new xs ys rows stands gone =
+    let both = gone.goes midway xs stands in (both.0, rows_in_both midway m xs ys ∙ ap (λ more. rows_in midway m xs ++ more) (sym both.1))
+
+-- ---- links
+
+printed_from : (m : Manager) (start : Beginning) (before beats : List Placed) (row : Row) → Contains (printed_after m start before beats) row → (p : Placed) × Contains beats p × (row.link ≡ p.link)
+printed_from m start before [] row h = absurd (contains_none row h)
+printed_from m start before (p ∷ beats) row h =
+    elim (Contains-append_cases (map (row_of p) (printed_rules m start before p)) (printed_after m start (p ∷ before) beats) row h) [
+      | inl here ↦ (let found = mapped_from (row_of p) (printed_rules m start before p) row here in (p, contains_here p beats, sym (ap (λ (r : Row). r.link) found.2)))
+      | inr there ↦ (let found = printed_from m start (p ∷ before) beats row there in (found.0, contains_there p beats found.0 found.1, found.2))
+    ]
+
+-- A row is of the link of one of the beats.
+pub row_from_beat : (midway : Option Midway) (m : Manager) (beats : List Placed) (row : Row) → Contains (rows_in midway m beats) row → (p : Placed) × Contains beats p × (row.link ≡ p.link)
+row_from_beat None m beats row h =
+    let broken = (rows_are_breaks m beats row).0 h in
+    let p : Placed = broken.2 in
+    (p, subst (λ ps. Contains ps p) (sym broken.3) (Contains-append_right broken.0 (p ∷ broken.1) p (contains_here p broken.1)), ap (λ (r : Row). r.link) broken.5)
+row_from_beat (Some law) m beats row h = printed_from m (beginning_of law m) [] beats row h

@@ -13,13 +13,14 @@ use Rattle.tl_definitions.proofs.Lists.{contains_none}
 use Rattle.tl_capture.specs.Present.{IsPresent}
 use Rattle.tl_capture.proofs.PresentLemmas.{no_ranges}
 use Rattle.tl_check.specs.Captured.{areas_at}
-use Rattle.tl_check.specs.declared.state.SpanState.{SpanState}
+use Rattle.tl_midway.specs.declared.midway.Midway.{Midway}
 use Rattle.tl_stream.specs.Courses.{IsCourse, AreNewCourses, HasEnded, Judged}
 use Rattle.tl_stream.specs.Fronts.{IsFrontOf}
 use Rattle.tl_stream.specs.Streams.{StreamData, HasAccepted, areas_in}
 use Rattle.tl_stream.specs.Told.{told, untold, untold_of}
 use Rattle.tl_stream.specs.declared.course.Course.{Course}
 use Rattle.tl_stream.specs.declared.front.Front.{Front}
+use Rattle.tl_stream.specs.declared.past.Past.{Past}
 use Rattle.tl_stream.proofs.CourseLemmas.{begins, rest_is_untold}
 use Rattle.tl_stream.proofs.LawLemmas.{telling_is_whole, whole_linked}
 
@@ -38,10 +39,10 @@ no_front (Some front) none = none front refl
 pub nothing_present : IsPresent []
 nothing_present = record { each = no_ranges.each; apart = no_ranges.apart; numbers = tt }
 
-pub none_accepted : (topo : Topology) (regions : List (List (ℕ × Area))) (fronts : List (Option Front)) (waiting : List Recorded) (courses : List Course) → length fronts ≡ length topo.links
-    → ((link : ℕ) (front : Option Front) → slice_get fronts link ≡ Some front → front ≡ None) → waiting ≡ [] → AreNewCourses topo courses
-    → HasAccepted [] (record { topo = topo; regions = regions; fronts = fronts; waiting = waiting; courses = courses })
-none_accepted topo regions fronts waiting courses many none empty new = record {
+pub none_accepted : (midway : Option Midway) (topo : Topology) (regions : List (List (ℕ × Area))) (fronts : List (Option Front)) (waiting : List Recorded) (courses : List Course) → length fronts ≡ length topo.links
+    → ((link : ℕ) (front : Option Front) → slice_get fronts link ≡ Some front → front ≡ None) → waiting ≡ [] → AreNewCourses midway topo courses
+    → HasAccepted [] (record { topo = topo; regions = regions; midway = midway; fronts = fronts; waiting = waiting; courses = courses })
+none_accepted midway topo regions fronts waiting courses many none empty new = record {
   present = nothing_present;
   among = λ f h. absurd (contains_none f (subst (λ fs. Contains fs f) empty h));
   waiting = subst IsPresent (sym empty) nothing_present;
@@ -50,8 +51,9 @@ none_accepted topo regions fronts waiting courses many none empty new = record {
   courses = record {
     count = new.count;
     own = λ manager course at. (new.each manager course at).owner;
+    same = λ manager course at. (new.each manager course at).law;
     each = λ manager course at. subst (λ ws. IsCourse topo (areas_at regions manager) [] ws course) (sym empty)
-        (begins topo (areas_at regions manager) manager course (below manager course at) (new.each manager course at));
+        (begins midway topo (areas_at regions manager) manager course (below manager course at) (new.each manager course at));
   };
 }
   where
@@ -60,28 +62,31 @@ none_accepted topo regions fronts waiting courses many none empty new = record {
 
 -- ---- the end
 
-pub untold_more : (topo : Topology) (regions : ℕ → List Area) (fs : List Recorded) (n : ℕ) → untold_of topo regions fs (n + 1) ≡ untold_of topo regions fs n ++ untold topo regions fs n
-untold_more topo regions fs n = let same : n + 1 ≡ suc n = omega arith in ap (untold_of topo regions fs) same
+pub untold_more : (midway : Option Midway) (topo : Topology) (regions : ℕ → List Area) (fs : List Recorded) (n : ℕ) → untold_of midway topo regions fs (n + 1) ≡ untold_of midway topo regions fs n ++ untold topo regions fs n midway
+untold_more midway topo regions fs n = let same : n + 1 ≡ suc n = omega arith in ap (untold_of midway topo regions fs) same
 
-pub untold_linked : (topo : Topology) (regions : ℕ → List Area) (fs : List Recorded) → IsPresent fs → (count : ℕ) (row : Row) → Contains (untold_of topo regions fs count) row → row.link < length topo.links
-untold_linked topo regions fs is zero row h = absurd (contains_none row h)
-untold_linked topo regions fs is (suc count) row h = elim (Contains-append_cases (untold_of topo regions fs count) (untold topo regions fs count) row h) [
-  | inl before ↦ untold_linked topo regions fs is count row before
-  | inr own ↦ whole_linked topo regions fs count row is (subst (λ rs. Contains rs row) (telling_is_whole topo regions fs count is) (Contains-append_right (told topo regions fs count) (untold topo regions fs count) row own))
+pub untold_linked : (midway : Option Midway) (topo : Topology) (regions : ℕ → List Area) (fs : List Recorded) → IsPresent fs → (count : ℕ) (row : Row) → Contains (untold_of midway topo regions fs count) row → row.link < length topo.links
+untold_linked midway topo regions fs is zero row h = absurd (contains_none row h)
+untold_linked midway topo regions fs is (suc count) row h = elim (Contains-append_cases (untold_of midway topo regions fs count) (untold topo regions fs count midway) row h) [
+  | inl before ↦ untold_linked midway topo regions fs is count row before
+  | inr own ↦ whole_linked midway topo regions fs count row is
+      (subst (λ rs. Contains rs row) (telling_is_whole midway topo regions fs count is) (Contains-append_right (told topo regions fs count midway) (untold topo regions fs count midway) row own))
 ]
 
-pub all_linked : (topo : Topology) (regions : ℕ → List Area) (fs : List Recorded) (count : ℕ) (rows : List Row) → IsPresent fs → rows ≡ untold_of topo regions fs count → All (λ row. row.link < length topo.links) rows
-all_linked topo regions fs count rows is are k d below = untold_linked topo regions fs is count (get_or rows k d) (subst (λ rs. Contains rs (get_or rows k d)) are (Contains-get_or rows k d below))
+pub all_linked : (midway : Option Midway) (topo : Topology) (regions : ℕ → List Area) (fs : List Recorded) (count : ℕ) (rows : List Row) → IsPresent fs → rows ≡ untold_of midway topo regions fs count → All (λ row. row.link < length topo.links) rows
+all_linked midway topo regions fs count rows is are k d below = untold_linked midway topo regions fs is count (get_or rows k d) (subst (λ rs. Contains rs (get_or rows k d)) are (Contains-get_or rows k d below))
 
-pub has_ended : (fs : List Recorded) (s : StreamData) → HasAccepted fs s → HasEnded s.topo (areas_in s) fs s.waiting s.courses
+pub has_ended : (fs : List Recorded) (s : StreamData) → HasAccepted fs s → HasEnded s.midway s.topo (areas_in s) fs s.waiting s.courses
 has_ended fs s has = record { present = has.present; present_waiting = has.waiting; among = has.among; are_courses = has.courses }
 
 -- One manager more.
-pub one_more : (topo : Topology) (regions : ℕ → List Area) (fs waiting : List Recorded) (courses : List Course) (k : ℕ) (old new : Course) (before found after : List Row) (state : SpanState) → HasEnded topo regions fs waiting courses
-    → slice_get courses k ≡ Some old → old.state ≡ Some state → Judged topo (regions k) waiting 18446744073709551615 old new found → before ≡ untold_of topo regions fs k → after ≡ before ++ found
-    → after ≡ untold_of topo regions fs (k + 1)
-one_more topo regions fs waiting courses k old new before found after state has at here judged told put =
+pub one_more : (midway : Option Midway) (topo : Topology) (regions : ℕ → List Area) (fs waiting : List Recorded) (courses : List Course) (k : ℕ) (old new : Course) (before found after : List Row) (state : Past) → HasEnded midway topo regions fs waiting courses
+    → slice_get courses k ≡ Some old → old.state ≡ Some state → Judged topo (regions k) waiting 18446744073709551615 old new found → before ≡ untold_of midway topo regions fs k → after ≡ before ++ found
+    → after ≡ untold_of midway topo regions fs (k + 1)
+one_more midway topo regions fs waiting courses k old new before found after state has at here judged told put =
     let own : old.manager ≡ k = has.are_courses.own k old at in
-    let rest : found ≡ untold topo regions fs old.manager = rest_is_untold topo regions fs waiting old new found state has.present has.present_waiting has.among
+    let rest : found ≡ untold topo regions fs old.manager old.midway = rest_is_untold topo regions fs waiting old new found state has.present has.present_waiting has.among
     (subst (λ n. IsCourse topo (regions n) fs waiting old) (sym own) (has.are_courses.each k old at)) here (subst (λ n. Judged topo (regions n) waiting 18446744073709551615 old new found) (sym own) judged) in
-    put ∙ ap (λ rs. rs ++ found) told ∙ ap (λ rs. untold_of topo regions fs k ++ rs) (rest ∙ ap (untold topo regions fs) own) ∙ sym (untold_more topo regions fs k)
+    put ∙ ap (λ rs. rs ++ found) told
+    ∙ ap (λ rs. untold_of midway topo regions fs k ++ rs) (rest ∙ ap (untold topo regions fs old.manager) (has.are_courses.same k old at) ∙ ap (λ n. untold topo regions fs n midway) own)
+    ∙ sym (untold_more midway topo regions fs k)

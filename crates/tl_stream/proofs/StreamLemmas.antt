@@ -9,7 +9,6 @@ use Rattle.tl_topology.specs.declared.LinkDecl.{LinkDecl}
 use Rattle.tl_beats.specs.Fragments.{Frag}
 use Rattle.tl_beats.specs.declared.Placed.{Placed}
 use Rattle.tl_beats.specs.declared.Row.{Row}
-use Rattle.tl_definitions.specs.Breaks.{rows_in}
 use Rattle.tl_definitions.specs.Captures.{manager_beats}
 use Rattle.tl_definitions.specs.Managers.{declared_links, manager_at}
 use Rattle.tl_definitions.specs.Positions.{Recorded, clients_of}
@@ -20,15 +19,17 @@ use Rattle.tl_capture.specs.Present.{recorded, is_of, shares, numbered, overlapp
 use Rattle.tl_capture.proofs.NumberLemmas.{present_put, same_kept}
 use Rattle.tl_capture.proofs.PutLemmas.{put_from}
 use Rattle.tl_capture.proofs.TouchLemmas.{put_has, put_here}
-use Rattle.tl_check.specs.States.{StandsFor}
-use Rattle.tl_check.specs.declared.state.SpanState.{SpanState}
+use Rattle.tl_midway.specs.declared.midway.Midway.{Midway}
 use Rattle.tl_stream.specs.Courses.{next_of, beats_before, AreCourses, IsCourse, WasCourse, HasCome, Advances, AreNewRows}
 use Rattle.tl_stream.specs.Fronts.{front_at, is_covered, is_complete, refusal_of, IsFrontOf}
+use Rattle.tl_stream.specs.Pasts.{StandsFor, rows_in}
+use Rattle.tl_stream.specs.Told.{told}
 use Rattle.tl_stream.specs.Streams.{StreamData, HasAccepted, Accepts, IsCause, IsNumberOld, IsOn, areas_in, course_at, told_by}
 use Rattle.tl_stream.specs.declared.course.Course.{Course}
 use Rattle.tl_stream.specs.declared.fault.StreamFault.{StreamFault}
 use Rattle.tl_stream.specs.declared.fault.StreamFault.TheVariants as fault
 use Rattle.tl_stream.specs.declared.front.Front.{Front}
+use Rattle.tl_stream.specs.declared.past.Past.{Past}
 use Rattle.tl_stream.proofs.BeatLemmas.{beat_carried, same_beats}
 use Rattle.tl_stream.proofs.CourseLemmas.{complete_are_before}
 use Rattle.tl_stream.proofs.FrontLemmas.{any_none, every, complete_stays, complete_elsewhere, IsNewer}
@@ -137,7 +138,7 @@ module _ (topo : Topology) (areas : List Area) (fs waiting : List Recorded) (f :
     complete = λ state at cycle short. complete_elsewhere course.links.items fs f cycle (λ h. none (subst (λ ls. Contains ls f.link) had.running.links h)) ∙ had.complete state at cycle short;
     stands = λ state at.
         let was = had.stands state at in record {
-          shows = subst (λ ps. StandsFor (manager_at topo course.manager areas) state (reverse ps)) (sym (beats_elsewhere course.manager (λ p. nat_lt p.beat.cycle (next_of course)) none)) was.shows;
+          shows = subst (λ ps. StandsFor course.midway (manager_at topo course.manager areas) state (reverse ps)) (sym (beats_elsewhere course.manager (λ p. nat_lt p.beat.cycle (next_of course)) none)) was.shows;
           waits = λ g has of. elim (put_from f fs g has) [
             | inl same ↦ absurd (none (subst (λ ls. Contains ls f.link) had.running.links (subst (λ (r : Recorded). Contains course.links.items r.link) (sym same) of)))
             | inr there ↦ elim (was.waits g there of) [
@@ -160,11 +161,11 @@ module _ (topo : Topology) (areas : List Area) (fs waiting : List Recorded) (f :
     ] refl
 
     -- It begins with the next cycle or after it.
-    begins_after : (state : SpanState) → course.state ≡ Some state → next_of course ≤ f.first
+    begins_after : (state : Past) → course.state ≡ Some state → next_of course ≤ f.first
     begins_after state at = let no : nat_lt f.first (next_of course) ≡ false = sym (had.complete state at f.first short) ∙ not_complete in grind (arith, nat_tests)
 
     -- So what is judged of its own manager stays.
-    pub beats_before_stay : (state : SpanState) → course.state ≡ Some state
+    pub beats_before_stay : (state : Past) → course.state ≡ Some state
         → beats_before (next_of course) (manager_beats topo (put_in f fs) course.manager) ≡ beats_before (next_of course) (manager_beats topo fs course.manager)
     beats_before_stay state at = same_beats (λ p. nat_lt p.beat.cycle (next_of course)) links_of (put_in f fs) fs are is
         (λ p keep h. beat_carried links_of (put_in f fs) fs are p h (λ g has of first last. elim (put_from f fs g has) [
@@ -183,7 +184,7 @@ module _ (topo : Topology) (areas : List Area) (fs waiting : List Recorded) (f :
       complete = λ state at cycle few before. complete_stays course.links.items fs f cycle (had.complete state at cycle few ∙ before);
       stands = λ state at.
           let was = had.stands state at in record {
-            shows = subst (λ ps. StandsFor (manager_at topo course.manager areas) state (reverse ps)) (sym (beats_before_stay state at)) was.shows;
+            shows = subst (λ ps. StandsFor course.midway (manager_at topo course.manager areas) state (reverse ps)) (sym (beats_before_stay state at)) was.shows;
             waits = λ g has of. elim (put_from f fs g has) [
               | inl same ↦ inl (subst (Contains (put_in f waiting)) same (put_here f waiting))
               | inr there ↦ elim (was.waits g there of) [ inl stays ↦ inl (put_has f waiting g stays) | inr gone ↦ inr gone ]
@@ -251,7 +252,7 @@ module _ (old : StreamData) (fs : List Recorded) (has : HasAccepted fs old) (lin
         (subst (λ areas. IsCourse old.topo areas fs old.waiting course) (sym areas_are) (has.courses.each manager course at)) newer on_course short;
   }
 
-  module _ (new : StreamData) (after : Course) (topo : new.topo ≡ old.topo) (regions : new.regions ≡ old.regions) (fronts : (l : ℕ) → IsFrontOf l come (front_at new.fronts l))
+  module _ (new : StreamData) (after : Course) (topo : new.topo ≡ old.topo) (regions : new.regions ≡ old.regions) (midway : new.midway ≡ old.midway) (fronts : (l : ℕ) → IsFrontOf l come (front_at new.fronts l))
       (many : length new.fronts ≡ length old.fronts) (count : length new.courses ≡ length old.courses) (set : HasSet manager after old.courses new.courses) (waiting : IsPresent new.waiting)
       (advanced : Advances old.topo (areas_in old course.manager) come course (put_in (recorded link f) old.waiting) after new.waiting) where
     its_after : after.manager ≡ manager
@@ -267,12 +268,16 @@ module _ (old : StreamData) (fs : List Recorded) (has : HasAccepted fs old) (lin
         (λ h. apart link h (subst (λ ls. Contains ls link) (sym (has.courses.each manager course at).running.links) on_course))
         (λ g there of. advanced.loses.others g there (λ mine. apart g.link of mine))
 
-    accepted_courses : AreCourses old.topo (areas_in old) come new.waiting new.courses
+    accepted_courses : AreCourses old.midway old.topo (areas_in old) come new.waiting new.courses
     accepted_courses = record {
       count = count ∙ has.courses.count;
       own = λ k c here. elim (set k c here) [
         | inl mine ↦ ap (λ (x : Course). x.manager) mine.1 ∙ its_after ∙ sym mine.0
         | inr other ↦ has.courses.own k c other.1
+      ];
+      same = λ k c here. elim (set k c here) [
+        | inl mine ↦ ap (λ (x : Course). x.midway) mine.1 ∙ advanced.midway ∙ has.courses.same manager course at
+        | inr other ↦ has.courses.same k c other.1
       ];
       each = λ k c here. elim (set k c here) [
         | inl mine ↦ subst (λ x. IsCourse old.topo (areas_in old k) come new.waiting x) (sym mine.1)
@@ -288,33 +293,36 @@ module _ (old : StreamData) (fs : List Recorded) (has : HasAccepted fs old) (lin
       waiting = waiting;
       links = many ∙ has.links ∙ ap (λ (t : Topology). length t.links) (sym topo);
       fronts = fronts;
-      courses = subst (λ t. AreCourses t (areas_in new) come new.waiting new.courses) (sym topo) (subst (λ rs. AreCourses old.topo (areas_at rs) come new.waiting new.courses) (sym regions) accepted_courses);
+      courses = subst (λ w. AreCourses w new.topo (areas_in new) come new.waiting new.courses) (sym midway)
+          (subst (λ t. AreCourses old.midway t (areas_in new) come new.waiting new.courses) (sym topo) (subst (λ rs. AreCourses old.midway old.topo (areas_at rs) come new.waiting new.courses) (sym regions) accepted_courses));
     }
 
     -- The rows of its manager are those told before and these.
-    pub own_rows : (rows : List Row) (state : SpanState) → course.state ≡ Some state → AreNewRows old.topo (areas_in old course.manager) come course rows → told_by old come manager ≡ told_by old fs manager ++ rows
+    pub own_rows : (rows : List Row) (state : Past) → course.state ≡ Some state → AreNewRows old.topo (areas_in old course.manager) come course rows → told_by old come manager ≡ told_by old fs manager ++ rows
     own_rows rows state here found =
         let mine = subst (λ areas. IsCourse old.topo areas fs old.waiting course) (sym areas_are) (has.courses.each manager course at) in
         let before = complete_are_before old.topo (areas_in old) fs course.manager (next_of course) has.present
         (λ cycle few. ap (λ ls. is_complete ls fs cycle) (sym mine.running.links) ∙ mine.complete state here cycle few) in
         let stay = beats_before_stay old.topo (areas_in old course.manager) fs old.waiting (recorded link f) course has.present still_present mine newer on_course short state here in
         subst (λ m. told_by old come m ≡ told_by old fs m ++ rows) its_own
-        (ap (λ ls. rows_in (manager_at old.topo course.manager (areas_in old course.manager)) (filter (λ (p : Placed). is_complete ls come p.beat.cycle) (manager_beats old.topo come course.manager))) (sym mine.running.links)
-        ∙ found ∙ ap (λ ps. rows_in (manager_at old.topo course.manager (areas_in old course.manager)) ps ++ rows) (stay ∙ sym before))
+        (subst (λ w. told old.topo (areas_in old) come course.manager w ≡ told old.topo (areas_in old) fs course.manager w ++ rows) (has.courses.same manager course at)
+        (ap (λ ls. rows_in course.midway (manager_at old.topo course.manager (areas_in old course.manager)) (filter (λ (p : Placed). is_complete ls come p.beat.cycle) (manager_beats old.topo come course.manager))) (sym mine.running.links)
+        ∙ found ∙ ap (λ ps. rows_in course.midway (manager_at old.topo course.manager (areas_in old course.manager)) ps ++ rows) (stay ∙ sym before)))
 
     other_rows : (k : ℕ) → (IsOn old.topo link k → ⊥) → told_by old come k ≡ told_by old fs k
-    other_rows k none = ap (rows_in (manager_at old.topo k (areas_in old k)))
+    other_rows k none = ap (rows_in old.midway (manager_at old.topo k (areas_in old k)))
         (same_kept (λ (p : Placed). is_complete (clients_of k (declared_links old.topo)) come p.beat.cycle) (λ (p : Placed). is_complete (clients_of k (declared_links old.topo)) fs p.beat.cycle) (manager_beats old.topo come k)
         (λ p h. complete_elsewhere (clients_of k (declared_links old.topo)) fs (recorded link f) p.beat.cycle none)
         ∙ beats_elsewhere old.topo (areas_in old manager) fs old.waiting (recorded link f) course has.present still_present (has.courses.each manager course at) k
         (λ (p : Placed). is_complete (clients_of k (declared_links old.topo)) fs p.beat.cycle) none)
 
-    pub accepts_it : (rows : List Row) (state : SpanState) → course.state ≡ Some state → AreNewRows old.topo (areas_in old course.manager) come course rows → Accepts fs old f new rows
+    pub accepts_it : (rows : List Row) (state : Past) → course.state ≡ Some state → AreNewRows old.topo (areas_in old course.manager) come course rows → Accepts fs old f new rows
     accepts_it rows state here found = record {
       link = link;
       named = named;
       topo = topo;
       regions = regions;
+      midway = midway;
       accepted = accepted_in;
       own = λ k is. subst (λ n. told_by old come n ≡ told_by old fs n ++ rows) (one_manager (declared_links old.topo) manager k link on is) (own_rows rows state here found);
       others = other_rows;

@@ -1,5 +1,6 @@
 pub mod Faults
 pub mod Fronts
+pub mod Pasts
 pub mod Told
 pub mod Courses
 pub mod Streams

@@ -10,6 +10,7 @@ use Rattle.tl_definitions.specs.Managers.{declared_links}
 use Rattle.tl_definitions.specs.Positions.{Recorded, clients_of}
 use Rattle.tl_check.specs.Captured.{areas_at}
 use Rattle.tl_capture.specs.Present.{recorded, put_in, IsPresent}
+use Rattle.tl_midway.specs.declared.midway.Midway.{Midway}
 use Rattle.tl_stream.specs.Courses.{AreCourses}
 use Rattle.tl_stream.specs.Fronts.{front_at, past, is_complete, IsFrontOf}
 use Rattle.tl_stream.specs.Told.{told}
@@ -21,6 +22,7 @@ use Rattle.tl_stream.specs.declared.front.Front.{Front}
 pub record StreamData : Type 0 where
   pub topo : Topology
   pub regions : List (List (ℕ × Area))
+  pub midway : Option Midway
   pub fronts : List (Option Front)
   pub waiting : List Recorded
   pub courses : List Course
@@ -40,11 +42,11 @@ pub record HasAccepted (fs : List Recorded) (s : StreamData) : Type 0 where
   pub waiting : IsPresent s.waiting
   pub links : length s.fronts ≡ length s.topo.links
   pub fronts : (link : ℕ) → IsFrontOf link fs (front_at s.fronts link)
-  pub courses : AreCourses s.topo (areas_in s) fs s.waiting s.courses
+  pub courses : AreCourses s.midway s.topo (areas_in s) fs s.waiting s.courses
 
 -- The rows of a manager that were told so far.
 abbrev pub told_by : StreamData → List Recorded → ℕ → List Row
-told_by s fs manager = told s.topo (areas_in s) fs manager
+told_by s fs manager = told s.topo (areas_in s) fs manager s.midway
 
 -- The manager has the link.
 abbrev pub IsOn : Topology → ℕ → ℕ → Type 0
@@ -56,6 +58,7 @@ pub record Accepts (fs : List Recorded) (old : StreamData) (f : Frag) (new : Str
   pub named : number_of_name old.topo.links f.link ≡ Some link
   pub topo : new.topo ≡ old.topo
   pub regions : new.regions ≡ old.regions
+  pub midway : new.midway ≡ old.midway
   pub accepted : HasAccepted (put_in (recorded link f) fs) new
   pub own : (manager : ℕ) → IsOn old.topo link manager → told_by old (put_in (recorded link f) fs) manager ≡ told_by old fs manager ++ rows
   pub others : (manager : ℕ) → (IsOn old.topo link manager → ⊥) → told_by old (put_in (recorded link f) fs) manager ≡ told_by old fs manager

@@ -4,11 +4,12 @@ ghost use Rattle.std.specs.Prelude.{◌≡◌, ◌<◌, length, is_none, IfOk, O
 ghost use Rattle.tl_topology.specs.Regions.{areas_of};
 ghost use Rattle.tl_stream.specs.Courses.{IsLost, IsNewCourse, IsRunning, Judged};
 
+use crate::past::Past;
 use std::alloc::{AllocError, Global};
 use tl_beats::Row;
 use tl_capture::Present;
-use tl_check::{SpanState, go_on};
 use tl_client_rules::clients_of;
+use tl_midway::Midway;
 use tl_topology::{RegionMap, Topo};
 
 /// What the beats of a manager leave up to a cycle.
@@ -16,24 +17,32 @@ use tl_topology::{RegionMap, Topo};
 pub(crate) struct Course {
     pub(crate) manager: u16,
     pub(crate) links: Vec<u16>,
+    // How its capture begins, where it begins in the middle of a run.
+    midway: Option<Midway>,
     // None once memory was refused amid a judgement.
-    state: Option<SpanState>,
+    state: Option<Past>,
     // The first cycle that is not judged; None where all are.
     next: Option<u64>,
 }
 
 impl Course {
     /// That of a manager of which nothing is judged. AllocError where memory is refused.
-    pub(crate) fn new(alloc: Global, topo: &Topo, manager: u16) -> Result<Course, AllocError>
+    pub(crate) fn new(
+        alloc: Global,
+        topo: &Topo,
+        manager: u16,
+        midway: Option<Midway>,
+    ) -> Result<Course, AllocError>
         requires { manager < length topo.now.managers }
-        ensures { IfOk result (IsNewCourse topo.now manager) }
+        ensures { IfOk result (IsNewCourse midway topo.now manager) }
     {
         let links = clients_of(alloc, topo, manager)?;
         let next = if links.is_empty() { None } else { Some(0) };
         Ok(Course {
             manager,
             links,
-            state: Some(SpanState::opening(alloc, topo, manager)?),
+            midway,
+            state: Some(Past::new(alloc, topo, manager, midway)?),
             next,
         })
     }
@@ -70,7 +79,7 @@ impl Course {
             return Err(AllocError);
         };
         let walk = waiting.walk_between(alloc, from, to, &self.links)?;
-        let rows = go_on(alloc, topo, self.manager, regions, walk, &mut state)?;
+        let rows = state.go_on(alloc, topo, self.manager, regions, walk)?;
         self.state = Some(state);
         self.next = to.checked_add(1);
         Ok(rows)

@@ -1,6 +1,6 @@
 //! A capture that comes in fragments.
 
-ghost use Rattle.std.specs.Prelude.{◌≡◌, ◌≤◌, ◌<◌, ◌⊎◌, ℕ, length, List, [], Some, None, true, is_some, IfOk, IfSome, OnOk, slice_get};
+ghost use Rattle.std.specs.Prelude.{◌≡◌, ◌≤◌, ◌<◌, ◌⊎◌, ℕ, length, List, [], Option, Some, None, true, is_some, IfOk, IfSome, OnOk, slice_get};
 ghost use Rattle.std.specs.Option.{option_copied};
 ghost use Rattle.std.specs.Arc.{arc_value};
 ghost use Rattle.std.specs.List.{All, Contains};
@@ -8,6 +8,7 @@ ghost use Rattle.std.specs.Result.{IsErrOf};
 ghost use Rattle.tl_definitions.specs.Positions.{Recorded};
 ghost use Rattle.tl_check.specs.Captured.{areas_at};
 ghost use Rattle.tl_capture.specs.Present.{IsPresent};
+ghost use Rattle.tl_midway.specs.declared.midway.Midway.{Midway as AnyMidway};
 ghost use Rattle.tl_stream.specs.declared.fault.StreamFault.{StreamFault};
 ghost use Rattle.tl_stream.specs.Courses.{IsRunning, ForCome, HasEnded, Advances, AreNewRows, AreNewCourses, Loses};
 ghost use Rattle.tl_stream.specs.Fronts.{refusal_of, IsFrontOf};
@@ -22,6 +23,7 @@ use std::marker::Model;
 use std::sync::Arc;
 use tl_beats::{Fragment, Row};
 use tl_capture::Present;
+use tl_midway::Midway;
 use tl_topology::{RegionMap, Topo};
 
 /// The fragments of a capture as they come, those of each link with rising numbers and ranges. It holds those of which a cycle is not
@@ -30,6 +32,8 @@ use tl_topology::{RegionMap, Topo};
 pub struct Stream {
     topo: Arc<Topo>,
     regions: Vec<RegionMap>,
+    // How the capture begins, where it begins in the middle of a run.
+    midway: Option<Midway>,
     // The newest fragment of each link.
     fronts: Vec<Option<Front>>,
     waiting: Present,
@@ -39,7 +43,8 @@ pub struct Stream {
 
 impl Model for Stream {
     ghost use Rattle.std.specs.Coded.{codes};
-    ghost use Rattle.tl_check.specs.contracts.state.SpanState as state;
+    ghost use Rattle.tl_check.specs.contracts.state.SpanState as whole;
+    ghost use Rattle.tl_midway.specs.contracts.state.MidwayState as middle;
     ghost use Rattle.std.specs.Arc.{arc_value};
     ghost use Rattle.std.specs.Prelude.{List};
     ghost use Rattle.tl_definitions.specs.Positions.{Recorded};
@@ -47,11 +52,11 @@ impl Model for Stream {
 
     ghost Value = { StreamData };
 
-    ghost coded = { Prim.hlevel (codes, state.the_row.coded) };
+    ghost coded = { Prim.hlevel (codes, whole.the_row.coded, middle.the_row.coded) };
 
-    ghost view = { λ s. record { topo = arc_value s.topo; regions = s.regions.items; fronts = s.fronts.items; waiting = s.waiting; courses = s.courses.items } };
+    ghost view = { λ s. record { topo = arc_value s.topo; regions = s.regions.items; midway = s.midway; fronts = s.fronts.items; waiting = s.waiting; courses = s.courses.items } };
 
-    ghost invariant = { λ s. (fs : List Recorded) × HasAccepted fs (record { topo = arc_value s.topo; regions = s.regions.items; fronts = s.fronts.items; waiting = s.waiting; courses = s.courses.items }) };
+    ghost invariant = { λ s. (fs : List Recorded) × HasAccepted fs (record { topo = arc_value s.topo; regions = s.regions.items; midway = s.midway; fronts = s.fronts.items; waiting = s.waiting; courses = s.courses.items }) };
 }
 
 /// Why a fragment of a link with this front is refused, if it is.
@@ -69,12 +74,16 @@ fn refusal(front: Option<Front>, fragment: &Fragment) -> Option<StreamFault>
 }
 
 /// The courses of all managers.
-fn new_courses(alloc: Global, topo: &Topo) -> Result<Vec<Course>, AllocError>
-    ensures { IfOk result (λ courses. AreNewCourses topo.now courses.items) }
+fn new_courses(
+    alloc: Global,
+    topo: &Topo,
+    midway: Option<Midway>,
+) -> Result<Vec<Course>, AllocError>
+    ensures { IfOk result (λ courses. AreNewCourses midway topo.now courses.items) }
 {
     let mut courses = Vec::new(alloc);
     for manager in 0..topo.manager_count() {
-        courses.push(Course::new(alloc, topo, manager as u16)?)?;
+        courses.push(Course::new(alloc, topo, manager as u16, midway)?)?;
     }
     Ok(courses)
 }
@@ -134,9 +143,9 @@ fn ended(
     waiting: &Present,
     courses: &mut [Course],
 ) -> Result<Vec<Row>, AllocError>
-    requires { (fs : List Recorded) × HasEnded topo.now (areas_at regions.now) fs waiting.now courses.old }
-    ensures { (fs : List Recorded) → HasEnded topo.now (areas_at regions.now) fs waiting.now courses.old
-        → IfOk result (λ rows. rows.items ≡ untold_of topo.now (areas_at regions.now) fs (length topo.now.managers)) }
+    requires { (midway : Option AnyMidway) × (fs : List Recorded) × HasEnded midway topo.now (areas_at regions.now) fs waiting.now courses.old }
+    ensures { (midway : Option AnyMidway) (fs : List Recorded) → HasEnded midway topo.now (areas_at regions.now) fs waiting.now courses.old
+        → IfOk result (λ rows. rows.items ≡ untold_of midway topo.now (areas_at regions.now) fs (length topo.now.managers)) }
 {
     let none = RegionMap::new(alloc);
     let mut rows = Vec::new(alloc);
@@ -154,24 +163,28 @@ fn ended(
 
 impl Stream {
     /// A stream of which no fragment has come, of a topology with the regions of its managers by number; a manager without an entry
-    /// has none. AllocError where memory is refused.
+    /// has none; where the capture begins in the middle of a run, with the law by which its rows stand. AllocError where memory is
+    /// refused.
     pub fn new(
         alloc: Global,
         topo: Arc<Topo>,
         regions: Vec<RegionMap>,
+        midway: Option<Midway>,
     ) -> Result<Stream, AllocError>
         ensures none { IfOk result (HasAccepted []) }
         ensures topo { IfOk result (λ s. s.topo ≡ arc_value topo) }
         ensures regions { IfOk result (λ s. s.regions ≡ regions.items) }
+        ensures midway { IfOk result (λ s. s.midway ≡ midway) }
     {
         let mut fronts = Vec::new(alloc);
         for _ in 0..topo.link_count() {
             fronts.push(None)?;
         }
-        let courses = new_courses(alloc, &topo)?;
+        let courses = new_courses(alloc, &topo, midway)?;
         Ok(Stream {
             topo,
             regions,
+            midway,
             fronts,
             waiting: Present::new(alloc),
             courses,
@@ -272,7 +285,7 @@ impl Stream {
     /// The rows of all beats that no fragment completed, one manager after the other, each in the order of positions. AllocError
     /// where memory is refused.
     pub fn end(mut self, alloc: Global) -> Result<Vec<Row>, AllocError>
-        ensures rest { (fs : List Recorded) → HasAccepted fs self → IfOk result (λ rows. rows.items ≡ untold_of self.topo (areas_in self) fs (length self.topo.managers)) }
+        ensures rest { (fs : List Recorded) → HasAccepted fs self → IfOk result (λ rows. rows.items ≡ untold_of self.midway self.topo (areas_in self) fs (length self.topo.managers)) }
         ensures links { IfOk result (λ rows. All (λ row. row.link < length self.topo.links) rows.items) }
     {
         ended(

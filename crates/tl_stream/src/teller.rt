@@ -216,6 +216,16 @@ fn pass_all<F: RowForm>(
     Ok(())
 }
 
+/// Writes a line of what is none of a stream's rows; that it can't be written changes nothing.
+pub fn tell_line<E: ByteOut>(line: &str, err: &mut E)
+    requires { E.failure_count err.old < 2 ^ 63 }
+    ensures { E.failure_count err.new < 2 ^ 63 }
+{
+    if err.failures() < MANY_FAILURES {
+        let _ = write_all(err, line.as_bytes());
+    }
+}
+
 /// Tells that many beats wait for a link; that this can't be written changes nothing.
 fn tell_wait<E: ByteOut>(alloc: Global, topo: &Topo, silent: u16, err: &mut E)
     requires { E.failure_count err.old < 2 ^ 63 }
@@ -227,10 +237,8 @@ fn tell_wait<E: ByteOut>(alloc: Global, topo: &Topo, silent: u16, err: &mut E)
     let name = decl.name;
     if let Ok(line) = format!(in alloc;
         "tlcheck: {MANY_BEATS} beats wait for link {name}, which has no fragment yet\n"
-    )
-        && err.failures() < MANY_FAILURES
-    {
-        let _ = write_all(err, line.as_bytes());
+    ) {
+        tell_line(line.as_str(), err);
     }
 }
 

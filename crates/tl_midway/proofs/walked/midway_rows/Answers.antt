@@ -1,75 +1,24 @@
-use Rattle.std.proofs.Common.{sym, ap, subst, ◌∙◌}
-use Rattle.std.specs.List.{All, Contains}
-use Rattle.std.specs.Option.{option_copied}
-use Rattle.std.proofs.lemmas.List.Elements.{All-head, All-tail}
+use Rattle.std.proofs.Common.{[]}
 use Rattle.tl_topology.specs.Regions.{areas_of}
-use Rattle.tl_beats.specs.Beats.{IsWellFormed}
-use Rattle.tl_beats.specs.declared.Placed.{Placed}
-use Rattle.tl_definitions.specs.Managers.{declared_links, manager_at}
-use Rattle.tl_definitions.specs.Positions.{clients_of}
+use Rattle.tl_definitions.specs.Managers.{manager_at}
 use Rattle.tl_definitions.specs.Rules.{Manager}
 use Rattle.tl_midway.specs.Midway.{beginning_of}
-use Rattle.tl_midway.proofs.PlaceLaws.{declared}
-use Rattle.tl_midway.proofs.WalkLaws.{begun, one_more, done, are_certain, has_link, below, serves}
+use Rattle.tl_midway.proofs.WalkLaws.{are_certain}
 use Rattle.tl_midway.proofs.walked.midway_rows.Goals as goal
 
-abbrev Formed : Placed → Type 0
-Formed p = IsWellFormed p.beat
-
-pub loop-at-init : goal.loop-at-init
-loop-at-init c =
+pub walk_on-requires-clause-state : goal.walk_on-requires-clause-state
+walk_on-requires-clause-state c =
     let areas = areas_of c.args.regions.now in
     let m : Manager = manager_at c.args.topo.now c.args.manager areas in
-    let begins = c.into_iter-at-iterator.ensures.into_iter_gives in
-    record {
-      formed = subst (All Formed) (sym begins) c.requires.formed;
-      linked = subst (All (λ (p : Placed). Contains (clients_of c.args.manager (declared_links c.args.topo.now)) p.link)) (sym begins) c.requires.linked;
-      known = c.in_ok-state.ensures.known;
-      on = begun m (beginning_of c.args.law m) c.in_ok-state.state c.new-rows.result.items c.into_iter-at-iterator.result c.args.walk (c.in_ok-state.ensures.stands areas) c.new-rows.ensures.items begins;
-    }
-
-pub unwrap-link-requires : goal.unwrap-link-requires
-unwrap-link-requires c =
-    let Linked : Placed → Type 0 = λ p. Contains (clients_of c.args.manager (declared_links c.args.topo.now)) p.link in
-    c.link.ensures.found.1
-    (below c.args.topo.now c.args.manager c.in-Some.at.link (All-head Linked c.in-Some.at c.next.new.self (subst (All Linked) c.in-Some.ensures.steps c.loop-at.invariant.linked)))
-
-pub step-requires-clause-beat : goal.step-requires-clause-beat
-step-requires-clause-beat c = All-head Formed c.in-Some.at c.next.new.self (subst (All Formed) c.in-Some.ensures.steps c.loop-at.invariant.formed)
-
-pub step-requires-clause-own : goal.step-requires-clause-own
-step-requires-clause-own c =
-    let Linked : Placed → Type 0 = λ p. Contains (clients_of c.args.manager (declared_links c.args.topo.now)) p.link in
-    let m : Manager = manager_at c.args.topo.now c.args.manager (areas_of c.args.regions.now) in
-    let on = c.loop-at.invariant.on in
-    has_link m (beginning_of c.args.law m) c.loop-at.state c.in-Some.at.link on.0 on.1
-    (All-head Linked c.in-Some.at c.next.new.self (subst (All Linked) c.in-Some.ensures.steps c.loop-at.invariant.linked))
-
-pub loop-at-preserved : goal.loop-at-preserved
-loop-at-preserved c =
-    let topo = c.args.topo.now in
-    let areas = areas_of c.args.regions.now in
-    let m : Manager = manager_at topo c.args.manager areas in
-    let start = beginning_of c.args.law m in
-    let p : Placed = c.in-Some.at in
-    let Linked : Placed → Type 0 = λ q. Contains (clients_of c.args.manager (declared_links topo)) q.link in
-    let steps = c.in-Some.ensures.steps in
-    let known = declared topo p.link c.unwrap-link.result.now (sym (ap option_copied c.unwrap-link.ensures) ∙ c.link.ensures.exact) in
-    let own = serves topo c.args.manager p.link c.unwrap-link.result.now areas known in
-    record {
-      formed = All-tail Formed p c.next.new.self (subst (All Formed) steps c.loop-at.invariant.formed);
-      linked = All-tail Linked p c.next.new.self (subst (All Linked) steps c.loop-at.invariant.linked);
-      known = c.in_ok-step.ensures.known;
-      on = one_more m start c.loop-at.state c.step.new.self c.loop-at.rows.items c.step.new.rows.items p c.loop-at.at-iterator c.next.new.self c.args.walk steps
-          (λ before stands. c.in_ok-step.ensures.rows m start before stands own) (λ before stands. c.in_ok-step.ensures.next m start before stands own) c.loop-at.invariant.on;
-    }
+    record { known = c.in_ok-state.ensures.known; start = beginning_of c.args.law m; before = []; stands = c.in_ok-state.ensures.stands areas }
 
 pub returns-clause-exact : goal.returns-clause-exact
 returns-clause-exact c =
-    let m : Manager = manager_at c.args.topo.now c.args.manager (areas_of c.args.regions.now) in
-    done m (beginning_of c.args.law m) c.loop-at.state c.loop-at.rows.items c.loop-at.at-iterator c.args.walk c.in-None.ensures.steps.0 c.loop-at.invariant.on
+    let areas = areas_of c.args.regions.now in
+    let m : Manager = manager_at c.args.topo.now c.args.manager areas in
+    (c.in_ok-rows.ensures.goes (beginning_of c.args.law m) [] (c.in_ok-state.ensures.stands areas)).1
 
 pub returns-clause-certain : goal.returns-clause-certain
 returns-clause-certain c =
     let m : Manager = manager_at c.args.topo.now c.args.manager (areas_of c.args.regions.now) in
-    are_certain c.args.law m c.args.walk c.loop-at.rows.items (returns-clause-exact c)
+    are_certain c.args.law m c.args.walk c.in_ok-rows.rows.items (returns-clause-exact c)

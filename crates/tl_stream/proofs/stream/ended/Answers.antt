@@ -18,7 +18,7 @@ judge-requires c =
     let below : c.loop-manager.manager < length c.loop-manager.courses = (let less : c.loop-manager.manager < length c.args.courses.now = c.loop-manager-test.true in let many = c.loop-manager.invariant.many in omega (arith, less, many)) in
     let course : Course = get_or c.loop-manager.courses c.loop-manager.manager c.index-courses-manager.result in
     let at : slice_get c.args.courses.now c.loop-manager.manager ≡ Some course = sym (c.loop-manager.invariant.rest c.loop-manager.manager (omega arith)) ∙ slice_get-get_or c.loop-manager.courses c.loop-manager.manager c.index-courses-manager.result below in
-    record { running = subst (λ areas. IsRunning c.args.topo.now areas course) (sym own) (c.requires.1.are_courses.each c.loop-manager.manager course at).running }
+    record { running = subst (λ areas. IsRunning c.args.topo.now areas course) (sym own) (c.requires.2.are_courses.each c.loop-manager.manager course at).running }
 
 pub loop-manager-preserved : goal.loop-manager-preserved
 loop-manager-preserved c =
@@ -33,20 +33,20 @@ loop-manager-preserved c =
       rest = λ k later.
           let other : k ≢ c.loop-manager.manager = λ same. never k c.loop-manager.manager later same in
           get_other c.loop-manager.courses c.loop-manager.manager k c.judge.new.self other ∙ c.loop-manager.invariant.rest k (omega arith);
-      told = λ fs has. one_more c.args.topo.now (areas_at c.args.regions.now) fs c.args.waiting.now c.args.courses.now c.loop-manager.manager course c.judge.new.self c.loop-manager.rows.items c.in_ok-found.found.items
+      told = λ midway fs has. one_more midway c.args.topo.now (areas_at c.args.regions.now) fs c.args.waiting.now c.args.courses.now c.loop-manager.manager course c.judge.new.self c.loop-manager.rows.items c.in_ok-found.found.items
           c.extend_from_slice.new.self.items state.0 has at state.1
           (subst (λ xs. Judged c.args.topo.now xs c.args.waiting.now 18446744073709551615 course c.judge.new.self c.in_ok-found.found.items) own c.in_ok-found.ensures.ok)
-          (c.loop-manager.invariant.told fs has) (c.in_ok-extend_from_slice.ensures.items ∙ ap (λ found. c.loop-manager.rows.items ++ found) c.deref.ensures.value);
+          (c.loop-manager.invariant.told midway fs has) (c.in_ok-extend_from_slice.ensures.items ∙ ap (λ found. c.loop-manager.rows.items ++ found) c.deref.ensures.value);
     }
   where
     never : (k manager : ℕ) → manager + 1 ≤ k → k ≡ manager → ⊥
     never k manager later same = omega arith
 
 pub returns : goal.returns
-returns c fs has =
+returns c midway fs has =
     let end : length c.args.courses.now ≤ c.loop-manager.manager = c.loop-manager-test.false in
     let most : c.loop-manager.manager ≤ length c.args.courses.now = c.loop-manager.auto.manager-end in
     let many = c.loop-manager.invariant.many in
     let count = has.are_courses.count in
     let all : c.loop-manager.manager ≡ length c.args.topo.now.managers = omega (arith, end, most, many, count) in
-    c.loop-manager.invariant.told fs has ∙ ap (untold_of c.args.topo.now (areas_at c.args.regions.now) fs) all
+    c.loop-manager.invariant.told midway fs has ∙ ap (untold_of midway c.args.topo.now (areas_at c.args.regions.now) fs) all

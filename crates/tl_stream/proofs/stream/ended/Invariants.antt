@@ -1,7 +1,8 @@
 use Rattle.std.proofs.Common.{◌≡◌, ◌≤◌, length}
-use Rattle.std.specs.Prelude.{ℕ, List, slice_get}
+use Rattle.std.specs.Prelude.{ℕ, List, Option, slice_get}
 use Rattle.tl_definitions.specs.Positions.{Recorded}
 use Rattle.tl_check.specs.Captured.{areas_at}
+use Rattle.tl_midway.specs.declared.midway.Midway.{Midway}
 use Rattle.tl_stream.specs.Courses.{HasEnded}
 use Rattle.tl_stream.specs.Told.{untold_of}
 use Rattle.tl_stream.proofs.stream.ended.Given as goal
@@ -11,5 +12,6 @@ abbrev pub invariant-loop-manager : goal.invariant-loop-manager
 invariant-loop-manager l = record {
   many : length l.courses ≡ length l.fn.courses;
   rest : (k : ℕ) → l.manager ≤ k → slice_get l.courses k ≡ slice_get l.fn.courses k;
-  told : (fs : List Recorded) → HasEnded l.topo (areas_at l.regions) fs l.waiting l.fn.courses → l.rows.items ≡ untold_of l.topo (areas_at l.regions) fs l.manager;
+  told : (midway : Option Midway) (fs : List Recorded) → HasEnded midway l.topo (areas_at l.regions) fs l.waiting l.fn.courses
+      → l.rows.items ≡ untold_of midway l.topo (areas_at l.regions) fs l.manager;
 }

@@ -14,6 +14,6 @@ loop-manager-preserved c =
     let all = ap length grown in
     record {
       count = omega (arith, many, count, all);
-      each = λ k course at. each_more (IsNewCourse c.args.topo.now) old one c.loop-manager.invariant.each
-          (subst (λ n. IsNewCourse c.args.topo.now n one) (sym count) c.in_ok-new.ensures) k course (ap (λ xs. slice_get xs k) (sym grown) ∙ at);
+      each = λ k course at. each_more (IsNewCourse c.args.midway c.args.topo.now) old one c.loop-manager.invariant.each
+          (subst (λ n. IsNewCourse c.args.midway c.args.topo.now n one) (sym count) c.in_ok-new.ensures) k course (ap (λ xs. slice_get xs k) (sym grown) ∙ at);
     }

@@ -8,5 +8,5 @@ use Rattle.tl_stream.proofs.stream.new_courses.Given as goal
 abbrev pub invariant-loop-manager : goal.invariant-loop-manager
 invariant-loop-manager l = record {
   count : length l.courses.items ≡ l.manager;
-  each : (manager : ℕ) (course : Course) → slice_get l.courses.items manager ≡ Some course → IsNewCourse l.topo manager course;
+  each : (manager : ℕ) (course : Course) → slice_get l.courses.items manager ≡ Some course → IsNewCourse l.midway l.topo manager course;
 }

@@ -26,8 +26,8 @@ invariant_of-result c =
     let most : c.loop.counter ≤ c.link_count-end.result = c.loop.auto.counter-end in
     let links = c.link_count-end.ensures.count ∙ ap (λ (t : Topology). length t.links) c.deref.ensures in (
       [],
-      none_accepted (arc_value c.args.topo) c.args.regions.items c.loop.fronts.items c.new.result c.in_ok-courses.courses.items (omega (arith, count, end, most, links)) c.loop.invariant.none c.new.ensures
-          (subst (λ t. AreNewCourses t c.in_ok-courses.courses.items) c.deref-2.ensures c.in_ok-courses.ensures),
+      none_accepted c.args.midway (arc_value c.args.topo) c.args.regions.items c.loop.fronts.items c.new.result c.in_ok-courses.courses.items (omega (arith, count, end, most, links)) c.loop.invariant.none c.new.ensures
+          (subst (λ t. AreNewCourses c.args.midway t c.in_ok-courses.courses.items) c.deref-2.ensures c.in_ok-courses.ensures),
     )
 
 pub returns-clause-none : goal.returns-clause-none
@@ -36,5 +36,5 @@ returns-clause-none c =
     let end : c.link_count-end.result ≤ c.loop.counter = c.loop-test.false in
     let most : c.loop.counter ≤ c.link_count-end.result = c.loop.auto.counter-end in
     let links = c.link_count-end.ensures.count ∙ ap (λ (t : Topology). length t.links) c.deref.ensures in
-    none_accepted (arc_value c.args.topo) c.args.regions.items c.loop.fronts.items c.new.result c.in_ok-courses.courses.items (omega (arith, count, end, most, links)) c.loop.invariant.none c.new.ensures
-    (subst (λ t. AreNewCourses t c.in_ok-courses.courses.items) c.deref-2.ensures c.in_ok-courses.ensures)
+    none_accepted c.args.midway (arc_value c.args.topo) c.args.regions.items c.loop.fronts.items c.new.result c.in_ok-courses.courses.items (omega (arith, count, end, most, links)) c.loop.invariant.none c.new.ensures
+    (subst (λ t. AreNewCourses c.args.midway t c.in_ok-courses.courses.items) c.deref-2.ensures c.in_ok-courses.ensures)

@@ -28,7 +28,7 @@ err_is x e is = cc
 
 pub returns-in-Some-refusal-clause-err : goal.returns-in-Some-refusal-clause-err
 returns-in-Some-refusal-clause-err c fs e has is =
-    let old : StreamData = record { topo = arc_value c.self.inside.topo; regions = c.self.inside.regions.items; fronts = c.self.inside.fronts.items; waiting = c.self.inside.waiting; courses = c.self.inside.courses.items } in
+    let old : StreamData = record { topo = arc_value c.self.inside.topo; regions = c.self.inside.regions.items; midway = c.self.inside.midway; fronts = c.self.inside.fronts.items; waiting = c.self.inside.waiting; courses = c.self.inside.courses.items } in
     let link : ℕ = c.in-Some.link in
     let f : Frag = c.args.fragment.now in
     let at : c.front_of.result ≡ front_at old.fronts link = c.front_of.ensures ∙ ap (λ fronts. front_at fronts link) c.deref-2.ensures.value in
@@ -39,7 +39,7 @@ returns-in-Some-refusal-clause-err c fs e has is =
 
 pub put-requires-clause-absent : goal.put-requires-clause-absent
 put-requires-clause-absent c =
-    let old : StreamData = record { topo = arc_value c.self.inside.topo; regions = c.self.inside.regions.items; fronts = c.self.inside.fronts.items; waiting = c.self.inside.waiting; courses = c.self.inside.courses.items } in
+    let old : StreamData = record { topo = arc_value c.self.inside.topo; regions = c.self.inside.regions.items; midway = c.self.inside.midway; fronts = c.self.inside.fronts.items; waiting = c.self.inside.waiting; courses = c.self.inside.courses.items } in
     let link : ℕ = c.in-Some.link in
     let f : Frag = c.args.fragment.now in
     let at : c.front_of.result ≡ front_at old.fronts link = c.front_of.ensures ∙ ap (λ fronts. front_at fronts link) c.deref-2.ensures.value in
@@ -52,7 +52,7 @@ put-requires-clause-absent c =
 
 pub put-requires-clause-free : goal.put-requires-clause-free
 put-requires-clause-free c =
-    let old : StreamData = record { topo = arc_value c.self.inside.topo; regions = c.self.inside.regions.items; fronts = c.self.inside.fronts.items; waiting = c.self.inside.waiting; courses = c.self.inside.courses.items } in
+    let old : StreamData = record { topo = arc_value c.self.inside.topo; regions = c.self.inside.regions.items; midway = c.self.inside.midway; fronts = c.self.inside.fronts.items; waiting = c.self.inside.waiting; courses = c.self.inside.courses.items } in
     let link : ℕ = c.in-Some.link in
     let f : Frag = c.args.fragment.now in
     let at : c.front_of.result ≡ front_at old.fronts link = c.front_of.ensures ∙ ap (λ fronts. front_at fronts link) c.deref-2.ensures.value in
@@ -65,7 +65,7 @@ put-requires-clause-free c =
 
 pub advance-requires : goal.advance-requires
 advance-requires c =
-    let old : StreamData = record { topo = arc_value c.self.inside.topo; regions = c.self.inside.regions.items; fronts = c.self.inside.fronts.items; waiting = c.self.inside.waiting; courses = c.self.inside.courses.items } in
+    let old : StreamData = record { topo = arc_value c.self.inside.topo; regions = c.self.inside.regions.items; midway = c.self.inside.midway; fronts = c.self.inside.fronts.items; waiting = c.self.inside.waiting; courses = c.self.inside.courses.items } in
     let link : ℕ = c.in-Some.link in
     let f : Frag = c.args.fragment.now in
     let at : c.front_of.result ≡ front_at old.fronts link = c.front_of.ensures ∙ ap (λ fronts. front_at fronts link) c.deref-2.ensures.value in
@@ -86,7 +86,7 @@ advance-requires c =
 
 pub invariant_of-self-in_err-rows : goal.invariant_of-self-in_err-rows
 invariant_of-self-in_err-rows c =
-    let old : StreamData = record { topo = arc_value c.self.inside.topo; regions = c.self.inside.regions.items; fronts = c.self.inside.fronts.items; waiting = c.self.inside.waiting; courses = c.self.inside.courses.items } in
+    let old : StreamData = record { topo = arc_value c.self.inside.topo; regions = c.self.inside.regions.items; midway = c.self.inside.midway; fronts = c.self.inside.fronts.items; waiting = c.self.inside.waiting; courses = c.self.inside.courses.items } in
     let link : ℕ = c.in-Some.link in
     let f : Frag = c.args.fragment.now in
     let at : c.front_of.result ≡ front_at old.fronts link = c.front_of.ensures ∙ ap (λ fronts. front_at fronts link) c.deref-2.ensures.value in
@@ -117,14 +117,14 @@ invariant_of-self-in_err-rows c =
     (put_in (recorded link f) old.waiting) c.put.new.self come course (sym c.deref-4.ensures) (ap (λ rs. areas_at rs course.manager) (sym c.deref-5.ensures.value)) fronts waiting coming
     c.advance.new.course c.advance.new.waiting (c.advance.ensures.all come) in (
       come,
-      subst (λ k. HasAccepted come (record { topo = old.topo; regions = old.regions; fronts = set old.fronts k (Some front); waiting = c.advance.new.waiting; courses = set old.courses c.from-2.result c.advance.new.course })) (sym c.from.ensures)
-          (subst (λ k. HasAccepted come (record { topo = old.topo; regions = old.regions; fronts = set old.fronts link (Some front); waiting = c.advance.new.waiting; courses = set old.courses k c.advance.new.course })) (sym c.from-2.ensures)
+      subst (λ k. HasAccepted come (record { topo = old.topo; regions = old.regions; midway = old.midway; fronts = set old.fronts k (Some front); waiting = c.advance.new.waiting; courses = set old.courses c.from-2.result c.advance.new.course })) (sym c.from.ensures)
+          (subst (λ k. HasAccepted come (record { topo = old.topo; regions = old.regions; midway = old.midway; fronts = set old.fronts link (Some front); waiting = c.advance.new.waiting; courses = set old.courses k c.advance.new.course })) (sym c.from-2.ensures)
           (lemmas.accepted old link f decl course front named declared is its c.number.ensures c.last.ensures.exact within fs has newer c.advance.new.course c.advance.new.waiting advanced)),
     )
 
 pub invariant_of-self-2 : goal.invariant_of-self-2
 invariant_of-self-2 c =
-    let old : StreamData = record { topo = arc_value c.self.inside.topo; regions = c.self.inside.regions.items; fronts = c.self.inside.fronts.items; waiting = c.self.inside.waiting; courses = c.self.inside.courses.items } in
+    let old : StreamData = record { topo = arc_value c.self.inside.topo; regions = c.self.inside.regions.items; midway = c.self.inside.midway; fronts = c.self.inside.fronts.items; waiting = c.self.inside.waiting; courses = c.self.inside.courses.items } in
     let link : ℕ = c.in-Some.link in
     let f : Frag = c.args.fragment.now in
     let at : c.front_of.result ≡ front_at old.fronts link = c.front_of.ensures ∙ ap (λ fronts. front_at fronts link) c.deref-2.ensures.value in
@@ -155,14 +155,14 @@ invariant_of-self-2 c =
     (put_in (recorded link f) old.waiting) c.put.new.self come course (sym c.deref-4.ensures) (ap (λ rs. areas_at rs course.manager) (sym c.deref-5.ensures.value)) fronts waiting coming
     c.advance.new.course c.advance.new.waiting (c.advance.ensures.all come) in (
       come,
-      subst (λ k. HasAccepted come (record { topo = old.topo; regions = old.regions; fronts = set old.fronts k (Some front); waiting = c.advance.new.waiting; courses = set old.courses c.from-2.result c.advance.new.course })) (sym c.from.ensures)
-          (subst (λ k. HasAccepted come (record { topo = old.topo; regions = old.regions; fronts = set old.fronts link (Some front); waiting = c.advance.new.waiting; courses = set old.courses k c.advance.new.course })) (sym c.from-2.ensures)
+      subst (λ k. HasAccepted come (record { topo = old.topo; regions = old.regions; midway = old.midway; fronts = set old.fronts k (Some front); waiting = c.advance.new.waiting; courses = set old.courses c.from-2.result c.advance.new.course })) (sym c.from.ensures)
+          (subst (λ k. HasAccepted come (record { topo = old.topo; regions = old.regions; midway = old.midway; fronts = set old.fronts link (Some front); waiting = c.advance.new.waiting; courses = set old.courses k c.advance.new.course })) (sym c.from-2.ensures)
           (lemmas.accepted old link f decl course front named declared is its c.number.ensures c.last.ensures.exact within fs has newer c.advance.new.course c.advance.new.waiting advanced)),
     )
 
 pub returns-clause-ok : goal.returns-clause-ok
 returns-clause-ok c fs had =
-    let old : StreamData = record { topo = arc_value c.self.inside.topo; regions = c.self.inside.regions.items; fronts = c.self.inside.fronts.items; waiting = c.self.inside.waiting; courses = c.self.inside.courses.items } in
+    let old : StreamData = record { topo = arc_value c.self.inside.topo; regions = c.self.inside.regions.items; midway = c.self.inside.midway; fronts = c.self.inside.fronts.items; waiting = c.self.inside.waiting; courses = c.self.inside.courses.items } in
     let link : ℕ = c.in-Some.link in
     let f : Frag = c.args.fragment.now in
     let at : c.front_of.result ≡ front_at old.fronts link = c.front_of.ensures ∙ ap (λ fronts. front_at fronts link) c.deref-2.ensures.value in
@@ -195,14 +195,14 @@ returns-clause-ok c fs had =
     (put_in (recorded link f) old.waiting) c.put.new.self come course (sym c.deref-4.ensures) (ap (λ rs. areas_at rs course.manager) (sym c.deref-5.ensures.value)) fronts waiting coming
     c.in_ok-rows.rows.items (c.in_ok-rows.ensures.ok come) in
     let state = lemmas.some_state course.state c.in_ok-rows.ensures.run in
-    subst (λ s. Accepts fs s f (record { topo = old.topo; regions = old.regions; fronts = set old.fronts c.from.result (Some front); waiting = c.advance.new.waiting; courses = set old.courses c.from-2.result c.advance.new.course }) c.in_ok-rows.rows.items) c.self.view_is
-    (subst (λ k. Accepts fs old f (record { topo = old.topo; regions = old.regions; fronts = set old.fronts k (Some front); waiting = c.advance.new.waiting; courses = set old.courses c.from-2.result c.advance.new.course }) c.in_ok-rows.rows.items) (sym c.from.ensures)
-    (subst (λ k. Accepts fs old f (record { topo = old.topo; regions = old.regions; fronts = set old.fronts link (Some front); waiting = c.advance.new.waiting; courses = set old.courses k c.advance.new.course }) c.in_ok-rows.rows.items) (sym c.from-2.ensures)
+    subst (λ s. Accepts fs s f (record { topo = old.topo; regions = old.regions; midway = old.midway; fronts = set old.fronts c.from.result (Some front); waiting = c.advance.new.waiting; courses = set old.courses c.from-2.result c.advance.new.course }) c.in_ok-rows.rows.items) c.self.view_is
+    (subst (λ k. Accepts fs old f (record { topo = old.topo; regions = old.regions; midway = old.midway; fronts = set old.fronts k (Some front); waiting = c.advance.new.waiting; courses = set old.courses c.from-2.result c.advance.new.course }) c.in_ok-rows.rows.items) (sym c.from.ensures)
+    (subst (λ k. Accepts fs old f (record { topo = old.topo; regions = old.regions; midway = old.midway; fronts = set old.fronts link (Some front); waiting = c.advance.new.waiting; courses = set old.courses k c.advance.new.course }) c.in_ok-rows.rows.items) (sym c.from-2.ensures)
     (lemmas.accepts old link f decl course front named declared is its c.number.ensures c.last.ensures.exact within fs has newer c.advance.new.course c.advance.new.waiting advanced c.in_ok-rows.rows.items state.0 state.1 rows)))
 
 pub returns-clause-links : goal.returns-clause-links
 returns-clause-links c =
-    let old : StreamData = record { topo = arc_value c.self.inside.topo; regions = c.self.inside.regions.items; fronts = c.self.inside.fronts.items; waiting = c.self.inside.waiting; courses = c.self.inside.courses.items } in
+    let old : StreamData = record { topo = arc_value c.self.inside.topo; regions = c.self.inside.regions.items; midway = c.self.inside.midway; fronts = c.self.inside.fronts.items; waiting = c.self.inside.waiting; courses = c.self.inside.courses.items } in
     let link : ℕ = c.in-Some.link in
     let f : Frag = c.args.fragment.now in
     let at : c.front_of.result ≡ front_at old.fronts link = c.front_of.ensures ∙ ap (λ fronts. front_at fronts link) c.deref-2.ensures.value in

@@ -30,7 +30,6 @@ fn manager_rows(
 ) -> Result<Vec<Row>, AllocError>
     ensures { IfOk result (λ rows. rows.items ≡ rows_by law (manager_at topo.now manager (areas_of regions.now)) (manager_beats topo.now present.now manager)) }
 {
-    let _ = present.is_empty();
     let links = clients_of(alloc, topo, manager)?;
     let walk = present.walk(alloc, &links)?;
     midway_rows(alloc, topo, manager, regions, law, walk)
@@ -64,6 +63,7 @@ pub fn midway_report(alloc: Global, inputs: &Inputs, law: Midway) -> Result<Vec<
 {
     let topo = inputs.topo();
     let present = inputs.present();
+    // Fragments of a link share no number and no cycle.
     let _ = present.is_empty();
     let watches = inputs.watches(alloc)?;
     let mut rows = managers_rows(alloc, topo, present, inputs.regions(), law)?;

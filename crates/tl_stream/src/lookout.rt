@@ -77,7 +77,6 @@ pub(crate) fn placed(
 {
     let mut present = Present::new(alloc);
     present.put(link, Arc::try_clone(fragment)?)?;
-    let _ = present.is_empty();
     present.link_beats(alloc, link)
 }
 

@@ -51,6 +51,7 @@ fn joined(
     requires parsed { ArePartsParsed texts.now share parts.items }
     ensures { IfOk result (AreParsed texts.now) }
 {
+    // Only the contract speaks of these.
     let _ = texts.len();
     let _ = share;
     let mut fragments = Vec::new(alloc);

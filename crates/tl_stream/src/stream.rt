@@ -195,7 +195,6 @@ impl Stream {
     pub fn topo(&self) -> &Topo
         ensures { result.now ≡ self.now.topo }
     {
-        let _ = &self.courses;
         &self.topo
     }
 
@@ -203,7 +202,6 @@ impl Stream {
     pub fn shared_topo(&self) -> &Arc<Topo>
         ensures { arc_value result.now ≡ self.now.topo }
     {
-        let _ = &self.courses;
         &self.topo
     }
 

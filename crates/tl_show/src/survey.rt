@@ -95,7 +95,6 @@ fn manager_survey(
     ensures exact { IfOk result (λ survey. IsSurvey topo.now present.now manager rows.now survey) }
     ensures sound { IfOk result (λ survey. AllByRecursion (IsSoundTold topo.now) survey.told.items) }
 {
-    let _ = present.is_empty();
     let exponent = topo.block(manager).unwrap();
     let links = clients_of(alloc, topo, manager)?;
     let beats = present.beats(alloc, &links)?;

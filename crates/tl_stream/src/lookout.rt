@@ -77,6 +77,8 @@ pub(crate) fn placed(
 {
     let mut present = Present::new(alloc);
     present.put(link, Arc::try_clone(fragment)?)?;
+    // Of what is there each number and each cycle is one fragment's.
+    let _ = present.is_empty();
     present.link_beats(alloc, link)
 }
 

@@ -41,7 +41,6 @@ impl Watches {
         ensures left { OnErr result ((monitor.new.tally ≡ monitor.old.tally) ⊎ IsAmidWindow self.old key monitor.old.watch monitor.new.tally) }
         ensures err { OnErr result (self.new ≡ self.old) }
     {
-        let _ = &self.spans;
         let stored = self.judged(alloc, key, monitor)?;
         keep(&mut self.pieces, key, stored);
         Ok(())
@@ -75,9 +74,9 @@ impl Watches {
         ensures report { IfOk result (λ rows. IsReport (captures_after (standing self.now.spans)) rows.items) }
         ensures links { IfOk result (λ rows. All (λ row. row.link < length self.now.spans.log.topo.links) rows.items) }
     {
-        let _ = self.spans.log().inputs().present().is_empty();
+        // What stands, and that each result begins with what the one before it ended with.
+        let _ = self.spans().present();
         let _ = self.pieces.settled();
-        let _ = self.pieces.len();
         let mut rows = self.spans.rows(alloc)?;
         let flagged = gathered(alloc, &self.pieces)?;
         rows.extend_from_slice(&flagged)?;

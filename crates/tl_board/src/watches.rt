@@ -66,15 +66,22 @@ impl Watches {
         &self.spans
     }
 
+    /// The windows of monitors. Their keys rise, and each is of a monitor that is attached.
+    pub(crate) fn pieces(&self) -> &PieceMap<Tally, Rows>
+        ensures exact { result.now ≡ self.now.board }
+        ensures kept { AreWatches (standing self.now.spans) self.now.board }
+        ensures board { IsBoard self.now.board }
+    {
+        let _ = self.pieces.len();
+        &self.pieces
+    }
+
     /// The fragments that stand. They are such as may stand beside each other.
     pub fn present(&self) -> &Present
         ensures exact { result.now ≡ (standing self.now.spans).fragments }
         ensures kept { IsPresent (standing self.now.spans).fragments }
     {
-        let _ = &self.pieces;
-        let present = self.spans.log().inputs().present();
-        let _ = present.is_empty();
-        present
+        self.spans().present()
     }
 
     /// Whether every window, of managers and of monitors, has a result, and each begins with what the one before it ended with.
@@ -93,7 +100,7 @@ impl Watches {
         ensures entry { IfSome result (HasTrueEntry SameTally self.old.board) }
         ensures same { self.new ≡ self.old }
     {
-        let _ = &self.spans;
+        // The keys rise, and each is of a monitor that is attached.
         let _ = self.pieces.len();
         self.pieces.first_wanted()
     }

@@ -5,7 +5,7 @@ ghost use Rattle.std.specs.List.{Contains};
 ghost use Rattle.tl_capture.specs.declared.key.PieceKey.{PieceKey as AnyKey};
 ghost use Rattle.tl_capture.specs.Keys.{change};
 ghost use Rattle.tl_capture.specs.Marks.{pass_of};
-ghost use Rattle.tl_capture.specs.Pieces.{opening_of, piece_at, with_pieces};
+ghost use Rattle.tl_capture.specs.Pieces.{opening_of, piece_at, with_pieces, IsBoard};
 ghost use Rattle.tl_board.specs.Windows.{key_of, with_checked, AreKeysOf, IsGrown, HasAll, IsTaken, IsPruned, AreBlank};
 ghost use Rattle.tl_capture.specs.Windows.{HasBeat};
 ghost use Rattle.tl_definitions.specs.Positions.{beats_of_all};
@@ -47,7 +47,10 @@ pub fn grow<S: Same + Drop, R: Drop>(
     requires { (key : AnyKey) → Contains keys.now key → is_some (opening_of key.owner pieces.old.openings) ≡ true }
     ensures grown { IsGrown keys.now pieces.old pieces.new }
     ensures all { OnOk result (HasAll keys.now pieces.new) }
+    ensures board { IsBoard pieces.old }
 {
+    // The keys rise, and each is of an owner.
+    let _ = pieces.len();
     for key in keys {
         if !pieces.contains(*key) {
             pieces.insert(*key)?;
@@ -84,6 +87,7 @@ pub fn keep<S: Same + Drop, R: Drop>(
 fn take_out<S: Same + Drop, R: Drop>(pieces: &mut PieceMap<S, R>, key: PieceKey)
     ensures { IsTaken key pieces.old pieces.new }
 {
+    // The keys rise.
     let _ = pieces.len();
     if pieces.contains(key) {
         pieces.remove(key);
@@ -97,11 +101,14 @@ pub fn prune<S: Same + Drop, R: Drop>(
     links: &[u16],
     keys: &[PieceKey],
 )
-    ensures { IsPruned (HasBeat (beats_of_all links.now present.now)) keys.now pieces.old pieces.new }
+    ensures pruned { IsPruned (HasBeat (beats_of_all links.now present.now)) keys.now pieces.old pieces.new }
+    ensures board { IsBoard pieces.new }
 {
     for key in keys {
         if !present.has_beat(key.window, links) {
             take_out(pieces, *key);
         }
     }
+    // The keys rise, and each is of an owner.
+    let _ = pieces.len();
 }

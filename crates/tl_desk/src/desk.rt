@@ -66,9 +66,8 @@ impl<M: Monitor> Desk<M> {
         // All of this, and that keys, owners and numbers rise.
         ensures desk { IsDesk self.now }
     {
+        // The numbers of monitors rise.
         let _ = self.boxes.settlements();
-        let _ = &self.reports;
-        let _ = &self.tickets;
         let windows = self.windows.spans();
         windows.log()
     }
@@ -77,9 +76,6 @@ impl<M: Monitor> Desk<M> {
     pub fn settled(&self) -> bool
         ensures { Decides result (AllSettled self.now) }
     {
-        let _ = &self.boxes;
-        let _ = &self.reports;
-        let _ = &self.tickets;
         self.windows.settled()
     }
 
@@ -91,9 +87,6 @@ impl<M: Monitor> Desk<M> {
         // The topology has the links of its rows.
         ensures links { IfSome result (λ report. AreLinked self.now.windows.spans.log.topo report.now.rows) }
     {
-        let _ = &self.windows;
-        let _ = &self.boxes;
-        let _ = &self.tickets;
         self.reports.last()
     }
 
@@ -106,9 +99,6 @@ impl<M: Monitor> Desk<M> {
         // The topology has the links of its rows.
         ensures links { IfSome result (λ report. AreLinked self.now.windows.spans.log.topo report.now.rows) }
     {
-        let _ = &self.windows;
-        let _ = &self.boxes;
-        let _ = &self.tickets;
         let place = version.checked_sub(1)?;
         self.reports.get(place as usize)
     }
@@ -122,9 +112,6 @@ impl<M: Monitor> Desk<M> {
         // The numbers of monitors rise.
         ensures kept { IsBoxes self.now.boxes }
     {
-        let _ = &self.windows;
-        let _ = &self.reports;
-        let _ = &self.tickets;
         self.boxes.settlements()
     }
 
@@ -151,6 +138,7 @@ impl<M: Monitor> Desk<M> {
             tickets: _,
         } = self;
         let log = windows.into_log();
+        // The numbers of monitors rise.
         let _ = boxes.settlements();
         let told = boxes.finish(log.len());
         Ok((log, told))
@@ -160,9 +148,6 @@ impl<M: Monitor> Desk<M> {
     pub(crate) fn first_away(&self) -> Option<u32>
         ensures { result ≡ first_out self.now.boxes.slots }
     {
-        let _ = &self.windows;
-        let _ = &self.reports;
-        let _ = &self.tickets;
         self.boxes.first_away()
     }
 }

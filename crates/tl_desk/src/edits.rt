@@ -50,6 +50,7 @@ impl BoxChange {
         ensures made { boxes.new ≡ boxes_changed self number boxes.old }
         ensures order { IsStrictlySortedBy nat_cmp (keys_of boxes.old.slots) }
     {
+        // The numbers of monitors rise.
         let _ = boxes.settlements();
         match self {
             BoxChange::Nothing => {}
@@ -70,12 +71,8 @@ impl<M: Monitor> Desk<M> {
         ensures memory { IsErrOf result EditFault.Memory → refusal (length (log_of self.old).edits) (standing self.old) (plain_change change) ≡ None }
         ensures err { OnErr result (self.new ≡ self.old) }
     {
-        let _ = &self.reports;
-        let _ = &self.tickets;
         let of_boxes = BoxChange::of(&change);
-        let _ = self.windows.present();
         let number = self.windows.edit(alloc, Edit::Change(change))?;
-        let _ = self.windows.present();
         of_boxes.apply(&mut self.boxes, number);
         Ok(number)
     }
@@ -90,9 +87,6 @@ impl<M: Monitor> Desk<M> {
         ensures back { IfErr result (λ e. M.held e.1 ≡ M.held monitor) }
         ensures err { OnErr result (self.new ≡ self.old) }
     {
-        let _ = &self.reports;
-        let _ = &self.tickets;
-        let _ = self.windows.present();
         let watched = Watched::new(monitor);
         let edit = Edit::Attach(number, watched.watch());
         if let Some(fault) = self.windows.spans().log().refusal(&edit) {
@@ -117,16 +111,10 @@ impl<M: Monitor> Desk<M> {
         ensures back { IfErr result (λ back. back ≡ watched) }
         ensures err { OnErr result (self.new ≡ self.old) }
     {
-        let _ = &self.reports;
-        let _ = &self.tickets;
-        let _ = self.windows.present();
         let edit = Edit::Attach(number, watched.watch());
         self.boxes.attach(number, watched)?;
         match self.windows.accept(alloc, edit) {
-            Ok(number) => {
-                let _ = self.windows.present();
-                Ok(number)
-            }
+            Ok(number) => Ok(number),
             Err(_) => Err(self.boxes.give_back(number).unwrap()),
         }
     }

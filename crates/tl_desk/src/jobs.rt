@@ -81,9 +81,6 @@ impl<M: Monitor> Desk<M> {
         ensures step { result ≡ true → Step self.old (call.Recall ticket) self.new }
         ensures rest { result ≡ false → self.new ≡ self.old }
     {
-        let _ = &self.windows;
-        let _ = &self.boxes;
-        let _ = &self.reports;
         let Some(taken) = self.tickets.taken(ticket) else {
             return false;
         };

@@ -51,6 +51,7 @@ fn first_here<M: Monitor>(
     ensures there { IfSome result (λ key. is_some (piece_at key windows.now.board) ≡ true) }
     ensures here { IfSome result (λ key. IsHere boxes.now key.owner) }
 {
+    // The keys rise.
     let _ = windows.spans();
     let mut found = first;
     while let Some(key) = found {
@@ -71,8 +72,6 @@ impl<M: Monitor> Desk<M> {
         ensures here { IfSome result (λ key. IsHere self.old.boxes key.owner) }
         ensures same { self.new ≡ self.old }
     {
-        let _ = &self.reports;
-        let _ = &self.tickets;
         let first = self.windows.first_free_watch();
         first_here(&self.windows, &self.boxes, first)
     }
@@ -92,7 +91,6 @@ impl<M: Monitor> Desk<M> {
         ensures memory { IsErrOf result TakeFault.Memory → self.old.tickets.last < most_tickets }
         ensures err { OnErr result (self.new ≡ self.old) }
     {
-        let _ = &self.reports;
         if self.tickets.are_spent() {
             return Err(TakeFault::TicketsSpent);
         }
@@ -102,7 +100,6 @@ impl<M: Monitor> Desk<M> {
         let ticket = self.tickets.give(Taken { piece, edits })?;
         let monitor = self.boxes.take_box(key.owner, ticket).unwrap();
         self.windows.set_live_watch(key, Some(ticket));
-        let _ = self.tickets.are_spent();
         Ok(MonitorJob::new(ticket, window.for_monitor(monitor)))
     }
 
@@ -143,9 +140,6 @@ impl<M: Monitor> Desk<M> {
         ensures step { result ≡ true → RecallsWatch self.old ticket self.new }
         ensures rest { result ≡ false → self.new ≡ self.old }
     {
-        let _ = &self.boxes;
-        let _ = &self.reports;
-        let _ = &self.tickets;
         let owner = number;
         unmark(&mut self.windows, PieceKey { owner, window }, ticket)
     }
@@ -154,8 +148,6 @@ impl<M: Monitor> Desk<M> {
     fn is_own(&self, job: &MonitorJob<M>) -> bool
         ensures { Decides result (IsOwn self.now job.now) }
     {
-        let _ = &self.windows;
-        let _ = &self.reports;
         if !self.tickets.is_out(job.ticket(), &job.piece()) {
             return false;
         }
@@ -169,9 +161,6 @@ impl<M: Monitor> Desk<M> {
     fn is_fresh_watch(&self, job: &MonitorJob<M>) -> bool
         ensures { Decides result (IsFreshWatch self.now job.now) }
     {
-        let _ = &self.boxes;
-        let _ = &self.reports;
-        let _ = &self.tickets;
         let Some(live) = self.windows.live_watch(watch_key(job.task())) else {
             return false;
         };
@@ -187,12 +176,11 @@ impl<M: Monitor> Desk<M> {
         requires fresh { IsFreshWatch self.old done.job }
         ensures { AcceptsWatch self.old done self.new }
     {
-        let _ = &self.reports;
+        // The numbers of monitors rise.
         let _ = self.boxes.settlements();
         let (ticket, task, stored) = done.into_parts();
         self.windows.hand_in_watch(&task, stored);
         self.tickets.end(ticket);
-        let _ = self.tickets.are_spent();
         let number = task.number();
         let monitor = task.into_monitor();
         self.boxes.bring_back(number, monitor);
@@ -203,12 +191,11 @@ impl<M: Monitor> Desk<M> {
         requires { IsOwn self.old job }
         ensures { EndsWatch self.old job self.new }
     {
-        let _ = &self.reports;
+        // The numbers of monitors rise.
         let _ = self.boxes.settlements();
         let (ticket, task) = job.into_parts();
         unmark(&mut self.windows, watch_key(&task), ticket);
         self.tickets.end(ticket);
-        let _ = self.tickets.are_spent();
         let task_number = task.number();
         let monitor = task.into_monitor();
         self.boxes.bring_back(task_number, monitor);

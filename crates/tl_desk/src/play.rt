@@ -139,7 +139,6 @@ impl<M: Monitor> Desk<M> {
         ensures out { (places : List (Place M)) → AreOut places self.old → AreOut places self.new }
     {
         let _ = self.log();
-        let _ = self.settlements();
         match self.edit(alloc, change) {
             Ok(number) => Reply::Edited(number),
             Err(fault) => Reply::EditRefused(fault),
@@ -151,7 +150,6 @@ impl<M: Monitor> Desk<M> {
         ensures out { (places : List (Place M)) → AreOut places self.old → AreOut places self.new }
     {
         let _ = self.log();
-        let _ = self.settlements();
         match self.attach(alloc, number, monitor) {
             Ok(number) => Reply::Edited(number),
             Err((fault, _monitor)) => Reply::EditRefused(fault),
@@ -166,7 +164,6 @@ impl<M: Monitor> Desk<M> {
         ensures room { (vec_capacity places.new ≡ vec_capacity places.old) × (vec_len places.new ≤ vec_len places.old + 1) }
     {
         let _ = self.log();
-        let _ = self.settlements();
         match self.take(alloc) {
             Ok(Some(job)) => {
                 let ticket = job.ticket();
@@ -185,7 +182,6 @@ impl<M: Monitor> Desk<M> {
         ensures room { (vec_capacity places.new ≡ vec_capacity places.old) × (vec_len places.new ≡ vec_len places.old) }
     {
         let _ = self.log();
-        let _ = self.settlements();
         let Some(done) = done_out(places, at) else {
             return Reply::Nothing;
         };
@@ -203,7 +199,6 @@ impl<M: Monitor> Desk<M> {
         ensures room { (vec_capacity places.new ≡ vec_capacity places.old) × (vec_len places.new ≡ vec_len places.old) }
     {
         let _ = self.log();
-        let _ = self.settlements();
         let Some(job) = job_out(places, at) else {
             return Reply::Nothing;
         };
@@ -250,7 +245,6 @@ impl<M: Monitor> Desk<M> {
         ensures out { (rest : List (Place M)) → AreOut (place ∷ rest) self.old → AreOut rest self.new }
     {
         let _ = self.log();
-        let _ = self.settlements();
         let Some(job) = place.into_job() else {
             return;
         };

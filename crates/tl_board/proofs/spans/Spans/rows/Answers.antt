@@ -4,7 +4,7 @@ use Rattle.tl_edits.specs.Inputs.{InputData}
 use Rattle.tl_check.specs.Captured.{areas_at}
 use Rattle.tl_check.specs.Found.{AreFound}
 use Rattle.tl_capture.specs.Present.{IsPresent}
-use Rattle.tl_capture.specs.Pieces.{IsSettled}
+use Rattle.tl_capture.specs.Pieces.{IsBoard, IsSettled}
 use Rattle.tl_check.specs.States.{SameSpan}
 use Rattle.tl_board.specs.Spans.{SpansData, standing}
 use Rattle.tl_board.proofs.FoundLemmas.{all_found}
@@ -14,9 +14,10 @@ pub returns : goal.returns
 returns c =
     let inside : SpansData = record { log = c.self.inside.log; board = c.self.inside.pieces } in
     let now : InputData = standing inside in
-    let same_topo : now.topo ≡ inside.log.topo = ap (λ (i : InputData). i.topo) (sym c.inputs.ensures.exact) ∙ c.inputs.ensures.topo in
-    let fragments : c.present.result.now ≡ now.fragments = c.present.ensures ∙ ap (λ (i : InputData). i.fragments) c.inputs.ensures.exact in
-    let found = all_found now inside.log.topo same_topo inside.board c.self.invariant.managers c.self.invariant.covered c.len.ensures.kept
-    (subst IsPresent fragments c.is_empty.ensures.kept) (c.settled.ensures.chains (c.settled.ensures.settled.1 (subst (λ (s : SpansData). IsSettled SameSpan s.board) (sym c.self.view_is) c.requires))) in
+    let now_is : inside ≡ c.args.self.now = c.self.view_is in
+    let same_topo : now.topo ≡ inside.log.topo = subst (λ (s : SpansData). (standing s).topo ≡ s.log.topo) (sym now_is) c.present.ensures.topo in
+    let present : IsPresent now.fragments = subst (λ (s : SpansData). IsPresent (standing s).fragments) (sym now_is) c.present.ensures.kept in
+    let board : IsBoard inside.board = subst (λ (s : SpansData). IsBoard s.board) (sym now_is) c.present.ensures.board in
+    let found = all_found now inside.log.topo same_topo inside.board c.self.invariant.managers c.self.invariant.covered board present (c.settled.ensures.chains (c.settled.ensures.settled.1 (subst (λ (s : SpansData). IsSettled SameSpan s.board) (sym c.self.view_is) c.requires))) in
     subst (λ (s : SpansData). AreFound (captures_of s.log.topo (areas_at (standing s).regions) (standing s).fragments) c.in_ok-rows.rows.items) c.self.view_is
     (subst (AreFound (captures_of inside.log.topo (areas_at now.regions) now.fragments)) (sym c.in_ok-rows.ensures) found)

@@ -26,4 +26,4 @@ invariant_of-self g c =
     c.bring_back.ensures ∙ ap (λ n. brought_back n c.into_monitor-monitor.result inside.boxes) (c.number-number.ensures.exact ∙ ap (λ (t : WatchTaskData). t.number) c.into_parts-ticket.ensures.task)
     ∙ ap (λ h. brought_back job.task.number h inside.boxes) (c.into_monitor-monitor.ensures ∙ ap (λ (t : WatchTaskData). t.held) c.into_parts-ticket.ensures.task) in
     sound_back inside c.self.invariant job c.hand_in_watch.new.self c.bring_back.new.self c.end.new.self own c.settlements.ensures.kept (watch_handed_in_spans inside.windows c.hand_in_watch.new.self _ _ c.hand_in_watch.ensures)
-    quiet comes (c.end.ensures ∙ ap (λ n. ended n inside.tickets) c.into_parts-ticket.ensures.ticket) c.are_spent.ensures.kept
+    quiet comes (c.end.ensures.exact ∙ ap (λ n. ended n inside.tickets) c.into_parts-ticket.ensures.ticket) c.end.ensures.kept

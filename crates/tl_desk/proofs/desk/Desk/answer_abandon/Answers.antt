@@ -23,7 +23,7 @@ returns-clause-out g c =
     let job = c.in-Some.job in
     let is : job_at c.args.at c.args.places.now.items ≡ Some job = ap (option_and_then job_of) c.in-Some.ensures.some.0 in
     let back : TakesBack old job new = subst (λ r. OnOk r (TakesBack old job new)) c.unwrap.ensures c.abandon.ensures.ended in
-    subst (λ ps. AreOut ps new) (sym c.in-Some.ensures.some.1) (out_abandoned c.args.places.now.items c.args.at job old new is c.log.ensures.kept c.settlements.ensures.kept c.requires back)
+    subst (λ ps. AreOut ps new) (sym c.in-Some.ensures.some.1) (out_abandoned c.args.places.now.items c.args.at job old new is c.log.ensures.kept c.log.ensures.desk.boxes c.requires back)
 
 pub returns-clause-answers : goal.returns-clause-answers
 returns-clause-answers g c =

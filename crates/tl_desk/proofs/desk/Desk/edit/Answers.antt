@@ -21,5 +21,5 @@ invariant_of-self-2 g c =
     let ends : HaveEnded c.edit.new.self.spans.log (boxes_after e c.in_ok-number.number old.boxes) =
     ends_changed (log_of old) c.edit.new.self.spans.log c.args.change c.in_ok-number.number old.boxes c.apply.ensures.order c.self.invariant.attached c.self.invariant.ends c.in_ok-number.ensures.accepted
     c.in_ok-number.ensures.ok.spans.log c.in_ok-number.ensures.number (stands old.windows.spans e c.edit.new.self.spans.log c.edit.new.self.spans.board c.in_ok-number.ensures.ok.spans.log) in
-    sound_edited old e c.edit.new.self c.apply.new.boxes c.self.invariant c.in_ok-number.ensures.ok c.present.ensures.kept c.present-2.ensures.kept
+    sound_edited old e c.edit.new.self c.apply.new.boxes c.self.invariant c.in_ok-number.ensures.ok c.in_ok-number.ensures.before c.in_ok-number.ensures.after
     (subst (λ (b : BoxesData). Keeps (changed (standing old) e) old.boxes b) (sym boxes) kept) (subst (HaveEnded c.edit.new.self.spans.log) (sym boxes) ends)

@@ -26,4 +26,4 @@ invariant_of-self g c =
     c.bring_back.ensures ∙ ap (λ n. brought_back n c.into_monitor-monitor.result inside.boxes) (c.number-task_number.ensures.exact ∙ ap (λ (t : WatchTaskData). t.number) c.into_parts-ticket.ensures.task)
     ∙ ap (λ h. brought_back job.task.number h inside.boxes) (c.into_monitor-monitor.ensures ∙ ap (λ (t : WatchTaskData). t.held) c.into_parts-ticket.ensures.task) in
     sound_back inside c.self.invariant job c.unmark.new.windows c.bring_back.new.self c.end.new.self own c.settlements.ensures.kept (watch_unmarked_spans inside.windows c.unmark.new.windows (watch_key_for job) job.ticket made)
-    (watch_unmarked inside.windows c.unmark.new.windows (watch_key_for job) job.ticket made) comes (c.end.ensures ∙ ap (λ n. ended n inside.tickets) c.into_parts-ticket.ensures.ticket) c.are_spent.ensures.kept
+    (watch_unmarked inside.windows c.unmark.new.windows (watch_key_for job) job.ticket made) comes (c.end.ensures.exact ∙ ap (λ n. ended n inside.tickets) c.into_parts-ticket.ensures.ticket) c.end.ensures.kept

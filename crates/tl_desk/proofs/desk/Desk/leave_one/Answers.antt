@@ -40,4 +40,4 @@ returns-clause-out g c = λ rest are. (
     let job = c.in-Some.job in
     let is : job_of c.args.place ≡ Some job = sym c.into_job.ensures ∙ c.in-Some.is in
     let back : TakesBack old job new = subst (λ r. OnOk r (TakesBack old job new)) c.unwrap.ensures c.abandon.ensures.ended in
-    left_out c.args.place rest job old new is c.log.ensures.kept c.settlements.ensures.kept are back)
+    left_out c.args.place rest job old new is c.log.ensures.kept c.log.ensures.desk.boxes are back)

@@ -130,22 +130,20 @@ impl Watches {
         ensures err { OnErr result (self.new ≡ self.old) }
     {
         let links = [link];
-        // The fragments may stand beside each other.
-        let _ = self.spans.present();
+        let present = self.spans.present();
         if grow(&mut self.pieces, keys).is_err() {
-            let present = self.spans.log().inputs().present();
             prune(&mut self.pieces, present, &links, keys);
             return Err(AllocError);
         }
         match self.spans.accept(alloc, edit, touched) {
             Ok(number) => {
-                let present = self.spans.log().inputs().present();
+                let present = self.spans.present();
                 prune(&mut self.pieces, present, &links, keys);
                 touch_each(&mut self.pieces, keys);
                 Ok(number)
             }
             Err(refused) => {
-                let present = self.spans.log().inputs().present();
+                let present = self.spans.present();
                 prune(&mut self.pieces, present, &links, keys);
                 Err(refused)
             }

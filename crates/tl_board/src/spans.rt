@@ -15,6 +15,7 @@ ghost use Rattle.tl_board.specs.Spans.{standing, HasManagers, IsSound};
 
 use crate::Rows;
 use crate::present::present_after;
+use crate::windows::known;
 use std::alloc::{AllocError, Global};
 use std::marker::Model;
 use std::sync::Arc;
@@ -80,6 +81,7 @@ impl Spans {
         // The keys of windows rise, and each is of a manager; so do the managers.
         ensures board { IsBoard self.now.board }
     {
+        // The keys rise.
         let _ = self.pieces.len();
         &self.log
     }
@@ -113,12 +115,13 @@ impl Spans {
     /// The rows of all windows: those that the rules of managers find in what stands. AllocError where memory is refused.
     pub fn rows(&self, alloc: Global) -> Result<Vec<Row>, AllocError>
         requires { IsSettled SameSpan self.now.board }
-        ensures { IfOk result (λ rows. AreFound (captures_of self.now.log.topo (areas_at (standing self.now).regions) (standing self.now).fragments) rows.items) }
+        ensures found { IfOk result (λ rows. AreFound (captures_of self.now.log.topo (areas_at (standing self.now).regions) (standing self.now).fragments) rows.items) }
+        ensures present { IsPresent (standing self.now).fragments }
+        ensures topo { (standing self.now).topo ≡ self.now.log.topo }
     {
-        // What stands, and that each result begins with what the one before it ended with.
+        // The fragments may stand beside each other.
         let _ = self.present();
-        let _ = self.pieces.settled();
-        let rows = gathered(alloc, &self.pieces)?;
+        let rows = gathered(alloc, known(&self.pieces))?;
         Ok(rows)
     }
 }

@@ -15,6 +15,7 @@ ghost use Rattle.tl_board.specs.Watches.{IsOfWatch, IsAmidWindow, ChecksWatch};
 
 use crate::tally::Tally;
 use crate::watches::Watches;
+use crate::windows::known;
 use crate::{Rows, gathered, keep};
 use std::alloc::{AllocError, Global};
 use tl_beats::Row;
@@ -74,11 +75,8 @@ impl Watches {
         ensures report { IfOk result (λ rows. IsReport (captures_after (standing self.now.spans)) rows.items) }
         ensures links { IfOk result (λ rows. All (λ row. row.link < length self.now.spans.log.topo.links) rows.items) }
     {
-        // What stands, and that each result begins with what the one before it ended with.
-        let _ = self.spans().present();
-        let _ = self.pieces.settled();
         let mut rows = self.spans.rows(alloc)?;
-        let flagged = gathered(alloc, &self.pieces)?;
+        let flagged = gathered(alloc, known(&self.pieces))?;
         rows.extend_from_slice(&flagged)?;
         Ok(sort_rows(rows))
     }

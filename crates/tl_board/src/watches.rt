@@ -11,6 +11,7 @@ ghost use Rattle.tl_board.specs.Spans.{standing};
 ghost use Rattle.tl_capture.specs.Present.{IsPresent};
 
 use crate::tally::Tally;
+use crate::windows::known;
 use crate::{Rows, Spans};
 use std::alloc::{AllocError, Global};
 use std::marker::Model;
@@ -62,6 +63,7 @@ impl Watches {
         ensures board { IsBoard self.now.board }
         ensures few { length self.now.board.pieces < 18446744073709551616 }
     {
+        // The keys rise.
         let _ = self.pieces.len();
         &self.spans
     }
@@ -72,8 +74,7 @@ impl Watches {
         ensures kept { AreWatches (standing self.now.spans) self.now.board }
         ensures board { IsBoard self.now.board }
     {
-        let _ = self.pieces.len();
-        &self.pieces
+        known(&self.pieces)
     }
 
     /// The fragments that stand. They are such as may stand beside each other.

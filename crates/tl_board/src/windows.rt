@@ -5,7 +5,7 @@ ghost use Rattle.std.specs.List.{Contains};
 ghost use Rattle.tl_capture.specs.declared.key.PieceKey.{PieceKey as AnyKey};
 ghost use Rattle.tl_capture.specs.Keys.{change};
 ghost use Rattle.tl_capture.specs.Marks.{pass_of};
-ghost use Rattle.tl_capture.specs.Pieces.{opening_of, piece_at, with_pieces, IsBoard};
+ghost use Rattle.tl_capture.specs.Pieces.{opening_of, piece_at, with_pieces, IsBoard, IsSettled, EachOwnerIsChained};
 ghost use Rattle.tl_board.specs.Windows.{key_of, with_checked, AreKeysOf, IsGrown, HasAll, IsTaken, IsPruned, AreBlank};
 ghost use Rattle.tl_capture.specs.Windows.{HasBeat};
 ghost use Rattle.tl_definitions.specs.Positions.{beats_of_all};
@@ -36,6 +36,18 @@ fn push_keys(owner: u32, windows: &[u64], keys: &mut Vec<PieceKey>) -> Result<()
         })?;
     }
     Ok(())
+}
+
+/// The same pieces. Their keys rise, and each is of an owner; where they are settled, each begins with what the one before it of its
+/// owner ended with.
+pub(crate) fn known<S: Same + Drop, R: Drop>(pieces: &PieceMap<S, R>) -> &PieceMap<S, R>
+    ensures same { result.now ≡ pieces.now }
+    ensures board { IsBoard pieces.now }
+    ensures chains { IsSettled S.same pieces.now → EachOwnerIsChained S.same pieces.now }
+{
+    let _ = pieces.len();
+    let _ = pieces.settled();
+    pieces
 }
 
 /// Puts in a piece for each of these keys, whose owners are there, that has none. AllocError where memory is refused: then some
@@ -87,9 +99,7 @@ pub fn keep<S: Same + Drop, R: Drop>(
 fn take_out<S: Same + Drop, R: Drop>(pieces: &mut PieceMap<S, R>, key: PieceKey)
     ensures { IsTaken key pieces.old pieces.new }
 {
-    // The keys rise.
-    let _ = pieces.len();
-    if pieces.contains(key) {
+    if known(pieces).contains(key) {
         pieces.remove(key);
     }
 }

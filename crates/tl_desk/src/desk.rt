@@ -127,6 +127,8 @@ impl<M: Monitor> Desk<M> {
         ensures once { IfOk result (λ done. AllHaveEnded (log_of self) done.1.items) }
         ensures out { IfErr result (λ back. first_out self.boxes.slots ≡ Some back.1) }
         ensures back { IfErr result (λ back. back.0 ≡ self) }
+        // The numbers of monitors rise.
+        ensures boxes { IsBoxes self.boxes }
     {
         if let Some(number) = self.first_away() {
             return Err((self, number));
@@ -138,16 +140,18 @@ impl<M: Monitor> Desk<M> {
             tickets: _,
         } = self;
         let log = windows.into_log();
-        // The numbers of monitors rise.
-        let _ = boxes.settlements();
         let told = boxes.finish(log.len());
         Ok((log, told))
     }
 
     /// The lowest number of a monitor that is out.
     pub(crate) fn first_away(&self) -> Option<u32>
-        ensures { result ≡ first_out self.now.boxes.slots }
+        ensures exact { result ≡ first_out self.now.boxes.slots }
+        // The numbers of monitors rise.
+        ensures boxes { IsBoxes self.now.boxes }
     {
+        // The numbers of monitors rise.
+        let _ = self.boxes.settlements();
         self.boxes.first_away()
     }
 }

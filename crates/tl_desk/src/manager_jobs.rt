@@ -10,6 +10,7 @@ ghost use Rattle.tl_check.specs.States.{SameSpan};
 ghost use Rattle.tl_board.specs.Tickets.{IsTaskFor};
 ghost use Rattle.tl_board.specs.Windows.{key_of};
 ghost use Rattle.tl_desk.specs.declared.piece.Piece.TheVariants as piece;
+ghost use Rattle.tl_desk.specs.Core.{IsSound};
 ghost use Rattle.tl_desk.specs.TicketData.{IsOutFor, most_tickets};
 ghost use Rattle.tl_desk.specs.Jobs.{IsLiveAt, IsFresh, Unmarks, Takes, Accepts, Ends, Recalls, HandsBack, key_for};
 
@@ -42,6 +43,7 @@ impl<M: Monitor> Desk<M> {
     pub(crate) fn first_free_manager(&mut self) -> Option<PieceKey>
         ensures first { IsFirstFree SameSpan self.old.windows.spans.board result }
         ensures there { IfSome result (λ key. is_some (piece_at key self.old.windows.spans.board) ≡ true) }
+        ensures kept { IsSound self.old }
         ensures same { self.new ≡ self.old }
     {
         self.windows.first_free_span()

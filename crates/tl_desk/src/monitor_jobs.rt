@@ -2,7 +2,7 @@
 
 ghost use Rattle.std.specs.Prelude.{◌≡◌, ◌<◌, IfOk, IfErr, IfSome, OnOk, OnErr, Some, None, true, false, is_some};
 ghost use Rattle.std.specs.Bool.{Decides};
-ghost use Rattle.std.specs.Option.{option_map};
+ghost use Rattle.std.specs.Option.{option_map, IsSomeAnd};
 ghost use Rattle.std.specs.Result.{IsErrOf};
 ghost use Rattle.tl_desk.specs.declared.job.Done.TheVariants as a_done;
 ghost use Rattle.tl_capture.specs.Pieces.{piece_at, IsFirstFree};
@@ -11,6 +11,7 @@ ghost use Rattle.tl_board.specs.Windows.{key_of};
 ghost use Rattle.tl_desk.specs.declared.piece.Piece.TheVariants as piece;
 ghost use Rattle.tl_desk.specs.TicketData.{IsOutFor, most_tickets};
 ghost use Rattle.tl_board.specs.Tally.{SameTally};
+ghost use Rattle.tl_monitor.specs.Boxes.{away_at, brought_back, IsBoxes};
 ghost use Rattle.tl_desk.specs.Core.{HaveNumbers};
 ghost use Rattle.tl_desk.specs.Jobs.{IsLiveAtWatch, IsFreshWatch, IsHere, IsFirstFreeHere, IsFirstFreeWatch, IsOwn, UnmarksWatch, TakesJob, AcceptsWatch, EndsWatch, RecallsWatch, HandsBack};
 
@@ -18,7 +19,7 @@ use crate::desk::Desk;
 use crate::tickets::Taken;
 use crate::{Done, HandIn, MonitorDone, MonitorJob, Piece, TakeFault};
 use std::alloc::Global;
-use tl_board::{Watches, is_watch, watch_key};
+use tl_board::{WatchTask, Watches, is_watch, watch_key};
 use tl_capture::PieceKey;
 use tl_monitor::{Boxes, Monitor};
 
@@ -35,6 +36,19 @@ fn unmark(windows: &mut Watches, key: PieceKey, ticket: u64) -> bool
     }
     windows.set_live_watch(key, None);
     true
+}
+
+/// Takes the monitor of a window back.
+fn bring_back<M: Monitor>(boxes: &mut Boxes<M>, task: WatchTask<M>)
+    requires { IsSomeAnd (away_at task.number boxes.old.slots) (λ away. away.taken ≡ task.held.watch) }
+    ensures exact { boxes.new ≡ brought_back task.number task.held boxes.old }
+    ensures kept { IsBoxes boxes.old }
+{
+    // The numbers of monitors rise.
+    let _ = boxes.settlements();
+    let number = task.number();
+    let monitor = task.into_monitor();
+    boxes.bring_back(number, monitor);
 }
 
 /// The first window of a monitor that is here, which is wanted and has no live ticket. It begins with the first such one of any
@@ -176,14 +190,10 @@ impl<M: Monitor> Desk<M> {
         requires fresh { IsFreshWatch self.old done.job }
         ensures { AcceptsWatch self.old done self.new }
     {
-        // The numbers of monitors rise.
-        let _ = self.boxes.settlements();
         let (ticket, task, stored) = done.into_parts();
         self.windows.hand_in_watch(&task, stored);
         self.tickets.end(ticket);
-        let number = task.number();
-        let monitor = task.into_monitor();
-        self.boxes.bring_back(number, monitor);
+        bring_back(&mut self.boxes, task);
     }
 
     /// Ends the ticket of a job, and takes its monitor back.
@@ -191,13 +201,9 @@ impl<M: Monitor> Desk<M> {
         requires { IsOwn self.old job }
         ensures { EndsWatch self.old job self.new }
     {
-        // The numbers of monitors rise.
-        let _ = self.boxes.settlements();
-        let (ticket, task) = job.into_parts();
-        unmark(&mut self.windows, watch_key(&task), ticket);
+        let (ticket, own) = job.into_parts();
+        unmark(&mut self.windows, watch_key(&own), ticket);
         self.tickets.end(ticket);
-        let task_number = task.number();
-        let monitor = task.into_monitor();
-        self.boxes.bring_back(task_number, monitor);
+        bring_back(&mut self.boxes, own);
     }
 }

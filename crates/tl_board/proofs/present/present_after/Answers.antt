@@ -1,4 +1,4 @@
-use Rattle.std.proofs.Common.{◌≡◌, sym, ap, subst, ◌∙◌}
+use Rattle.std.proofs.Common.{sym, ap, subst, ◌∙◌}
 use Rattle.tl_edits.specs.Inputs.{InputData}
 use Rattle.tl_capture.specs.Present.{IsPresent}
 use Rattle.tl_board.proofs.present.present_after.Goals as goal

@@ -1,4 +1,4 @@
-use Rattle.std.proofs.Common.{◌≡◌, refl, sym, ap, subst, ◌∙◌}
+use Rattle.std.proofs.Common.{refl, sym, ap, subst}
 use Rattle.tl_edits.specs.Edits.{AnEdit, plain}
 use Rattle.tl_edits.specs.Inputs.{InputData, changed}
 use Rattle.tl_capture.specs.Present.{IsPresent}

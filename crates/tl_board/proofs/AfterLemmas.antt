@@ -11,13 +11,12 @@ use Rattle.tl_beats.specs.declared.Row.{Row}
 use Rattle.tl_beats.specs.declared.watch.Watch.{Watch}
 use Rattle.tl_beats.specs.declared.watch.Watch.TheVariants as watch
 use Rattle.tl_definitions.specs.Passes.{IsPass}
-use Rattle.tl_definitions.specs.Positions.{Recorded, beats_of}
+use Rattle.tl_definitions.specs.Positions.{beats_of}
 use Rattle.tl_definitions.specs.Tallies.{watching, kept_tally}
 use Rattle.tl_definitions.specs.Watching.{IsWatch}
 use Rattle.tl_definitions.proofs.Lists.{contains_none, contains_cases}
 use Rattle.tl_edits.specs.Edits.{AnEdit, add, replace, withdraw, clear_link, set_region, remove_region, attach, retune, detach}
 use Rattle.tl_edits.specs.Inputs.{InputData, watch_at, changed}
-use Rattle.tl_edits.specs.Log.{LogData, inputs_after}
 use Rattle.tl_capture.specs.declared.key.PieceKey.{PieceKey}
 use Rattle.tl_capture.specs.Pieces.{Board, Pass, opening_of, piece_at, result_of, live_of}
 use Rattle.tl_check.specs.Captured.{watched_beats}
@@ -245,10 +244,7 @@ module _ (old : WatchesData) (e : AnEdit) (spans : SpansData) (edits : EditsTo o
   pub both_watched : AreWatches (standing old.spans) old.board → AreWatches (standing spans) new
   both_watched are = subst (λ now. AreWatches now new) (sym (stands old.spans e spans.log spans.board edits.log)) (watched_after (standing old.spans) e before after old.board new are is)
 
--- ---- what is read of what stands
-
-pub read_fragments : (spans : SpansData) (log : LogData) (inputs : InputData) (fs : List Recorded) → log ≡ spans.log → inputs ≡ inputs_after log.topo log.edits → fs ≡ inputs.fragments → fs ≡ (standing spans).fragments
-read_fragments spans log inputs fs of_spans stands_there is = is ∙ ap (λ (i : InputData). i.fragments) (stands_there ∙ ap (λ (l : LogData). inputs_after l.topo l.edits) of_spans)
+-- ---- what stands after an edit
 
 pub told : (old spans : SpansData) (e : AnEdit) → EditsTo old e spans → standing spans ≡ changed (standing old) e
 told old spans e edits = stands old e spans.log spans.board edits.log

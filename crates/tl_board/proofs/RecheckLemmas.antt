@@ -251,19 +251,22 @@ module _ {S R : Type 0} (same : S → S → Type 0) where
     pub board : IsBoard now
     pub passed : (key next : PieceKey) → Contains keys key → IsFirstWanted same now (Some next) → key_cmp key next ≡ Less
 
-  pub begun : (b : Board S R) → IsBoard b → IsUnderWay [] b b
+  pub none_checked : (b : Board S R) → ChecksThese same [] b b
   unfolding IsStrictlySortedBy
+  none_checked b = record {
+    openings = refl;
+    there = λ key. refl;
+    tickets = λ key h. absurd (contains_none key h);
+    rise = tt;
+    stale = λ key h. absurd (contains_none key h);
+    begins = λ key h. absurd (contains_none key h);
+    true_entries = λ key h. absurd (contains_none key h);
+    stays = λ key away. refl;
+  }
+
+  pub begun : (b : Board S R) → IsBoard b → IsUnderWay [] b b
   begun b is = record {
-    checked = record {
-      openings = refl;
-      there = λ key. refl;
-      tickets = λ key h. absurd (contains_none key h);
-      rise = tt;
-      stale = λ key h. absurd (contains_none key h);
-      begins = λ key h. absurd (contains_none key h);
-      true_entries = λ key h. absurd (contains_none key h);
-      stays = λ key away. refl;
-    };
+    checked = none_checked b;
     board = is;
     passed = λ key next h. absurd (contains_none key h);
   }

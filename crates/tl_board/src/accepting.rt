@@ -4,6 +4,8 @@ ghost use Rattle.std.specs.Prelude.{◌≡◌, ◌<◌, length, IfOk, IfErr, OnO
 ghost use Rattle.std.specs.Result.{IsErrOf};
 ghost use Rattle.tl_edits.specs.Edits.{plain, attach, retune, detach};
 ghost use Rattle.tl_edits.specs.Inputs.{refusal};
+ghost use Rattle.tl_capture.specs.Pieces.{without_owner, IsBoard};
+ghost use Rattle.tl_capture.specs.Present.{IsPresent};
 ghost use Rattle.tl_board.specs.Spans.{standing};
 ghost use Rattle.tl_board.specs.Touched.{IsTouched};
 ghost use Rattle.tl_board.specs.Accepting.{EditsBoth};
@@ -12,12 +14,23 @@ ghost use Rattle.tl_board.specs.TouchedWatches.{edited_monitor, AreTouched};
 use crate::tally::Tally;
 use crate::touched_watches::{edited_link, keys_with, known, watchers, windows_in};
 use crate::watches::Watches;
-use crate::{Touched, grow, keys_of, prune, touch_each, touches_of};
+use crate::{Rows, Touched, grow, keys_of, prune, touch_each, touches_of};
 use std::alloc::{AllocError, Global};
 use std::sync::Arc;
 use tl_beats::Watch;
-use tl_capture::PieceKey;
+use tl_capture::{PieceKey, PieceMap};
 use tl_edits::{Change, Edit, EditFault};
+
+/// Takes out the windows of a monitor. Their keys rise, before and after it, and each is of an owner.
+fn take_away(pieces: &mut PieceMap<Tally, Rows>, monitor: u32)
+    ensures gone { pieces.new ≡ without_owner monitor pieces.old }
+    ensures before { IsBoard pieces.old }
+    ensures after { IsBoard pieces.new }
+{
+    let _ = pieces.len();
+    pieces.remove_owner(monitor);
+    let _ = pieces.len();
+}
 
 impl Watches {
     /// Accepts an edit and answers its number, or refuses it: the first cause of `EditFault`, which stands then, or Memory where
@@ -28,12 +41,13 @@ impl Watches {
     pub fn edit(&mut self, alloc: Global, edit: Edit) -> Result<u64, EditFault>
         ensures number { IfOk result (λ number. number ≡ length self.new.spans.log.edits) }
         ensures ok { OnOk result (EditsBoth self.old (plain edit) self.new) }
+        ensures before { OnOk result (IsPresent (standing self.old.spans).fragments) }
+        ensures after { OnOk result (IsPresent (standing self.new.spans).fragments) }
         ensures accepted { OnOk result (refusal (length self.old.spans.log.edits) (standing self.old.spans) (plain edit) ≡ None) }
         ensures refused { IfErr result (λ fault. (fault ≡ EditFault.Memory → ⊥) → refusal (length self.old.spans.log.edits) (standing self.old.spans) (plain edit) ≡ Some fault) }
         ensures memory { IsErrOf result EditFault.Memory → refusal (length self.old.spans.log.edits) (standing self.old.spans) (plain edit) ≡ None }
         ensures err { OnErr result (self.new ≡ self.old) }
     {
-        let _ = &self.pieces;
         if let Some(fault) = self.spans.log().refusal(&edit) {
             return Err(fault);
         }
@@ -47,6 +61,8 @@ impl Watches {
         requires { refusal (length self.old.spans.log.edits) (standing self.old.spans) (plain edit) ≡ None }
         ensures number { IfOk result (λ number. number ≡ length self.new.spans.log.edits) }
         ensures ok { OnOk result (EditsBoth self.old (plain edit) self.new) }
+        ensures before { OnOk result (IsPresent (standing self.old.spans).fragments) }
+        ensures after { OnOk result (IsPresent (standing self.new.spans).fragments) }
         ensures err { OnErr result (self.new ≡ self.old) }
     {
         match &edit {
@@ -65,6 +81,8 @@ impl Watches {
         requires links { edited_monitor (plain edit) ≡ None }
         ensures number { IfOk result (λ number. number ≡ length self.new.spans.log.edits) }
         ensures ok { OnOk result (EditsBoth self.old (plain edit) self.new) }
+        ensures before { OnOk result (IsPresent (standing self.old.spans).fragments) }
+        ensures after { OnOk result (IsPresent (standing self.new.spans).fragments) }
         ensures err { OnErr result (self.new ≡ self.old) }
     {
         let touched = touches_of(alloc, self.spans.log().inputs(), &edit)?;
@@ -83,7 +101,6 @@ impl Watches {
         requires { IsTouched (standing self.now.spans) (plain edit.now) touched.now }
         ensures { IfOk result (λ keyed. AreTouched (standing self.now.spans) (plain edit.now) keyed.0 keyed.1.items) }
     {
-        let _ = &self.pieces;
         let inputs = self.spans.log().inputs();
         let Some(link) = edited_link(inputs.topo(), edit) else {
             return Ok((0, Vec::new(alloc)));
@@ -108,29 +125,26 @@ impl Watches {
         requires touched { AreTouched (standing self.old.spans) (plain edit) link keys.now }
         ensures number { IfOk result (λ number. number ≡ length self.new.spans.log.edits) }
         ensures ok { OnOk result (EditsBoth self.old (plain edit) self.new) }
+        ensures before { OnOk result (IsPresent (standing self.old.spans).fragments) }
+        ensures after { OnOk result (IsPresent (standing self.new.spans).fragments) }
         ensures err { OnErr result (self.new ≡ self.old) }
     {
         let links = [link];
-        let _ = self.spans.log().inputs().present().is_empty();
-        let _ = self.pieces.len();
+        let present = self.spans.present();
         if grow(&mut self.pieces, keys).is_err() {
-            let present = self.spans.log().inputs().present();
             prune(&mut self.pieces, present, &links, keys);
-            let _ = self.pieces.len();
             return Err(AllocError);
         }
         match self.spans.accept(alloc, edit, touched) {
             Ok(number) => {
-                let present = self.spans.log().inputs().present();
-                let _ = present.is_empty();
+                let present = self.spans.present();
                 prune(&mut self.pieces, present, &links, keys);
                 touch_each(&mut self.pieces, keys);
                 Ok(number)
             }
             Err(refused) => {
-                let present = self.spans.log().inputs().present();
+                let present = self.spans.present();
                 prune(&mut self.pieces, present, &links, keys);
-                let _ = self.pieces.len();
                 Err(refused)
             }
         }
@@ -141,30 +155,25 @@ impl Watches {
         requires none { refusal (length self.old.spans.log.edits) (standing self.old.spans) (attach monitor watch) ≡ None }
         ensures number { IfOk result (λ number. number ≡ length self.new.spans.log.edits) }
         ensures ok { OnOk result (EditsBoth self.old (attach monitor watch) self.new) }
+        ensures before { OnOk result (IsPresent (standing self.old.spans).fragments) }
+        ensures after { OnOk result (IsPresent (standing self.new.spans).fragments) }
         ensures err { OnErr result (self.new ≡ self.old) }
     {
         known(&watch);
-        let _ = self.pieces.len();
-        let inputs = self.spans.log().inputs();
-        let _ = inputs.present().is_empty();
+        let inputs = self.spans().log().inputs();
         let keys = keys_with(alloc, inputs, monitor, &watch)?;
         let keys = keys.as_slice();
         let opening = Arc::new(alloc, Tally { count: 0 })?;
         self.pieces.add_owner(monitor, opening)?;
         if grow(&mut self.pieces, keys).is_err() {
-            self.pieces.remove_owner(monitor);
-            let _ = self.pieces.len();
+            take_away(&mut self.pieces, monitor);
             return Err(AllocError);
         }
         let edit = Edit::Attach(monitor, watch);
         match self.spans.accept(alloc, edit, Touched::Nothing) {
-            Ok(number) => {
-                let _ = self.spans.log().inputs().present().is_empty();
-                Ok(number)
-            }
+            Ok(number) => Ok(number),
             Err(refused) => {
-                self.pieces.remove_owner(monitor);
-                let _ = self.pieces.len();
+                take_away(&mut self.pieces, monitor);
                 Err(refused)
             }
         }
@@ -175,12 +184,12 @@ impl Watches {
         requires none { refusal (length self.old.spans.log.edits) (standing self.old.spans) (retune monitor limit) ≡ None }
         ensures number { IfOk result (λ number. number ≡ length self.new.spans.log.edits) }
         ensures ok { OnOk result (EditsBoth self.old (retune monitor limit) self.new) }
+        ensures before { OnOk result (IsPresent (standing self.old.spans).fragments) }
+        ensures after { OnOk result (IsPresent (standing self.new.spans).fragments) }
         ensures err { OnErr result (self.new ≡ self.old) }
     {
-        let _ = self.spans.log().inputs().present().is_empty();
         let edit = Edit::Change(Change::Retune(monitor, limit));
         let number = self.spans.accept(alloc, edit, Touched::Nothing)?;
-        let _ = self.spans.log().inputs().present().is_empty();
         self.pieces.touch_all(monitor);
         Ok(number)
     }
@@ -190,14 +199,13 @@ impl Watches {
         requires none { refusal (length self.old.spans.log.edits) (standing self.old.spans) (detach monitor) ≡ None }
         ensures number { IfOk result (λ number. number ≡ length self.new.spans.log.edits) }
         ensures ok { OnOk result (EditsBoth self.old (detach monitor) self.new) }
+        ensures before { OnOk result (IsPresent (standing self.old.spans).fragments) }
+        ensures after { OnOk result (IsPresent (standing self.new.spans).fragments) }
         ensures err { OnErr result (self.new ≡ self.old) }
     {
-        let _ = self.pieces.len();
-        let _ = self.spans.log().inputs().present().is_empty();
         let edit = Edit::Change(Change::Detach(monitor));
         let number = self.spans.accept(alloc, edit, Touched::Nothing)?;
-        let _ = self.spans.log().inputs().present().is_empty();
-        self.pieces.remove_owner(monitor);
+        take_away(&mut self.pieces, monitor);
         Ok(number)
     }
 }

@@ -24,7 +24,6 @@ impl Spans {
         ensures checked { IfOk result (λ found. ChecksFirst self.old found self.new) }
         ensures err { OnErr result (self.new ≡ self.old) }
     {
-        let _ = &self.log;
         let Some(key) = self.pieces.first_wanted() else {
             return Ok(None);
         };

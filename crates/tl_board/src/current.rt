@@ -94,7 +94,6 @@ impl SpanTask {
         requires { HasNumbers regions.now }
         ensures { Decides result (IsCurrent topo.now regions.now present.now self.now) }
     {
-        let _ = &self.entry;
         if !have_same_links(&self.topo, topo) {
             return false;
         }

@@ -1,21 +1,40 @@
 //! Edits, and what they touch.
 
-ghost use Rattle.std.specs.Prelude.{◌≡◌, ◌<◌, length, IfOk, OnOk, OnErr, None, ℕ, ◌↔◌};
+ghost use Rattle.std.specs.Prelude.{◌≡◌, ◌<◌, ◌++◌, ◌∷◌, [], length, IfOk, OnOk, OnErr, None, ℕ, ◌↔◌};
 ghost use Rattle.std.specs.List.{Contains};
 ghost use Rattle.tl_edits.specs.Edits.{plain};
 ghost use Rattle.tl_edits.specs.Inputs.{refusal};
+ghost use Rattle.tl_edits.specs.Log.{inputs_after};
+ghost use Rattle.tl_capture.specs.Present.{IsPresent};
 ghost use Rattle.tl_board.specs.Spans.{standing};
 ghost use Rattle.tl_board.specs.Touched.{IsTouched};
 ghost use Rattle.tl_board.specs.Touch.{Touches};
 ghost use Rattle.tl_board.specs.declared.touched.Touched.TheVariants as variant;
 ghost use Rattle.tl_board.specs.Edits.{EditsTo};
 
+use crate::present::present_after;
 use crate::spans::Spans;
 use crate::touched::Touched;
 use crate::windows::{grow, keys_of, prune, touch_each};
 use std::alloc::{AllocError, Global};
 use tl_client_rules::clients_of;
-use tl_edits::Edit;
+use tl_edits::{Edit, Log};
+
+/// Accepts an edit that no cause refuses, and tells of the fragments before and after it.
+fn accepted(log: &mut Log, edit: Edit) -> Result<u64, AllocError>
+    requires { refusal (length log.old.edits) (inputs_after log.old.topo log.old.edits) (plain edit) ≡ None }
+    ensures number { IfOk result (λ number. number ≡ length log.new.edits) }
+    ensures ok { OnOk result (log.new ≡ record log.old { edits = log.old.edits ++ plain edit ∷ [] }) }
+    ensures err { OnErr result (log.new ≡ log.old) }
+    ensures topo { (inputs_after log.old.topo log.old.edits).topo ≡ log.old.topo }
+    ensures before { IsPresent (inputs_after log.old.topo log.old.edits).fragments }
+    ensures after { IsPresent (inputs_after log.new.topo log.new.edits).fragments }
+{
+    let _ = present_after(log);
+    let accepted = log.accept(edit);
+    let _ = present_after(log);
+    accepted
+}
 
 impl Spans {
     /// Accepts an edit that no cause refuses, and that touches exactly this, and answers its number. The windows that it touches
@@ -27,6 +46,8 @@ impl Spans {
         requires touched { IsTouched (standing self.old) (plain edit) touched }
         ensures number { IfOk result (λ number. number ≡ length self.new.log.edits) }
         ensures ok { OnOk result (EditsTo self.old (plain edit) self.new) }
+        ensures before { OnOk result (IsPresent (standing self.old).fragments) }
+        ensures after { OnOk result (IsPresent (standing self.new).fragments) }
         ensures err { OnErr result (self.new ≡ self.old) }
     {
         match touched {
@@ -46,12 +67,11 @@ impl Spans {
         requires touched { IsTouched (standing self.old) (plain edit) variant.Nothing }
         ensures number { IfOk result (λ number. number ≡ length self.new.log.edits) }
         ensures ok { OnOk result (EditsTo self.old (plain edit) self.new) }
+        ensures before { OnOk result (IsPresent (standing self.old).fragments) }
+        ensures after { OnOk result (IsPresent (standing self.new).fragments) }
         ensures err { OnErr result (self.new ≡ self.old) }
     {
-        let _ = &self.pieces;
-        let _ = self.log.inputs().present().is_empty();
-        let number = self.log.accept(edit)?;
-        let _ = self.log.inputs().present().is_empty();
+        let number = accepted(&mut self.log, edit)?;
         Ok(number)
     }
 
@@ -61,11 +81,11 @@ impl Spans {
         requires touched { IsTouched (standing self.old) (plain edit) (variant.All manager) }
         ensures number { IfOk result (λ number. number ≡ length self.new.log.edits) }
         ensures ok { OnOk result (EditsTo self.old (plain edit) self.new) }
+        ensures before { OnOk result (IsPresent (standing self.old).fragments) }
+        ensures after { OnOk result (IsPresent (standing self.new).fragments) }
         ensures err { OnErr result (self.new ≡ self.old) }
     {
-        let _ = self.log.inputs().present().is_empty();
-        let number = self.log.accept(edit)?;
-        let _ = self.log.inputs().present().is_empty();
+        let number = accepted(&mut self.log, edit)?;
         self.pieces.touch_all(u32::from(manager));
         Ok(number)
     }
@@ -83,29 +103,26 @@ impl Spans {
         requires touched { (number window : ℕ) → Touches (standing self.old) (plain edit) number window ↔ ((number ≡ manager) × Contains windows.now window) }
         ensures number { IfOk result (λ number. number ≡ length self.new.log.edits) }
         ensures ok { OnOk result (EditsTo self.old (plain edit) self.new) }
+        ensures before { OnOk result (IsPresent (standing self.old).fragments) }
+        ensures after { OnOk result (IsPresent (standing self.new).fragments) }
         ensures err { OnErr result (self.new ≡ self.old) }
     {
         let owner = u32::from(manager);
         let links = clients_of(alloc, self.log.inputs().topo(), manager)?;
         let keys = keys_of(alloc, &[owner], windows)?;
         let keys = keys.as_slice();
-        let _ = self.log.inputs().present().is_empty();
-        let _ = self.pieces.len();
         if grow(&mut self.pieces, keys).is_err() {
             prune(&mut self.pieces, self.log.inputs().present(), &links, keys);
-            let _ = self.pieces.len();
             return Err(AllocError);
         }
-        match self.log.accept(edit) {
+        match accepted(&mut self.log, edit) {
             Ok(number) => {
-                let _ = self.log.inputs().present().is_empty();
                 prune(&mut self.pieces, self.log.inputs().present(), &links, keys);
                 touch_each(&mut self.pieces, keys);
                 Ok(number)
             }
             Err(refused) => {
                 prune(&mut self.pieces, self.log.inputs().present(), &links, keys);
-                let _ = self.pieces.len();
                 Err(refused)
             }
         }

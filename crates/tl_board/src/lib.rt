@@ -6,6 +6,7 @@ mod checking;
 mod current;
 mod edits;
 mod outside;
+mod present;
 mod recheck;
 mod rechecks;
 mod rows;

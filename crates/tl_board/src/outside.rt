@@ -28,7 +28,7 @@ impl Watches {
         ensures attached { IfSome result (λ key. is_some (watch_at key.owner (standing self.old.spans).monitors) ≡ true) }
         ensures same { self.new ≡ self.old }
     {
-        let _ = &self.spans;
+        // The keys rise, and each is of a monitor that is attached.
         let _ = self.pieces.len();
         self.pieces.first_free()
     }
@@ -39,9 +39,7 @@ impl Watches {
         ensures there { IfSome result (λ key. is_some (piece_at key self.now.board) ≡ true) }
         ensures attached { IfSome result (λ key. is_some (watch_at key.owner (standing self.now.spans).monitors) ≡ true) }
     {
-        let _ = &self.spans;
-        let _ = self.pieces.len();
-        self.pieces.next_free(from)
+        self.pieces().next_free(from)
     }
 
     /// The first window of a monitor from a key on that is wanted.
@@ -50,9 +48,7 @@ impl Watches {
         ensures there { IfSome result (λ key. is_some (piece_at key self.now.board) ≡ true) }
         ensures attached { IfSome result (λ key. is_some (watch_at key.owner (standing self.now.spans).monitors) ≡ true) }
     {
-        let _ = &self.spans;
-        let _ = self.pieces.len();
-        self.pieces.next_wanted(from)
+        self.pieces().next_wanted(from)
     }
 
     /// A window of a monitor with all that its check asks but the monitor: the monitor's watch, its present beats, and what it is
@@ -61,8 +57,7 @@ impl Watches {
         requires { is_some (piece_at key self.now.board) ≡ true }
         ensures { IfOk result (IsWatchTaskFor self.now key) }
     {
-        let _ = self.pieces.len();
-        let inputs = self.spans.log().inputs();
+        let inputs = self.spans().log().inputs();
         let watch = inputs.watch(key.owner).unwrap();
         let entry = self.pieces.entry_for(key).unwrap();
         let present = inputs.present();
@@ -81,7 +76,6 @@ impl Watches {
     pub fn live_watch(&self, key: PieceKey) -> Option<u64>
         ensures { result ≡ live_of (piece_at key self.now.board) }
     {
-        let _ = &self.spans;
         self.pieces.live(key)
     }
 
@@ -89,7 +83,6 @@ impl Watches {
     pub fn set_live_watch(&mut self, key: PieceKey, live: Option<u64>)
         ensures { self.new ≡ record self.old { board = with_pieces self.old.board (change key (with_live live) self.old.board.pieces) } }
     {
-        let _ = &self.spans;
         self.pieces.set_live(key, live);
     }
 
@@ -98,7 +91,6 @@ impl Watches {
     pub fn is_current_watch<M: Monitor>(&self, task: &WatchTask<M>) -> bool
         ensures { Decides result (StandsInWatch (standing self.now.spans) task.now) }
     {
-        let _ = &self.pieces;
         let inputs = self.spans.log().inputs();
         match inputs.watch(task.number()) {
             Some(watch) => task.is_current(inputs.topo(), inputs.present(), &watch),
@@ -114,7 +106,6 @@ impl Watches {
         requires pass { IsWatchPassOf task.now (pass_of stored) }
         ensures { HandsInWatch self.old (key_of task.now.number task.now.window) (pass_of stored) self.new }
     {
-        let _ = &self.spans;
         let key = watch_key(task);
         if self.pieces.is_wanted(key) {
             keep(&mut self.pieces, key, stored);

@@ -17,6 +17,7 @@ impl Spans {
         ensures ok { IfOk result (λ count. Rechecks SameSpan self.old.board self.new.board count) }
         ensures err { OnErr result (ChecksSome SameSpan self.old.board self.new.board) }
     {
+        // The keys rise, and they are fewer than 2^64.
         let _ = self.pieces.len();
         let mut count = 0;
         while !self.settled() {

@@ -18,7 +18,6 @@ impl Watches {
         ensures err { OnErr result (ChecksSome SameSpan self.old.spans.board self.new.spans.board) }
         ensures rest { self.new.board ≡ self.old.board }
     {
-        let _ = &self.pieces;
         let count = self.spans.recheck_now(alloc)?;
         Ok(count)
     }

@@ -5,6 +5,7 @@ ghost use Rattle.std.specs.Bool.{Decides};
 ghost use Rattle.tl_capture.specs.Keys.{change};
 ghost use Rattle.tl_capture.specs.Marks.{pass_of};
 ghost use Rattle.tl_capture.specs.Pieces.{piece_at, entry_for, with_pieces, with_result, IsBoard, IsSettled, IsFirstWanted, HasTrueEntry};
+ghost use Rattle.tl_capture.specs.Present.{IsPresent};
 ghost use Rattle.tl_check.specs.Captured.{areas_at};
 ghost use Rattle.tl_check.specs.Found.{AreFound};
 ghost use Rattle.tl_definitions.specs.Captures.{captures_of};
@@ -13,11 +14,13 @@ ghost use Rattle.tl_board.specs.Rows.{all_rows};
 ghost use Rattle.tl_board.specs.Spans.{standing, HasManagers, IsSound};
 
 use crate::Rows;
+use crate::present::present_after;
+use crate::windows::known;
 use std::alloc::{AllocError, Global};
 use std::marker::Model;
 use std::sync::Arc;
 use tl_beats::Row;
-use tl_capture::PieceMap;
+use tl_capture::{PieceMap, Present};
 use tl_check::SpanState;
 use tl_edits::Log;
 use tl_state::Same;
@@ -78,8 +81,20 @@ impl Spans {
         // The keys of windows rise, and each is of a manager; so do the managers.
         ensures board { IsBoard self.now.board }
     {
+        // The keys rise.
         let _ = self.pieces.len();
         &self.log
+    }
+
+    /// The fragments that stand. They are such as may stand beside each other.
+    pub(crate) fn present(&self) -> &Present
+        ensures exact { result.now ≡ (standing self.now).fragments }
+        ensures kept { IsPresent (standing self.now).fragments }
+        ensures topo { (standing self.now).topo ≡ self.now.log.topo }
+        ensures sound { IsSound self.now }
+        ensures board { IsBoard self.now.board }
+    {
+        present_after(self.log())
     }
 
     /// The log alone.
@@ -100,12 +115,13 @@ impl Spans {
     /// The rows of all windows: those that the rules of managers find in what stands. AllocError where memory is refused.
     pub fn rows(&self, alloc: Global) -> Result<Vec<Row>, AllocError>
         requires { IsSettled SameSpan self.now.board }
-        ensures { IfOk result (λ rows. AreFound (captures_of self.now.log.topo (areas_at (standing self.now).regions) (standing self.now).fragments) rows.items) }
+        ensures found { IfOk result (λ rows. AreFound (captures_of self.now.log.topo (areas_at (standing self.now).regions) (standing self.now).fragments) rows.items) }
+        ensures present { IsPresent (standing self.now).fragments }
+        ensures topo { (standing self.now).topo ≡ self.now.log.topo }
     {
-        let _ = self.log.inputs().present().is_empty();
-        let _ = self.pieces.settled();
-        let _ = self.pieces.len();
-        let rows = gathered(alloc, &self.pieces)?;
+        // The fragments may stand beside each other.
+        let _ = self.present();
+        let rows = gathered(alloc, known(&self.pieces))?;
         Ok(rows)
     }
 }

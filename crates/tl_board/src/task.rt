@@ -86,7 +86,6 @@ impl SpanTask {
         ensures exact { result ≡ self.now.owner }
         ensures kept { IsTask self.now }
     {
-        let _ = &self.topo;
         self.manager
     }
 

@@ -25,7 +25,6 @@ impl Spans {
         ensures there { IfSome result (λ key. is_some (piece_at key self.old.board) ≡ true) }
         ensures same { self.new ≡ self.old }
     {
-        let _ = &self.log;
         self.pieces.first_free()
     }
 
@@ -35,9 +34,9 @@ impl Spans {
         requires { is_some (piece_at key self.now.board) ≡ true }
         ensures { IfOk result (IsTaskFor self.now key) }
     {
-        let _ = self.pieces.len();
-        let inputs = self.log.inputs();
+        let inputs = self.log().inputs();
         let topo = inputs.shared_topo();
+        // So many that the number of one has 16 bits.
         let _ = topo.manager_count();
         let manager = key.owner as u16;
         let regions = &inputs.regions()[usize::from(manager)];
@@ -50,7 +49,6 @@ impl Spans {
     pub fn live(&self, key: PieceKey) -> Option<u64>
         ensures { result ≡ live_of (piece_at key self.now.board) }
     {
-        let _ = &self.log;
         self.pieces.live(key)
     }
 
@@ -58,7 +56,6 @@ impl Spans {
     pub fn set_live(&mut self, key: PieceKey, live: Option<u64>)
         ensures { self.new ≡ record self.old { board = with_pieces self.old.board (change key (with_live live) self.old.board.pieces) } }
     {
-        let _ = &self.log;
         self.pieces.set_live(key, live);
     }
 
@@ -68,8 +65,7 @@ impl Spans {
         requires { is_some (piece_at (key_of task.now.owner task.now.window) self.now.board) ≡ true }
         ensures { Decides result (StandsIn (standing self.now) task.now) }
     {
-        let _ = self.pieces.len();
-        let inputs = self.log.inputs();
+        let inputs = self.log().inputs();
         let regions = &inputs.regions()[usize::from(task.manager())];
         task.is_current(inputs.topo(), regions, inputs.present())
     }
@@ -82,7 +78,6 @@ impl Spans {
         requires pass { IsPassOf task.now (pass_of stored) }
         ensures { HandsIn self.old (key_of task.now.owner task.now.window) (pass_of stored) self.new }
     {
-        let _ = &self.log;
         let key = window_key(task);
         if self.pieces.is_wanted(key) {
             keep(&mut self.pieces, key, stored);

@@ -6,6 +6,7 @@ ghost use Rattle.tl_topology.specs.Topology.{number_of_name};
 ghost use Rattle.tl_edits.specs.Edits.{plain, add, replace, withdraw, clear_link};
 ghost use Rattle.tl_board.specs.Touched.{IsLinkOf, IsTouched};
 
+use crate::present::kept;
 use std::alloc::{AllocError, Global};
 use std::sync::Arc;
 use tl_beats::Fragment;
@@ -86,9 +87,8 @@ fn by_clearing(alloc: Global, inputs: &Inputs, name: &Name) -> Result<Touched, A
     let Some((link, manager)) = link_of(inputs.topo(), name) else {
         return Ok(Touched::Nothing);
     };
-    let _ = inputs.present().is_empty();
     let links = [link];
-    let windows = inputs.present().windows(alloc, &links)?;
+    let windows = kept(inputs.present()).windows(alloc, &links)?;
     Ok(Touched::Windows(manager, windows))
 }
 

@@ -12,6 +12,7 @@ ghost use Rattle.tl_board.specs.Touched.{IsTouched};
 ghost use Rattle.tl_capture.specs.Windows.{HasBeat};
 ghost use Rattle.tl_board.specs.TouchedWatches.{edited_link, names_link, watchers};
 
+use crate::present::kept;
 use crate::{Touched, keys_of};
 use std::alloc::{AllocError, Global};
 use tl_beats::Watch;
@@ -84,8 +85,7 @@ pub(crate) fn keys_with(
     ensures { IfOk result (λ keys. (key : AnyKey) → Contains keys.items key
         ↔ ((key.owner ≡ monitor) × HasBeat (watched_beats inputs.now.topo inputs.now.fragments watch.now) key.window)) }
 {
-    let present = inputs.present();
-    let _ = present.is_empty();
+    let present = kept(inputs.present());
     let Some(link) = inputs.topo().link_of(&watch.link()) else {
         return Ok(Vec::new(alloc));
     };

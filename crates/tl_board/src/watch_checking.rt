@@ -15,6 +15,7 @@ ghost use Rattle.tl_board.specs.Watches.{IsOfWatch, IsAmidWindow, ChecksWatch};
 
 use crate::tally::Tally;
 use crate::watches::Watches;
+use crate::windows::known;
 use crate::{Rows, gathered, keep};
 use std::alloc::{AllocError, Global};
 use tl_beats::Row;
@@ -41,7 +42,6 @@ impl Watches {
         ensures left { OnErr result ((monitor.new.tally ≡ monitor.old.tally) ⊎ IsAmidWindow self.old key monitor.old.watch monitor.new.tally) }
         ensures err { OnErr result (self.new ≡ self.old) }
     {
-        let _ = &self.spans;
         let stored = self.judged(alloc, key, monitor)?;
         keep(&mut self.pieces, key, stored);
         Ok(())
@@ -75,11 +75,8 @@ impl Watches {
         ensures report { IfOk result (λ rows. IsReport (captures_after (standing self.now.spans)) rows.items) }
         ensures links { IfOk result (λ rows. All (λ row. row.link < length self.now.spans.log.topo.links) rows.items) }
     {
-        let _ = self.spans.log().inputs().present().is_empty();
-        let _ = self.pieces.settled();
-        let _ = self.pieces.len();
         let mut rows = self.spans.rows(alloc)?;
-        let flagged = gathered(alloc, &self.pieces)?;
+        let flagged = gathered(alloc, known(&self.pieces))?;
         rows.extend_from_slice(&flagged)?;
         Ok(sort_rows(rows))
     }

@@ -9,6 +9,7 @@ ghost use Rattle.tl_board.specs.WatchTasks.{AreWatched, IsAmid, IsTallyOf, IsWat
 ghost use Rattle.tl_capture.specs.Windows.{beats_in};
 
 use crate::Rows;
+use crate::present::kept;
 use crate::same_watch::is_watch;
 use crate::tally::Tally;
 use std::alloc::{AllocError, Global};
@@ -77,7 +78,6 @@ impl WatchWindow {
         ensures exact { result ≡ self.now.number }
         ensures kept { IsWatchWindow self.now }
     {
-        let _ = &self.beats;
         self.number
     }
 
@@ -100,6 +100,7 @@ impl WatchWindow {
         requires { monitor.watch ≡ self.watch }
         ensures { result ≡ with_monitor self monitor }
     {
+        // That its watch, its entry and its beats fit together.
         let _ = &self.beats;
         WatchTask {
             window: self,
@@ -227,12 +228,11 @@ fn watched(
     ensures exact { IfOk result (λ beats. beats ≡ beats_in window (watched_beats topo.now present.now watch.now)) }
     ensures kept { IfOk result AreWatched }
 {
-    let _ = present.is_empty();
     let Some(link) = topo.link_of(&watch.link()) else {
         let beats = present.window_beats(alloc, window, &[])?;
         return Ok(beats);
     };
-    let beats = present.window_beats(alloc, window, &[link])?;
+    let beats = kept(present).window_beats(alloc, window, &[link])?;
     Ok(beats)
 }
 
@@ -246,9 +246,8 @@ fn has_watched(
 ) -> bool
     ensures { Decides result (beats.now ≡ beats_in window (watched_beats topo.now present.now watch.now)) }
 {
-    let _ = present.is_empty();
     match topo.link_of(&watch.link()) {
-        Some(link) => present.has_beats(beats, window, &[link]),
+        Some(link) => kept(present).has_beats(beats, window, &[link]),
         None => beats.is_empty(),
     }
 }

@@ -24,7 +24,6 @@ impl Watches {
         ensures there { IfSome result (λ key. is_some (piece_at key self.old.spans.board) ≡ true) }
         ensures same { self.new ≡ self.old }
     {
-        let _ = &self.pieces;
         self.spans.first_free()
     }
 
@@ -34,7 +33,6 @@ impl Watches {
         requires { is_some (piece_at key self.now.spans.board) ≡ true }
         ensures { IfOk result (IsTaskFor self.now.spans key) }
     {
-        let _ = &self.pieces;
         self.spans.task(alloc, key)
     }
 
@@ -42,7 +40,6 @@ impl Watches {
     pub fn live_span(&self, key: PieceKey) -> Option<u64>
         ensures { result ≡ live_of (piece_at key self.now.spans.board) }
     {
-        let _ = &self.pieces;
         self.spans.live(key)
     }
 
@@ -54,7 +51,6 @@ impl Watches {
           };
         } }
     {
-        let _ = &self.pieces;
         self.spans.set_live(key, live);
     }
 
@@ -64,7 +60,6 @@ impl Watches {
         requires { is_some (piece_at (key_of task.now.owner task.now.window) self.now.spans.board) ≡ true }
         ensures { Decides result (StandsIn (standing self.now.spans) task.now) }
     {
-        let _ = &self.pieces;
         self.spans.is_current(task)
     }
 
@@ -77,7 +72,6 @@ impl Watches {
         ensures spans { HandsIn self.old.spans (key_of task.now.owner task.now.window) (pass_of stored) self.new.spans }
         ensures rest { self.new.board ≡ self.old.board }
     {
-        let _ = &self.pieces;
         self.spans.hand_in(task, stored);
     }
 }

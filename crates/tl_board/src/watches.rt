@@ -11,6 +11,7 @@ ghost use Rattle.tl_board.specs.Spans.{standing};
 ghost use Rattle.tl_capture.specs.Present.{IsPresent};
 
 use crate::tally::Tally;
+use crate::windows::known;
 use crate::{Rows, Spans};
 use std::alloc::{AllocError, Global};
 use std::marker::Model;
@@ -62,8 +63,18 @@ impl Watches {
         ensures board { IsBoard self.now.board }
         ensures few { length self.now.board.pieces < 18446744073709551616 }
     {
+        // The keys rise.
         let _ = self.pieces.len();
         &self.spans
+    }
+
+    /// The windows of monitors. Their keys rise, and each is of a monitor that is attached.
+    pub(crate) fn pieces(&self) -> &PieceMap<Tally, Rows>
+        ensures exact { result.now ≡ self.now.board }
+        ensures kept { AreWatches (standing self.now.spans) self.now.board }
+        ensures board { IsBoard self.now.board }
+    {
+        known(&self.pieces)
     }
 
     /// The fragments that stand. They are such as may stand beside each other.
@@ -71,10 +82,7 @@ impl Watches {
         ensures exact { result.now ≡ (standing self.now.spans).fragments }
         ensures kept { IsPresent (standing self.now.spans).fragments }
     {
-        let _ = &self.pieces;
-        let present = self.spans.log().inputs().present();
-        let _ = present.is_empty();
-        present
+        self.spans().present()
     }
 
     /// Whether every window, of managers and of monitors, has a result, and each begins with what the one before it ended with.
@@ -93,7 +101,7 @@ impl Watches {
         ensures entry { IfSome result (HasTrueEntry SameTally self.old.board) }
         ensures same { self.new ≡ self.old }
     {
-        let _ = &self.spans;
+        // The keys rise, and each is of a monitor that is attached.
         let _ = self.pieces.len();
         self.pieces.first_wanted()
     }

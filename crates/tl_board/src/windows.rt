@@ -5,7 +5,7 @@ ghost use Rattle.std.specs.List.{Contains};
 ghost use Rattle.tl_capture.specs.declared.key.PieceKey.{PieceKey as AnyKey};
 ghost use Rattle.tl_capture.specs.Keys.{change};
 ghost use Rattle.tl_capture.specs.Marks.{pass_of};
-ghost use Rattle.tl_capture.specs.Pieces.{opening_of, piece_at, with_pieces};
+ghost use Rattle.tl_capture.specs.Pieces.{opening_of, piece_at, with_pieces, IsBoard, IsSettled, EachOwnerIsChained};
 ghost use Rattle.tl_board.specs.Windows.{key_of, with_checked, AreKeysOf, IsGrown, HasAll, IsTaken, IsPruned, AreBlank};
 ghost use Rattle.tl_capture.specs.Windows.{HasBeat};
 ghost use Rattle.tl_definitions.specs.Positions.{beats_of_all};
@@ -38,6 +38,18 @@ fn push_keys(owner: u32, windows: &[u64], keys: &mut Vec<PieceKey>) -> Result<()
     Ok(())
 }
 
+/// The same pieces. Their keys rise, and each is of an owner; where they are settled, each begins with what the one before it of its
+/// owner ended with.
+pub(crate) fn known<S: Same + Drop, R: Drop>(pieces: &PieceMap<S, R>) -> &PieceMap<S, R>
+    ensures same { result.now ≡ pieces.now }
+    ensures board { IsBoard pieces.now }
+    ensures chains { IsSettled S.same pieces.now → EachOwnerIsChained S.same pieces.now }
+{
+    let _ = pieces.len();
+    let _ = pieces.settled();
+    pieces
+}
+
 /// Puts in a piece for each of these keys, whose owners are there, that has none. AllocError where memory is refused: then some
 /// have come.
 pub fn grow<S: Same + Drop, R: Drop>(
@@ -47,7 +59,10 @@ pub fn grow<S: Same + Drop, R: Drop>(
     requires { (key : AnyKey) → Contains keys.now key → is_some (opening_of key.owner pieces.old.openings) ≡ true }
     ensures grown { IsGrown keys.now pieces.old pieces.new }
     ensures all { OnOk result (HasAll keys.now pieces.new) }
+    ensures board { IsBoard pieces.old }
 {
+    // The keys rise, and each is of an owner.
+    let _ = pieces.len();
     for key in keys {
         if !pieces.contains(*key) {
             pieces.insert(*key)?;
@@ -84,8 +99,7 @@ pub fn keep<S: Same + Drop, R: Drop>(
 fn take_out<S: Same + Drop, R: Drop>(pieces: &mut PieceMap<S, R>, key: PieceKey)
     ensures { IsTaken key pieces.old pieces.new }
 {
-    let _ = pieces.len();
-    if pieces.contains(key) {
+    if known(pieces).contains(key) {
         pieces.remove(key);
     }
 }
@@ -97,11 +111,14 @@ pub fn prune<S: Same + Drop, R: Drop>(
     links: &[u16],
     keys: &[PieceKey],
 )
-    ensures { IsPruned (HasBeat (beats_of_all links.now present.now)) keys.now pieces.old pieces.new }
+    ensures pruned { IsPruned (HasBeat (beats_of_all links.now present.now)) keys.now pieces.old pieces.new }
+    ensures board { IsBoard pieces.new }
 {
     for key in keys {
         if !present.has_beat(key.window, links) {
             take_out(pieces, *key);
         }
     }
+    // The keys rise, and each is of an owner.
+    let _ = pieces.len();
 }

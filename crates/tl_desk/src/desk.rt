@@ -66,9 +66,8 @@ impl<M: Monitor> Desk<M> {
         // All of this, and that keys, owners and numbers rise.
         ensures desk { IsDesk self.now }
     {
+        // The numbers of monitors rise.
         let _ = self.boxes.settlements();
-        let _ = &self.reports;
-        let _ = &self.tickets;
         let windows = self.windows.spans();
         windows.log()
     }
@@ -77,9 +76,6 @@ impl<M: Monitor> Desk<M> {
     pub fn settled(&self) -> bool
         ensures { Decides result (AllSettled self.now) }
     {
-        let _ = &self.boxes;
-        let _ = &self.reports;
-        let _ = &self.tickets;
         self.windows.settled()
     }
 
@@ -91,9 +87,6 @@ impl<M: Monitor> Desk<M> {
         // The topology has the links of its rows.
         ensures links { IfSome result (λ report. AreLinked self.now.windows.spans.log.topo report.now.rows) }
     {
-        let _ = &self.windows;
-        let _ = &self.boxes;
-        let _ = &self.tickets;
         self.reports.last()
     }
 
@@ -106,9 +99,6 @@ impl<M: Monitor> Desk<M> {
         // The topology has the links of its rows.
         ensures links { IfSome result (λ report. AreLinked self.now.windows.spans.log.topo report.now.rows) }
     {
-        let _ = &self.windows;
-        let _ = &self.boxes;
-        let _ = &self.tickets;
         let place = version.checked_sub(1)?;
         self.reports.get(place as usize)
     }
@@ -122,9 +112,6 @@ impl<M: Monitor> Desk<M> {
         // The numbers of monitors rise.
         ensures kept { IsBoxes self.now.boxes }
     {
-        let _ = &self.windows;
-        let _ = &self.reports;
-        let _ = &self.tickets;
         self.boxes.settlements()
     }
 
@@ -140,6 +127,8 @@ impl<M: Monitor> Desk<M> {
         ensures once { IfOk result (λ done. AllHaveEnded (log_of self) done.1.items) }
         ensures out { IfErr result (λ back. first_out self.boxes.slots ≡ Some back.1) }
         ensures back { IfErr result (λ back. back.0 ≡ self) }
+        // The numbers of monitors rise.
+        ensures boxes { IsBoxes self.boxes }
     {
         if let Some(number) = self.first_away() {
             return Err((self, number));
@@ -151,18 +140,18 @@ impl<M: Monitor> Desk<M> {
             tickets: _,
         } = self;
         let log = windows.into_log();
-        let _ = boxes.settlements();
         let told = boxes.finish(log.len());
         Ok((log, told))
     }
 
     /// The lowest number of a monitor that is out.
     pub(crate) fn first_away(&self) -> Option<u32>
-        ensures { result ≡ first_out self.now.boxes.slots }
+        ensures exact { result ≡ first_out self.now.boxes.slots }
+        // The numbers of monitors rise.
+        ensures boxes { IsBoxes self.now.boxes }
     {
-        let _ = &self.windows;
-        let _ = &self.reports;
-        let _ = &self.tickets;
+        // The numbers of monitors rise.
+        let _ = self.boxes.settlements();
         self.boxes.first_away()
     }
 }

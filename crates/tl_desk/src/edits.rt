@@ -1,14 +1,11 @@
 //! Edits of captures, regions and monitors.
 
-ghost use Rattle.std.specs.Prelude.{◌≡◌, ℕ, IfOk, IfErr, OnErr, None, Some, length};
+ghost use Rattle.std.specs.Prelude.{◌≡◌, ℕ, IfOk, IfErr, OnOk, OnErr, None, Some, length};
 ghost use Rattle.std.specs.Result.{IsErrOf};
-ghost use Rattle.std.specs.Ordering.{nat_cmp};
-ghost use Rattle.std.specs.List.Sorted.{IsStrictlySortedBy};
-ghost use Rattle.std.specs.Map.{keys_of};
 ghost use Rattle.tl_edits.specs.Edits.{plain_change, attach};
 ghost use Rattle.tl_edits.specs.Inputs.{refusal};
-ghost use Rattle.tl_monitor.specs.Boxes.{BoxesData};
-ghost use Rattle.tl_desk.specs.Core.{log_of, standing};
+ghost use Rattle.tl_monitor.specs.Boxes.{BoxesData, IsBoxes};
+ghost use Rattle.tl_desk.specs.Core.{log_of, standing, IsSound};
 ghost use Rattle.tl_desk.specs.Steps.{boxes_after, boxes_changed, Step};
 ghost use Rattle.tl_desk.specs.declared.call.Call.TheVariants as call;
 
@@ -48,8 +45,9 @@ impl BoxChange {
     /// Does it, for an edit of this number.
     fn apply<M: Monitor>(self, boxes: &mut Boxes<M>, number: u64)
         ensures made { boxes.new ≡ boxes_changed self number boxes.old }
-        ensures order { IsStrictlySortedBy nat_cmp (keys_of boxes.old.slots) }
+        ensures kept { IsBoxes boxes.old }
     {
+        // The numbers of monitors rise.
         let _ = boxes.settlements();
         match self {
             BoxChange::Nothing => {}
@@ -66,16 +64,14 @@ impl<M: Monitor> Desk<M> {
     /// change is dropped, and nothing has changed.
     pub fn edit(&mut self, alloc: Global, change: Change) -> Result<u64, EditFault>
         ensures step { IfOk result (λ number. Step self.old (call.Edit change number) self.new) }
+        // The numbers of monitors rise.
+        ensures boxes { OnOk result (IsBoxes self.old.boxes) }
         ensures refused { IfErr result (λ fault. (fault ≡ EditFault.Memory → ⊥) → refusal (length (log_of self.old).edits) (standing self.old) (plain_change change) ≡ Some fault) }
         ensures memory { IsErrOf result EditFault.Memory → refusal (length (log_of self.old).edits) (standing self.old) (plain_change change) ≡ None }
         ensures err { OnErr result (self.new ≡ self.old) }
     {
-        let _ = &self.reports;
-        let _ = &self.tickets;
         let of_boxes = BoxChange::of(&change);
-        let _ = self.windows.present();
         let number = self.windows.edit(alloc, Edit::Change(change))?;
-        let _ = self.windows.present();
         of_boxes.apply(&mut self.boxes, number);
         Ok(number)
     }
@@ -85,14 +81,12 @@ impl<M: Monitor> Desk<M> {
     /// nothing has changed.
     pub fn attach(&mut self, alloc: Global, number: u32, monitor: M) -> Result<u64, (EditFault, M)>
         ensures step { IfOk result (λ edit. Step self.old (call.Attach number (M.held monitor).watch edit) self.new) }
+        ensures kept { IsSound self.old }
         ensures refused { IfErr result (λ e. (e.0 ≡ EditFault.Memory → ⊥) → refusal (length (log_of self.old).edits) (standing self.old) (attach number (M.held monitor).watch) ≡ Some e.0) }
         ensures memory { IfErr result (λ e. e.0 ≡ EditFault.Memory → refusal (length (log_of self.old).edits) (standing self.old) (attach number (M.held monitor).watch) ≡ None) }
         ensures back { IfErr result (λ e. M.held e.1 ≡ M.held monitor) }
         ensures err { OnErr result (self.new ≡ self.old) }
     {
-        let _ = &self.reports;
-        let _ = &self.tickets;
-        let _ = self.windows.present();
         let watched = Watched::new(monitor);
         let edit = Edit::Attach(number, watched.watch());
         if let Some(fault) = self.windows.spans().log().refusal(&edit) {
@@ -117,16 +111,10 @@ impl<M: Monitor> Desk<M> {
         ensures back { IfErr result (λ back. back ≡ watched) }
         ensures err { OnErr result (self.new ≡ self.old) }
     {
-        let _ = &self.reports;
-        let _ = &self.tickets;
-        let _ = self.windows.present();
         let edit = Edit::Attach(number, watched.watch());
         self.boxes.attach(number, watched)?;
         match self.windows.accept(alloc, edit) {
-            Ok(number) => {
-                let _ = self.windows.present();
-                Ok(number)
-            }
+            Ok(number) => Ok(number),
             Err(_) => Err(self.boxes.give_back(number).unwrap()),
         }
     }

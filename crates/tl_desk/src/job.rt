@@ -107,17 +107,11 @@ pub fn work<M: Monitor>(alloc: Global, job: Job<M>) -> Result<Done<M>, Job<M>>
 {
     match job {
         Job::Manager(job) => match work_manager(alloc, job) {
-            Ok(done) => {
-                let _ = done.job();
-                Ok(Done::Manager(done))
-            }
+            Ok(done) => Ok(Done::Manager(done)),
             Err(job) => Err(Job::Manager(job)),
         },
         Job::Monitor(job) => match work_monitor(alloc, job) {
-            Ok(done) => {
-                let _ = done.job();
-                Ok(Done::Monitor(done))
-            }
+            Ok(done) => Ok(Done::Monitor(done)),
             Err(job) => Err(Job::Monitor(job)),
         },
     }

@@ -91,7 +91,6 @@ impl ManagerDone {
     pub fn ticket(&self) -> u64
         ensures { result ≡ self.now.job.ticket }
     {
-        let _ = &self.stored;
         self.job.ticket()
     }
 
@@ -99,7 +98,6 @@ impl ManagerDone {
     pub fn piece(&self) -> Piece
         ensures { result ≡ piece_of self.now.job }
     {
-        let _ = &self.stored;
         self.job.piece()
     }
 
@@ -108,7 +106,6 @@ impl ManagerDone {
         ensures exact { result.now ≡ self.now.job }
         ensures kept { IsDone self.now }
     {
-        let _ = &self.stored;
         &self.job
     }
 

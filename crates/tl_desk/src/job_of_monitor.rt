@@ -93,7 +93,6 @@ impl<M: Monitor> MonitorDone<M> {
     pub fn ticket(&self) -> u64
         ensures { result ≡ self.now.job.ticket }
     {
-        let _ = &self.stored;
         self.job.ticket()
     }
 
@@ -101,7 +100,6 @@ impl<M: Monitor> MonitorDone<M> {
     pub fn piece(&self) -> Piece
         ensures { result ≡ monitor_piece self.now.job }
     {
-        let _ = &self.stored;
         self.job.piece()
     }
 
@@ -110,7 +108,6 @@ impl<M: Monitor> MonitorDone<M> {
         ensures exact { result.now ≡ self.now.job }
         ensures kept { IsMonitorDone self.now }
     {
-        let _ = &self.stored;
         &self.job
     }
 

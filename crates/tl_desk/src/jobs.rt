@@ -4,6 +4,7 @@ ghost use Rattle.std.specs.Prelude.{◌≡◌, ◌<◌, IfOk, IfErr, OnOk, OnErr
 ghost use Rattle.std.specs.Bool.{Decides};
 ghost use Rattle.std.specs.Result.{IsErrOf};
 ghost use Rattle.tl_desk.specs.Works.{ticket_of, window_of};
+ghost use Rattle.tl_desk.specs.Core.{IsSound};
 ghost use Rattle.tl_desk.specs.TicketData.{most_tickets};
 ghost use Rattle.tl_desk.specs.Jobs.{IsLive, Gives, HasFree, HandsBack, TakesBack, IsOutHere};
 ghost use Rattle.tl_desk.specs.Steps.{Step, HandInStep};
@@ -22,6 +23,7 @@ impl<M: Monitor> Desk<M> {
     /// refused. A refusal changes nothing.
     pub fn take(&mut self, alloc: Global) -> Result<Option<Job<M>>, TakeFault>
         ensures step { IfOk result (λ job. Gives self.old job self.new) }
+        ensures kept { IsSound self.old }
         ensures spent { IsErrOf result TakeFault.TicketsSpent → HasFree self.old × (self.old.tickets.last ≡ most_tickets) }
         ensures memory { IsErrOf result TakeFault.Memory → HasFree self.old × (self.old.tickets.last < most_tickets) }
         ensures err { OnErr result (self.new ≡ self.old) }
@@ -81,9 +83,6 @@ impl<M: Monitor> Desk<M> {
         ensures step { result ≡ true → Step self.old (call.Recall ticket) self.new }
         ensures rest { result ≡ false → self.new ≡ self.old }
     {
-        let _ = &self.windows;
-        let _ = &self.boxes;
-        let _ = &self.reports;
         let Some(taken) = self.tickets.taken(ticket) else {
             return false;
         };

@@ -10,6 +10,7 @@ ghost use Rattle.tl_check.specs.States.{SameSpan};
 ghost use Rattle.tl_board.specs.Tickets.{IsTaskFor};
 ghost use Rattle.tl_board.specs.Windows.{key_of};
 ghost use Rattle.tl_desk.specs.declared.piece.Piece.TheVariants as piece;
+ghost use Rattle.tl_desk.specs.Core.{IsSound};
 ghost use Rattle.tl_desk.specs.TicketData.{IsOutFor, most_tickets};
 ghost use Rattle.tl_desk.specs.Jobs.{IsLiveAt, IsFresh, Unmarks, Takes, Accepts, Ends, Recalls, HandsBack, key_for};
 
@@ -42,11 +43,9 @@ impl<M: Monitor> Desk<M> {
     pub(crate) fn first_free_manager(&mut self) -> Option<PieceKey>
         ensures first { IsFirstFree SameSpan self.old.windows.spans.board result }
         ensures there { IfSome result (λ key. is_some (piece_at key self.old.windows.spans.board) ≡ true) }
+        ensures kept { IsSound self.old }
         ensures same { self.new ≡ self.old }
     {
-        let _ = &self.boxes;
-        let _ = &self.reports;
-        let _ = &self.tickets;
         self.windows.first_free_span()
     }
 
@@ -63,8 +62,6 @@ impl<M: Monitor> Desk<M> {
         ensures memory { IsErrOf result TakeFault.Memory → self.old.tickets.last < most_tickets }
         ensures err { OnErr result (self.new ≡ self.old) }
     {
-        let _ = &self.boxes;
-        let _ = &self.reports;
         if self.tickets.are_spent() {
             return Err(TakeFault::TicketsSpent);
         }
@@ -73,7 +70,6 @@ impl<M: Monitor> Desk<M> {
         let edits = self.windows.spans().log().len();
         let ticket = self.tickets.give(Taken { piece, edits })?;
         self.windows.set_live_span(key, Some(ticket));
-        let _ = self.tickets.are_spent();
         Ok(ManagerJob::new(ticket, task))
     }
 
@@ -81,9 +77,6 @@ impl<M: Monitor> Desk<M> {
     pub(crate) fn hand_in_manager(&mut self, done: ManagerDone) -> HandIn<M>
         ensures { HandsBack self.old (a_done.Manager done) result self.new }
     {
-        let _ = &self.windows;
-        let _ = &self.boxes;
-        let _ = &self.reports;
         if !self.tickets.is_out(done.ticket(), &done.piece()) {
             return HandIn::Stranger(Done::Manager(done));
         }
@@ -103,9 +96,6 @@ impl<M: Monitor> Desk<M> {
         ensures back { IfErr result (λ same. same ≡ job) }
         ensures err { OnErr result (self.new ≡ self.old) }
     {
-        let _ = &self.windows;
-        let _ = &self.boxes;
-        let _ = &self.reports;
         if !self.tickets.is_out(job.ticket(), &job.piece()) {
             return Err(job);
         }
@@ -120,9 +110,6 @@ impl<M: Monitor> Desk<M> {
         ensures step { result ≡ true → Recalls self.old ticket self.new }
         ensures rest { result ≡ false → self.new ≡ self.old }
     {
-        let _ = &self.boxes;
-        let _ = &self.reports;
-        let _ = &self.tickets;
         let owner = u32::from(owner);
         unmark(&mut self.windows, PieceKey { owner, window }, ticket)
     }
@@ -131,9 +118,6 @@ impl<M: Monitor> Desk<M> {
     fn is_fresh(&self, job: &ManagerJob) -> bool
         ensures { Decides result (IsFresh self.now job.now) }
     {
-        let _ = &self.boxes;
-        let _ = &self.reports;
-        let _ = &self.tickets;
         let Some(live) = self.windows.live_span(window_key(job.task())) else {
             return false;
         };
@@ -149,12 +133,9 @@ impl<M: Monitor> Desk<M> {
         requires fresh { IsFresh self.old done.job }
         ensures { Accepts self.old done self.new }
     {
-        let _ = &self.boxes;
-        let _ = &self.reports;
         let (ticket, task, stored) = done.into_parts();
         self.windows.hand_in_span(&task, stored);
         self.tickets.end(ticket);
-        let _ = self.tickets.are_spent();
     }
 
     /// Ends the ticket of a job.
@@ -162,12 +143,9 @@ impl<M: Monitor> Desk<M> {
         requires { IsOutFor job.ticket (piece_of job) self.old.tickets.out }
         ensures { Ends self.old job self.new }
     {
-        let _ = &self.boxes;
-        let _ = &self.reports;
         let ticket = job.ticket();
         unmark(&mut self.windows, window_key(job.task()), ticket);
         self.tickets.end(ticket);
-        let _ = self.tickets.are_spent();
         job.forfeit();
     }
 }

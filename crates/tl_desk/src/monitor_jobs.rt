@@ -2,7 +2,7 @@
 
 ghost use Rattle.std.specs.Prelude.{◌≡◌, ◌<◌, IfOk, IfErr, IfSome, OnOk, OnErr, Some, None, true, false, is_some};
 ghost use Rattle.std.specs.Bool.{Decides};
-ghost use Rattle.std.specs.Option.{option_map};
+ghost use Rattle.std.specs.Option.{option_map, IsSomeAnd};
 ghost use Rattle.std.specs.Result.{IsErrOf};
 ghost use Rattle.tl_desk.specs.declared.job.Done.TheVariants as a_done;
 ghost use Rattle.tl_capture.specs.Pieces.{piece_at, IsFirstFree};
@@ -11,6 +11,7 @@ ghost use Rattle.tl_board.specs.Windows.{key_of};
 ghost use Rattle.tl_desk.specs.declared.piece.Piece.TheVariants as piece;
 ghost use Rattle.tl_desk.specs.TicketData.{IsOutFor, most_tickets};
 ghost use Rattle.tl_board.specs.Tally.{SameTally};
+ghost use Rattle.tl_monitor.specs.Boxes.{away_at, brought_back, IsBoxes};
 ghost use Rattle.tl_desk.specs.Core.{HaveNumbers};
 ghost use Rattle.tl_desk.specs.Jobs.{IsLiveAtWatch, IsFreshWatch, IsHere, IsFirstFreeHere, IsFirstFreeWatch, IsOwn, UnmarksWatch, TakesJob, AcceptsWatch, EndsWatch, RecallsWatch, HandsBack};
 
@@ -18,7 +19,7 @@ use crate::desk::Desk;
 use crate::tickets::Taken;
 use crate::{Done, HandIn, MonitorDone, MonitorJob, Piece, TakeFault};
 use std::alloc::Global;
-use tl_board::{Watches, is_watch, watch_key};
+use tl_board::{WatchTask, Watches, is_watch, watch_key};
 use tl_capture::PieceKey;
 use tl_monitor::{Boxes, Monitor};
 
@@ -37,6 +38,19 @@ fn unmark(windows: &mut Watches, key: PieceKey, ticket: u64) -> bool
     true
 }
 
+/// Takes the monitor of a window back.
+fn bring_back<M: Monitor>(boxes: &mut Boxes<M>, task: WatchTask<M>)
+    requires { IsSomeAnd (away_at task.number boxes.old.slots) (λ away. away.taken ≡ task.held.watch) }
+    ensures exact { boxes.new ≡ brought_back task.number task.held boxes.old }
+    ensures kept { IsBoxes boxes.old }
+{
+    // The numbers of monitors rise.
+    let _ = boxes.settlements();
+    let number = task.number();
+    let monitor = task.into_monitor();
+    boxes.bring_back(number, monitor);
+}
+
 /// The first window of a monitor that is here, which is wanted and has no live ticket. It begins with the first such one of any
 /// monitor, and passes the numbers of those that are out over.
 fn first_here<M: Monitor>(
@@ -51,6 +65,7 @@ fn first_here<M: Monitor>(
     ensures there { IfSome result (λ key. is_some (piece_at key windows.now.board) ≡ true) }
     ensures here { IfSome result (λ key. IsHere boxes.now key.owner) }
 {
+    // The keys rise.
     let _ = windows.spans();
     let mut found = first;
     while let Some(key) = found {
@@ -71,8 +86,6 @@ impl<M: Monitor> Desk<M> {
         ensures here { IfSome result (λ key. IsHere self.old.boxes key.owner) }
         ensures same { self.new ≡ self.old }
     {
-        let _ = &self.reports;
-        let _ = &self.tickets;
         let first = self.windows.first_free_watch();
         first_here(&self.windows, &self.boxes, first)
     }
@@ -92,7 +105,6 @@ impl<M: Monitor> Desk<M> {
         ensures memory { IsErrOf result TakeFault.Memory → self.old.tickets.last < most_tickets }
         ensures err { OnErr result (self.new ≡ self.old) }
     {
-        let _ = &self.reports;
         if self.tickets.are_spent() {
             return Err(TakeFault::TicketsSpent);
         }
@@ -102,7 +114,6 @@ impl<M: Monitor> Desk<M> {
         let ticket = self.tickets.give(Taken { piece, edits })?;
         let monitor = self.boxes.take_box(key.owner, ticket).unwrap();
         self.windows.set_live_watch(key, Some(ticket));
-        let _ = self.tickets.are_spent();
         Ok(MonitorJob::new(ticket, window.for_monitor(monitor)))
     }
 
@@ -143,9 +154,6 @@ impl<M: Monitor> Desk<M> {
         ensures step { result ≡ true → RecallsWatch self.old ticket self.new }
         ensures rest { result ≡ false → self.new ≡ self.old }
     {
-        let _ = &self.boxes;
-        let _ = &self.reports;
-        let _ = &self.tickets;
         let owner = number;
         unmark(&mut self.windows, PieceKey { owner, window }, ticket)
     }
@@ -154,8 +162,6 @@ impl<M: Monitor> Desk<M> {
     fn is_own(&self, job: &MonitorJob<M>) -> bool
         ensures { Decides result (IsOwn self.now job.now) }
     {
-        let _ = &self.windows;
-        let _ = &self.reports;
         if !self.tickets.is_out(job.ticket(), &job.piece()) {
             return false;
         }
@@ -169,9 +175,6 @@ impl<M: Monitor> Desk<M> {
     fn is_fresh_watch(&self, job: &MonitorJob<M>) -> bool
         ensures { Decides result (IsFreshWatch self.now job.now) }
     {
-        let _ = &self.boxes;
-        let _ = &self.reports;
-        let _ = &self.tickets;
         let Some(live) = self.windows.live_watch(watch_key(job.task())) else {
             return false;
         };
@@ -187,15 +190,10 @@ impl<M: Monitor> Desk<M> {
         requires fresh { IsFreshWatch self.old done.job }
         ensures { AcceptsWatch self.old done self.new }
     {
-        let _ = &self.reports;
-        let _ = self.boxes.settlements();
         let (ticket, task, stored) = done.into_parts();
         self.windows.hand_in_watch(&task, stored);
         self.tickets.end(ticket);
-        let _ = self.tickets.are_spent();
-        let number = task.number();
-        let monitor = task.into_monitor();
-        self.boxes.bring_back(number, monitor);
+        bring_back(&mut self.boxes, task);
     }
 
     /// Ends the ticket of a job, and takes its monitor back.
@@ -203,14 +201,9 @@ impl<M: Monitor> Desk<M> {
         requires { IsOwn self.old job }
         ensures { EndsWatch self.old job self.new }
     {
-        let _ = &self.reports;
-        let _ = self.boxes.settlements();
-        let (ticket, task) = job.into_parts();
-        unmark(&mut self.windows, watch_key(&task), ticket);
+        let (ticket, own) = job.into_parts();
+        unmark(&mut self.windows, watch_key(&own), ticket);
         self.tickets.end(ticket);
-        let _ = self.tickets.are_spent();
-        let task_number = task.number();
-        let monitor = task.into_monitor();
-        self.boxes.bring_back(task_number, monitor);
+        bring_back(&mut self.boxes, own);
     }
 }

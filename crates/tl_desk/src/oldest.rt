@@ -51,9 +51,6 @@ impl<M: Monitor> Desk<M> {
         requires { IsOutFor ticket piece self.now.tickets.out }
         ensures { Decides result (IsLive self.now ticket) }
     {
-        let _ = &self.boxes;
-        let _ = &self.reports;
-        let _ = &self.tickets;
         match piece {
             Piece::Manager(owner, window) => {
                 let owner = u32::from(owner);

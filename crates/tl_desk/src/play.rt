@@ -1,14 +1,18 @@
 //! Lists of steps that run on a desk.
 
 ghost use Rattle.std.specs.Prelude.{◌≡◌, ◌≤◌, ◌<◌, ◌+◌, List, [], ◌∷◌, IfOk, IfErr, IfSome, OnErr, vec_capacity, vec_len};
-ghost use Rattle.tl_desk.specs.Jobs.{IsOutHere};
+ghost use Rattle.tl_desk.specs.Core.{IsDesk};
+ghost use Rattle.tl_desk.specs.Jobs.{IsOutHere, TakesBack};
+ghost use Rattle.tl_desk.specs.Steps.{Step as DeskStep};
+ghost use Rattle.tl_desk.specs.Works.{ticket_of, window_of};
+ghost use Rattle.tl_desk.specs.declared.call.Call.TheVariants as call;
 ghost use Rattle.tl_desk.specs.declared.places.Place.{Place};
 ghost use Rattle.tl_desk.specs.Plays.{Answers, AnswersEdit, AnswersAttach, AnswersTake, AnswersHandIn, AnswersAbandon, AnswersRecall, AnswersPublish, Runs, Leaves, LeavesOne, Plays, job_of, AreOut};
 
 use crate::desk::Desk;
 use crate::fault::PublishFault;
 use crate::places::{Place, done_out, job_out, work_at};
-use crate::{HandIn, TakeFault};
+use crate::{HandIn, Job, TakeFault};
 use std::alloc::Global;
 use tl_edits::{Change, EditFault};
 use tl_monitor::Monitor;
@@ -105,13 +109,15 @@ impl<M: Monitor> Desk<M> {
     {
         let mut replies = replies;
         let mut steps = steps.into_iter();
-        while let Some(step) = steps.next() {
+        loop {
+            // What is true of every desk.
             let _ = self.log();
+            let Some(step) = steps.next() else {
+                return replies;
+            };
             let reply = self.answer(alloc, step, places);
             replies.push_reserved(reply);
         }
-        let _ = self.log();
-        replies
     }
 
     /// Runs one step.
@@ -138,8 +144,6 @@ impl<M: Monitor> Desk<M> {
         ensures answers { AnswersEdit change self.old result self.new }
         ensures out { (places : List (Place M)) → AreOut places self.old → AreOut places self.new }
     {
-        let _ = self.log();
-        let _ = self.settlements();
         match self.edit(alloc, change) {
             Ok(number) => Reply::Edited(number),
             Err(fault) => Reply::EditRefused(fault),
@@ -150,8 +154,6 @@ impl<M: Monitor> Desk<M> {
         ensures answers { AnswersAttach number (M.held monitor).watch self.old result self.new }
         ensures out { (places : List (Place M)) → AreOut places self.old → AreOut places self.new }
     {
-        let _ = self.log();
-        let _ = self.settlements();
         match self.attach(alloc, number, monitor) {
             Ok(number) => Reply::Edited(number),
             Err((fault, _monitor)) => Reply::EditRefused(fault),
@@ -165,8 +167,6 @@ impl<M: Monitor> Desk<M> {
         ensures out { AreOut places.new.items self.new }
         ensures room { (vec_capacity places.new ≡ vec_capacity places.old) × (vec_len places.new ≤ vec_len places.old + 1) }
     {
-        let _ = self.log();
-        let _ = self.settlements();
         match self.take(alloc) {
             Ok(Some(job)) => {
                 let ticket = job.ticket();
@@ -184,8 +184,8 @@ impl<M: Monitor> Desk<M> {
         ensures out { AreOut places.new.items self.new }
         ensures room { (vec_capacity places.new ≡ vec_capacity places.old) × (vec_len places.new ≡ vec_len places.old) }
     {
+        // What is true of every desk.
         let _ = self.log();
-        let _ = self.settlements();
         let Some(done) = done_out(places, at) else {
             return Reply::Nothing;
         };
@@ -202,12 +202,10 @@ impl<M: Monitor> Desk<M> {
         ensures out { AreOut places.new.items self.new }
         ensures room { (vec_capacity places.new ≡ vec_capacity places.old) × (vec_len places.new ≡ vec_len places.old) }
     {
-        let _ = self.log();
-        let _ = self.settlements();
         let Some(job) = job_out(places, at) else {
             return Reply::Nothing;
         };
-        self.abandon(job).unwrap();
+        self.give_up(job);
         Reply::Abandoned
     }
 
@@ -234,12 +232,15 @@ impl<M: Monitor> Desk<M> {
         ensures { Leaves places.items self.old self.new }
     {
         let mut places = places.into_iter();
-        while let Some(place) = places.next() {
+        loop {
+            // What is true of every desk.
             let _ = self.log();
+            let Some(place) = places.next() else {
+                places.destroy_empty();
+                return;
+            };
             self.leave_one(place);
         }
-        let _ = self.log();
-        places.destroy_empty();
     }
 
     /// Abandons the job of a place, if it has one.
@@ -249,11 +250,21 @@ impl<M: Monitor> Desk<M> {
         // The jobs of other places stay out.
         ensures out { (rest : List (Place M)) → AreOut (place ∷ rest) self.old → AreOut rest self.new }
     {
-        let _ = self.log();
-        let _ = self.settlements();
         let Some(job) = place.into_job() else {
             return;
         };
+        self.give_up(job);
+    }
+
+    /// Abandons a job that is out.
+    fn give_up(&mut self, job: Job<M>)
+        requires { IsOutHere self.old job }
+        ensures step { DeskStep self.old (call.Abandon (ticket_of job) (window_of job)) self.new }
+        ensures back { TakesBack self.old job self.new }
+        ensures desk { IsDesk self.old }
+    {
+        // What is true of every desk.
+        let _ = self.log();
         self.abandon(job).unwrap();
     }
 }

@@ -47,9 +47,6 @@ impl<M: Monitor> Desk<M> {
         ensures exact { IfOk result (λ rows. IsReport (captures_after (standing self.now)) rows.items) }
         ensures links { IfOk result (λ rows. AreLinked (log_of self.now).topo rows.items) }
     {
-        let _ = &self.boxes;
-        let _ = &self.reports;
-        let _ = &self.tickets;
         self.windows.rows(alloc)
     }
 }

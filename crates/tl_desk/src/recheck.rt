@@ -61,6 +61,7 @@ fn check_watches<M: Monitor>(
     ensures err { OnErr result (ChecksSome SameTally windows.old.board windows.new.board) }
     ensures left { OnErr result (LeavesTallies windows.new boxes.old boxes.new) }
 {
+    // The keys rise, and they are fewer than 2^64.
     let _ = windows.spans();
     let mut count = 0;
     while !windows.settled() {
@@ -82,6 +83,7 @@ fn first_waiting<M: Monitor>(
     requires first { IsFirstWanted SameTally windows.now.board first }
     ensures { IsFirstOutOf boxes.now windows.now.board result }
 {
+    // The keys rise.
     let _ = windows.spans();
     let mut found = first;
     while let Some(key) = found {
@@ -118,8 +120,6 @@ impl<M: Monitor> Desk<M> {
         ensures first { IsFirstOut self.old result }
         ensures same { self.new ≡ self.old }
     {
-        let _ = &self.reports;
-        let _ = &self.tickets;
         let first = self.windows.next_watch();
         first_waiting(&self.windows, &self.boxes, first)
     }
@@ -130,9 +130,6 @@ impl<M: Monitor> Desk<M> {
         ensures step { IfOk result (λ count. Step self.old (call.Recheck count) self.new) }
         ensures err { OnErr result (RechecksSome self.old self.new) }
     {
-        let _ = &self.reports;
-        let _ = &self.tickets;
-        let _ = self.windows.spans();
         let of_managers = self.windows.recheck_spans(alloc)?;
         let of_monitors = check_watches(alloc, &mut self.windows, &mut self.boxes)?;
         Ok(of_managers.saturating_add(of_monitors))

@@ -58,7 +58,6 @@ impl Tickets {
         // Each that is out was given.
         ensures kept { AreTickets self.now }
     {
-        let _ = &self.out;
         self.last >= MOST_TICKETS
     }
 
@@ -75,7 +74,6 @@ impl Tickets {
         // Each that is out was given, and they stand in order.
         ensures kept { AreTickets self.now }
     {
-        let _ = self.last;
         self.out.iter()
     }
 
@@ -94,6 +92,8 @@ impl Tickets {
         requires { self.old.last < most_tickets }
         ensures number { IfOk result (λ number. number ≡ self.old.last + 1) }
         ensures ok { OnOk result (self.new ≡ record { out = insert_entry nat_cmp self.old.out (self.old.last + 1) taken; last = self.old.last + 1 }) }
+        // Each that is out was given, and they stand in order.
+        ensures kept { AreTickets self.new }
         ensures err { OnErr result (self.new ≡ self.old) }
     {
         let ticket = self.last + 1;
@@ -104,7 +104,9 @@ impl Tickets {
 
     /// A ticket is out no more.
     pub fn end(&mut self, ticket: u64)
-        ensures { self.new ≡ record self.old { out = remove_entry (is_at (nat_cmp ticket)) self.old.out } }
+        ensures exact { self.new ≡ record self.old { out = remove_entry (is_at (nat_cmp ticket)) self.old.out } }
+        // Each that is out was given, and they stand in order.
+        ensures kept { AreTickets self.new }
     {
         self.out.remove(&ticket);
     }

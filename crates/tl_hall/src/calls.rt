@@ -59,7 +59,6 @@ impl<M: Monitor> Hall<M> {
         let mut desk = self.enter(rt, &mut seat);
         match desk.edit(alloc, change) {
             Ok(number) => {
-                let _ = desk.log();
                 self.leave_with::<Brand, u64>(&mut seat, desk, &number);
                 (Access { seat, rights }, Ok(number))
             }
@@ -90,7 +89,6 @@ impl<M: Monitor> Hall<M> {
         let watch = monitor.watch();
         match desk.attach(alloc, number, monitor) {
             Ok(edit) => {
-                let _ = desk.log();
                 self.leave_with::<Brand, (u32, Watch, u64)>(
                     &mut seat,
                     desk,
@@ -121,7 +119,6 @@ impl<M: Monitor> Hall<M> {
         let mut desk = self.enter(rt, &mut seat);
         match desk.publish(alloc) {
             Ok(version) => {
-                let _ = desk.log();
                 self.leave_with::<Brand, u64>(&mut seat, desk, &version);
                 (Access { seat, rights }, Ok(version))
             }

@@ -1,7 +1,7 @@
 //! The hall, its passes, and the turn.
 
 ghost use Rattle.std.specs.Prelude.{◌≡◌, ◌++◌, [], ◌∷◌, IfOk, true, false, None, Some};
-ghost use Rattle.tl_desk.specs.Core.{Core};
+ghost use Rattle.tl_desk.specs.Core.{Core, IsDesk};
 ghost use Rattle.tl_hall.specs.History.{entry, IsOfWorker, Leads};
 ghost use Rattle.tl_hall.specs.Passes.{IsResting, IsInside, Saw, Closes};
 
@@ -115,6 +115,7 @@ impl<M: Monitor> Hall<M> {
         let key = topo.copy(alloc)?;
         let mut slots = Vec::with_capacity(alloc, 1)?;
         let desk = Desk::new(alloc, topo)?;
+        // What is true of every desk.
         let _ = desk.log();
         slots.push(Some(desk))?;
         match Table::new(alloc, &[0, 0], slots, &key) {
@@ -186,15 +187,17 @@ impl<M: Monitor> Hall<M> {
     }
 
     /// The same after a call that becomes an entry, which the caller picks by what it tells.
-    pub(crate) fn leave_with<C: Said, T>(&self, seat: &mut Place<M>, desk: Desk<M>, told: &T)
+    pub(crate) fn leave_with<C: Said, T>(&self, seat: &mut Place<M>, desk: Desk<M>, _told: &T)
         requires hall { seat.old.table_id ≡ self.now.hall }
         requires inside { IsInside seat.old.me }
         requires may { seat.old.me.0.helps ≡ true → IsOfWorker C.call }
-        requires desk { Leads seat.old.me.0.topo (seat.old.me.0.seen ++ entry seat.old.me.0.number C.call ∷ []) desk }
+        requires desk { IsDesk desk → Leads seat.old.me.0.topo (seat.old.me.0.seen ++ entry seat.old.me.0.number C.call ∷ []) desk }
         ensures hall { seat.new.table_id ≡ seat.old.table_id }
         ensures now { seat.new.me ≡ (record seat.old.me.0 { turn = false; seen = seat.old.me.0.seen ++ entry seat.old.me.0.number C.call ∷ [] }, []) }
+        ensures desk { IsDesk desk }
     {
-        let _ = told;
+        // What is true of every desk.
+        let _ = desk.log();
         self.table.shared.exchange(seat, 0, Some(desk));
         self.table.shared.fetch_add::<Record<C>>(seat, 0, 1);
         self.table.shared.store::<Leave>(seat, 1, 0);

@@ -32,7 +32,6 @@ impl<M: Monitor> Hall<M> {
         let mut desk = self.enter(rt, &mut seat);
         match desk.take(alloc) {
             Ok(Some(job)) => {
-                let _ = desk.log();
                 self.leave_with::<Brand, Job<M>>(&mut seat, desk, &job);
                 (Access { seat, rights }, Ok(Some(job)))
             }
@@ -78,7 +77,6 @@ impl<M: Monitor> Hall<M> {
         let piece = done.piece();
         match desk.hand_in(done) {
             HandIn::Taken => {
-                let _ = desk.log();
                 self.leave_with::<Brand, (u64, Piece, bool)>(
                     &mut seat,
                     desk,
@@ -87,7 +85,6 @@ impl<M: Monitor> Hall<M> {
                 (Access { seat, rights }, HandIn::Taken)
             }
             HandIn::Void => {
-                let _ = desk.log();
                 self.leave_with::<Brand, (u64, Piece, bool)>(
                     &mut seat,
                     desk,
@@ -121,7 +118,6 @@ impl<M: Monitor> Hall<M> {
         let piece = job.piece();
         match desk.abandon(job) {
             Ok(()) => {
-                let _ = desk.log();
                 self.leave_with::<Brand, (u64, Piece)>(&mut seat, desk, &(ticket, piece));
                 (Access { seat, rights }, Ok(()))
             }
@@ -142,7 +138,6 @@ impl<M: Monitor> Hall<M> {
         let Access { mut seat, rights } = pass;
         let mut desk = self.enter(rt, &mut seat);
         if desk.recall(ticket) {
-            let _ = desk.log();
             self.leave_with::<Brand, u64>(&mut seat, desk, &ticket);
             (Access { seat, rights }, true)
         } else {

@@ -2,7 +2,9 @@
 use Rattle.std.proofs.Common.{◌≡◌, ℕ, ◌+◌, ◌-◌, ◌<◌, true, false, List, [], ◌∷◌, ◌++◌, length, length-append, Option, Some, None, Result, Ok, Err, IfOk, OnErr, refl, sym, ap, ◌∙◌, subst, arith, nat_lt}
 use Rattle.std.specs.Prelude.{slice_get}
 use Rattle.std.specs.Option.{option_map_or}
+use Rattle.std.specs.Result.{OnOk}
 use Rattle.std.proofs.lemmas.Bool.Decides.{nat_tests}
+use Rattle.tl_monitor.specs.Boxes.{IsBoxes}
 use Rattle.tl_topology.specs.Topology.{Topology}
 use Rattle.tl_definitions.specs.Report.{IsReport}
 use Rattle.tl_edits.specs.Edits.{AnEdit, plain_change, code_of, number_of}
@@ -64,10 +66,10 @@ unfolding IsStep
 refusal_step old new e fault line why same said = subst (λ found. IsEdit (progress_of old) e found line (progress_of new)) (sym why) (said, ap progress_of same)
 
 -- An edit, also one that is refused, sends no monitor out.
-pub here_behind_edit : (old new : Core) (c : Change) (r : Result ℕ EditFault) → ((number : ℕ) → Step old (call.Edit c number) new → AllHere old.boxes → AllHere new.boxes)
-    → IfOk r (λ number. Step old (call.Edit c number) new) → OnErr r (new ≡ old) → AllHere old.boxes → AllHere new.boxes
-here_behind_edit old new c (Ok number) kept step same all = kept number step all
-here_behind_edit old new c (Err fault) kept step same all = subst (λ (core : Core). AllHere core.boxes) (sym same) all
+pub here_behind_edit : (old new : Core) (c : Change) (r : Result ℕ EditFault) → (IsBoxes old.boxes → (number : ℕ) → Step old (call.Edit c number) new → AllHere old.boxes → AllHere new.boxes)
+    → OnOk r (IsBoxes old.boxes) → IfOk r (λ number. Step old (call.Edit c number) new) → OnErr r (new ≡ old) → AllHere old.boxes → AllHere new.boxes
+here_behind_edit old new c (Ok number) kept boxes step same all = kept boxes number step all
+here_behind_edit old new c (Err fault) kept boxes step same all = subst (λ (core : Core). AllHere core.boxes) (sym same) all
 
 -- ---- reports
 

@@ -58,7 +58,6 @@ impl<K: Maker + Drop> Making<K> {
         ensures rows { self.now.now.rows ≡ option_map_or (λ r. r.now.rows) result [] }
         ensures links { IfSome result (λ report. AreLinked self.now.topo report.now.rows) }
     {
-        let _ = &self.maker;
         self.session.last()
     }
 
@@ -79,7 +78,6 @@ impl<K: Maker + Drop> Runner for Making<K> {
     ghost supplies = { true };
 
     fn topo(&self) -> &Topo {
-        let _ = &self.maker;
         self.session.topo()
     }
 
@@ -87,7 +85,6 @@ impl<K: Maker + Drop> Runner for Making<K> {
         requires { IsCommand command.now }
         ensures { IfOk result (λ found. asking found ≡ asked command.now) }
     {
-        let _ = &self.maker;
         asked_by(alloc, command)
     }
 
@@ -104,7 +101,6 @@ impl<K: Maker + Drop> Runner for Making<K> {
     }
 
     fn text(&self, alloc: Global, answer: &Answer) -> Result<String, AllocError> {
-        let _ = &self.maker;
         answer_text(alloc, self.session.topo(), answer)
     }
 
@@ -115,7 +111,6 @@ impl<K: Maker + Drop> Runner for Making<K> {
     fn last_rows(&self) -> u64
         ensures { result ≡ length self.now.now.rows }
     {
-        let _ = &self.maker;
         self.session.last_rows()
     }
 }

@@ -82,7 +82,6 @@ impl<M: Monitor> Session<M> {
         ensures ok { OnOk result (self.new.boxes ≡ self.old.boxes ++ (M.held monitor).watch ∷ []) }
         ensures err { OnErr result (self.new ≡ self.old) }
     {
-        let _ = &self.desk;
         self.boxes.put(monitor)
     }
 
@@ -90,7 +89,6 @@ impl<M: Monitor> Session<M> {
     pub fn topo(&self) -> &Topo
         ensures { result.now ≡ self.now.topo }
     {
-        let _ = &self.boxes;
         self.desk.log().inputs().topo()
     }
 
@@ -99,7 +97,6 @@ impl<M: Monitor> Session<M> {
         ensures rows { self.now.now.rows ≡ option_map_or (λ r. r.now.rows) result [] }
         ensures links { IfSome result (λ report. AreLinked self.now.topo report.now.rows) }
     {
-        let _ = &self.boxes;
         self.desk.latest()
     }
 
@@ -121,8 +118,6 @@ impl<M: Monitor> Session<M> {
         ensures step { IfOk result (λ found. IsStep self.old.topo self.old.now (an_edit (plain_change change)) (text_of self.old.topo found) self.new.now) }
         ensures links { IfOk result (IsLinked self.old.topo) }
     {
-        let _ = &self.boxes;
-        let _ = self.desk.settlements();
         match self.desk.edit(alloc, change) {
             Ok(number) => Ok(Answer::Edit(number)),
             Err(EditFault::Memory) => Err(AllocError),
@@ -157,7 +152,6 @@ impl<M: Monitor> Session<M> {
         ensures step { IfOk result (λ found. IsStep self.old.topo self.old.now a_report (text_of self.old.topo found) self.new.now) }
         ensures links { IfOk result (IsLinked self.old.topo) }
     {
-        let _ = &self.boxes;
         match self.desk.recheck_now(alloc) {
             Ok(_) => match self.desk.publish(alloc) {
                 Ok(version) => Ok(Answer::Report(self.desk.report(version).unwrap().copy()?)),
@@ -195,7 +189,6 @@ impl<M: Monitor> Session<M> {
         ensures { AllHaveEnded (record { topo = self.topo; edits = self.now.edits }) result.items }
     {
         let Session { desk, boxes } = self;
-        let _ = desk.settlements();
         drop(boxes);
         match desk.finish() {
             Ok((_, told)) => told,

@@ -98,7 +98,6 @@ impl<S: Runner + Drop> Runner for Showing<S> {
     ghost supplies = { S.supplies };
 
     fn topo(&self) -> &Topo {
-        let _ = &self.log;
         self.runner.topo()
     }
 
@@ -106,7 +105,6 @@ impl<S: Runner + Drop> Runner for Showing<S> {
         requires { IsCommand command.now }
         ensures { IfOk result (λ found. asking found ≡ asked command.now) }
     {
-        let _ = &self.log;
         self.runner.ask(alloc, command, left)
     }
 

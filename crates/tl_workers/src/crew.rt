@@ -192,7 +192,6 @@ impl<'x, 'h, 't, 's, R: Wait, M: Monitor, G: Gate> Runner for Crew<'x, 'h, 't, '
     ghost supplies = { false };
 
     fn topo(&self) -> &Topo {
-        let _ = &self.boxes;
         self.topo
     }
 
@@ -222,7 +221,6 @@ impl<'x, 'h, 't, 's, R: Wait, M: Monitor, G: Gate> Runner for Crew<'x, 'h, 't, '
     }
 
     fn text(&self, alloc: Global, answer: &Answer) -> Result<String, AllocError> {
-        let _ = &self.boxes;
         answer_text(alloc, self.topo, answer)
     }
 

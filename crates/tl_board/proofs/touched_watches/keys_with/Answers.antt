@@ -24,7 +24,7 @@ returns c =
     let topo = c.args.inputs.now.topo in
     let fs = c.args.inputs.now.fragments in
     let named : number_of_name topo.links (link_of c.args.watch.now) ≡ Some c.in-Some.link = sym (ap (number_of_name topo.links) c.link.ensures) ∙ ap (λ t. number_of_name t.links c.link.result) (sym c.topo.ensures) ∙ sym c.link_of.ensures.exact ∙ c.in-Some.is in
-    let is : IsPresent fs = subst IsPresent c.present-present.ensures c.is_empty.ensures.kept in
+    let is : IsPresent fs = subst IsPresent c.present.ensures c.kept-present.ensures.kept in
     own_keys topo fs c.args.watch.now c.in-Some.link named is c.args.monitor c.in_ok-windows.windows.items c.in_ok-keys.keys.items
-    (subst (λ gs. AreWindows (beats_of_all (c.in-Some.link ∷ []) gs) c.in_ok-windows.windows.items) c.present-present.ensures c.in_ok-windows.ensures)
+    (subst (λ gs. AreWindows (beats_of_all (c.in-Some.link ∷ []) gs) c.in_ok-windows.windows.items) (c.kept-present.ensures.same ∙ c.present.ensures) c.in_ok-windows.ensures)
     (subst (λ ws. AreKeysOf (c.args.monitor ∷ []) ws c.in_ok-keys.keys.items) c.deref.ensures.value c.in_ok-keys.ensures)

@@ -24,8 +24,8 @@ loop-key-preserved g c final rest =
       | else-not-has_beat w ↦ pruned_kept holds key (drop (index + 1) keys) mid c.if-not-has_beat.pieces final rest (w.if-not-has_beat.ensures.0 refl) w.pieces-is
     ]))
 
-pub returns : goal.returns
-returns g c =
+pub returns-clause-pruned : goal.returns-clause-pruned
+returns-clause-pruned g c =
     let none : drop c.loop-key.key-index c.args.keys.now ≡ [] = drop_of_length-le c.args.keys.now (omega (arith, c.loop-key-test.false)) in
     let holds = HasBeat (beats_of_all c.args.links.now c.args.present.now) in
     c.loop-key.invariant c.loop-key.pieces (subst (λ ks. IsPruned holds ks c.loop-key.pieces c.loop-key.pieces) (sym none) (pruned_none holds c.loop-key.pieces))

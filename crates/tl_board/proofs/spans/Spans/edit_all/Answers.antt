@@ -17,13 +17,11 @@ invariant_of-self-2 c =
     let now : InputData = standing inside in
     let e : AnEdit = plain c.args.edit in
     let is : IsTouched now e (touched.All c.args.manager) = subst (λ (s : SpansData). IsTouched (standing s) e (touched.All c.args.manager)) (sym c.self.view_is) c.requires.touched in
-    let topo : now.topo ≡ inside.log.topo = ap (λ (i : InputData). i.topo) (sym c.inputs.ensures.exact) ∙ c.inputs.ensures.topo in
-    let before : IsPresent now.fragments = subst IsPresent (c.present.ensures ∙ ap (λ (i : InputData). i.fragments) c.inputs.ensures.exact) c.is_empty.ensures.kept in
     let after : IsPresent (changed now e).fragments =
-    subst IsPresent (c.present-2.ensures ∙ ap (λ (i : InputData). i.fragments) (c.inputs-2.ensures.exact ∙ stands inside e c.accept.new.self inside.board c.in_ok-number.ensures.ok)) c.is_empty-2.ensures.kept in
+    subst IsPresent (ap (λ (i : InputData). i.fragments) (stands inside e c.accepted.new.log inside.board c.in_ok-number.ensures.ok)) c.accepted.ensures.after in
     let owner : c.from.result ≡ c.args.manager = c.from.ensures in
     let all = c.touch_all.ensures in
-    sound_after inside c.self.invariant e topo before (names (touched.All c.args.manager)) is.exact c.accept.new.self c.in_ok-number.ensures.ok c.touch_all.new.self (all_openings c.from.result inside.board c.touch_all.new.self all)
+    sound_after inside c.self.invariant e c.accepted.ensures.topo c.accepted.ensures.before (names (touched.All c.args.manager)) is.exact c.accepted.new.log c.in_ok-number.ensures.ok c.touch_all.new.self (all_openings c.from.result inside.board c.touch_all.new.self all)
     (all_touched c.args.manager)
     (λ key not. all_stay c.from.result inside.board c.touch_all.new.self all key (λ same. not (same ∙ owner)))
     (λ key named. ap result_of (all_blank c.from.result inside.board c.touch_all.new.self all key (named ∙ sym owner)) ∙ blank_result (piece_at key inside.board))
@@ -41,13 +39,14 @@ returns-clause-ok c =
     let now : InputData = standing inside in
     let e : AnEdit = plain c.args.edit in
     let is : IsTouched now e (touched.All c.args.manager) = subst (λ (s : SpansData). IsTouched (standing s) e (touched.All c.args.manager)) (sym c.self.view_is) c.requires.touched in
-    let topo : now.topo ≡ inside.log.topo = ap (λ (i : InputData). i.topo) (sym c.inputs.ensures.exact) ∙ c.inputs.ensures.topo in
-    let before : IsPresent now.fragments = subst IsPresent (c.present.ensures ∙ ap (λ (i : InputData). i.fragments) c.inputs.ensures.exact) c.is_empty.ensures.kept in
     let owner : c.from.result ≡ c.args.manager = c.from.ensures in
     let all = c.touch_all.ensures in
-    subst (λ (s : SpansData). EditsTo s e (record { log = c.accept.new.self; board = c.touch_all.new.self })) c.self.view_is
-    (edits_to inside c.self.invariant e topo before (names (touched.All c.args.manager)) is.exact c.accept.new.self c.in_ok-number.ensures.ok c.touch_all.new.self (all_openings c.from.result inside.board c.touch_all.new.self all)
+    subst (λ (s : SpansData). EditsTo s e (record { log = c.accepted.new.log; board = c.touch_all.new.self })) c.self.view_is
+    (edits_to inside c.self.invariant e c.accepted.ensures.topo c.accepted.ensures.before (names (touched.All c.args.manager)) is.exact c.accepted.new.log c.in_ok-number.ensures.ok c.touch_all.new.self (all_openings c.from.result inside.board c.touch_all.new.self all)
     (all_touched c.args.manager)
     (λ key not. all_stay c.from.result inside.board c.touch_all.new.self all key (λ same. not (same ∙ owner)))
     (λ key named. ap result_of (all_blank c.from.result inside.board c.touch_all.new.self all key (named ∙ sym owner)) ∙ blank_result (piece_at key inside.board))
     (λ key named. ap live_of (all_blank c.from.result inside.board c.touch_all.new.self all key (named ∙ sym owner)) ∙ blank_ticket (piece_at key inside.board)))
+
+pub returns-clause-before : goal.returns-clause-before
+returns-clause-before c = subst (λ (s : SpansData). IsPresent (standing s).fragments) c.self.view_is c.accepted.ensures.before

@@ -35,9 +35,9 @@ invariant_of-self c =
     let topo : (standing inside).topo ≡ inside.log.topo = ap (λ (i : InputData). i.topo) (sym c.inputs.ensures.exact) ∙ c.inputs.ensures.topo in
     let below : c.args.manager < length (standing inside).topo.managers = subst (λ (s : SpansData). c.args.manager < length (standing s).topo.managers) (sym c.self.view_is) c.requires.manager in
     let are : AreKeysOf (owner ∷ []) c.args.windows.now keys = subst (AreKeysOf (owner ∷ []) c.args.windows.now) (sym c.as_slice-keys.ensures.value) c.in_ok-keys.ensures in
-    let back : c.prune.new.pieces ≡ inside.board = gone_again inside c.self.invariant topo c.args.manager owner c.from-owner.ensures below c.topo.result.now c.deref.result.now c.present-then-is_err.result.now
-    (c.topo.ensures ∙ ap (λ (i : InputData). i.topo) c.inputs.ensures.exact) (c.deref.ensures.value ∙ c.in_ok-links.ensures) (c.present-then-is_err.ensures ∙ ap (λ (i : InputData). i.fragments) c.inputs-then-is_err.ensures.exact)
-    c.args.windows.now keys are c.grow.new.pieces c.prune.new.pieces c.grow.ensures.grown c.prune.ensures c.len.ensures.kept.keys c.len-then-is_err.ensures.kept.keys in
+    let back : c.prune.new.pieces ≡ inside.board = gone_again inside c.self.invariant topo c.args.manager owner c.from-owner.ensures below c.topo.result.now c.deref.result.now c.present.result.now
+    (c.topo.ensures ∙ ap (λ (i : InputData). i.topo) c.inputs.ensures.exact) (c.deref.ensures.value ∙ c.in_ok-links.ensures) (c.present.ensures ∙ ap (λ (i : InputData). i.fragments) c.inputs-then-is_err.ensures.exact)
+    c.args.windows.now keys are c.grow.new.pieces c.prune.new.pieces c.grow.ensures.grown c.prune.ensures.pruned c.grow.ensures.board.keys c.prune.ensures.board.keys in
     subst (λ (b : Board SpanState (List Row)). IsSound (record { log = inside.log; board = b })) (sym back) c.self.invariant
 
 pub returns-then-is_err-clause-err : goal.returns-then-is_err-clause-err
@@ -48,9 +48,9 @@ returns-then-is_err-clause-err c =
     let topo : (standing inside).topo ≡ inside.log.topo = ap (λ (i : InputData). i.topo) (sym c.inputs.ensures.exact) ∙ c.inputs.ensures.topo in
     let below : c.args.manager < length (standing inside).topo.managers = subst (λ (s : SpansData). c.args.manager < length (standing s).topo.managers) (sym c.self.view_is) c.requires.manager in
     let are : AreKeysOf (owner ∷ []) c.args.windows.now keys = subst (AreKeysOf (owner ∷ []) c.args.windows.now) (sym c.as_slice-keys.ensures.value) c.in_ok-keys.ensures in
-    let back : c.prune.new.pieces ≡ inside.board = gone_again inside c.self.invariant topo c.args.manager owner c.from-owner.ensures below c.topo.result.now c.deref.result.now c.present-then-is_err.result.now
-    (c.topo.ensures ∙ ap (λ (i : InputData). i.topo) c.inputs.ensures.exact) (c.deref.ensures.value ∙ c.in_ok-links.ensures) (c.present-then-is_err.ensures ∙ ap (λ (i : InputData). i.fragments) c.inputs-then-is_err.ensures.exact)
-    c.args.windows.now keys are c.grow.new.pieces c.prune.new.pieces c.grow.ensures.grown c.prune.ensures c.len.ensures.kept.keys c.len-then-is_err.ensures.kept.keys in
+    let back : c.prune.new.pieces ≡ inside.board = gone_again inside c.self.invariant topo c.args.manager owner c.from-owner.ensures below c.topo.result.now c.deref.result.now c.present.result.now
+    (c.topo.ensures ∙ ap (λ (i : InputData). i.topo) c.inputs.ensures.exact) (c.deref.ensures.value ∙ c.in_ok-links.ensures) (c.present.ensures ∙ ap (λ (i : InputData). i.fragments) c.inputs-then-is_err.ensures.exact)
+    c.args.windows.now keys are c.grow.new.pieces c.prune.new.pieces c.grow.ensures.grown c.prune.ensures.pruned c.grow.ensures.board.keys c.prune.ensures.board.keys in
     ap (λ (b : Board SpanState (List Row)). record { log = inside.log; board = b }) back ∙ c.self.view_is
 
 pub invariant_of-self-in-Ok : goal.invariant_of-self-in-Ok
@@ -67,14 +67,13 @@ invariant_of-self-in-Ok c =
     let is : (number window : ℕ) → Touches now e number window ↔ ((number ≡ owner) × Contains windows window) = λ number window.
     subst (λ o. Touches now e number window ↔ ((number ≡ o) × Contains windows window)) (sym own)
     (subst (λ (s : SpansData). Touches (standing s) e number window ↔ ((number ≡ c.args.manager) × Contains windows window)) (sym c.self.view_is) (c.requires.touched number window)) in
-    let before : IsPresent now.fragments = subst IsPresent (c.present.ensures ∙ ap (λ (i : InputData). i.fragments) c.inputs-2.ensures.exact) c.is_empty.ensures.kept in
-    let told : standing (record { log = c.accept.new.self; board = inside.board }) ≡ changed now e = stands inside e c.accept.new.self inside.board c.in-Ok.ensures.ok in
-    let after : IsPresent (changed now e).fragments = subst IsPresent (c.present-in-Ok.ensures ∙ ap (λ (i : InputData). i.fragments) (c.inputs-in-Ok.ensures.exact ∙ told)) c.is_empty-in-Ok.ensures.kept in
-    let beats : beats_of_all c.deref-in-Ok.result.now c.present-in-Ok-2.result.now ≡ manager_beats (changed now e).topo (changed now e).fragments owner =
-    read_beats (changed now e).topo c.topo.result.now c.args.manager owner c.deref-in-Ok.result.now c.present-in-Ok-2.result.now (changed now e).fragments (c.topo.ensures ∙ ap (λ (i : InputData). i.topo) c.inputs.ensures.exact ∙ sym (same_topology now e)) own
-    (c.deref-in-Ok.ensures.value ∙ c.in_ok-links.ensures) (c.present-in-Ok-2.ensures ∙ ap (λ (i : InputData). i.fragments) (c.inputs-in-Ok-2.ensures.exact ∙ told)) in
-    windows_sound inside c.self.invariant e topo before owner windows keys are is c.accept.new.self c.in-Ok.ensures.ok (beats_of_all c.deref-in-Ok.result.now c.present-in-Ok-2.result.now) c.grow.new.pieces c.prune-in-Ok.new.pieces c.touch_each.new.pieces
-    c.grow.ensures.grown c.prune-in-Ok.ensures c.touch_each.ensures after beats (on_ok c.grow.result _ c.grow.ensures.all (sym c.is_err.ensures.value ∙ c.if-is_err.false))
+    let told : standing (record { log = c.accepted.new.log; board = inside.board }) ≡ changed now e = stands inside e c.accepted.new.log inside.board c.in-Ok.ensures.ok in
+    let after : IsPresent (changed now e).fragments = subst IsPresent (ap (λ (i : InputData). i.fragments) told) c.accepted.ensures.after in
+    let beats : beats_of_all c.deref-in-Ok.result.now c.present-in-Ok.result.now ≡ manager_beats (changed now e).topo (changed now e).fragments owner =
+    read_beats (changed now e).topo c.topo.result.now c.args.manager owner c.deref-in-Ok.result.now c.present-in-Ok.result.now (changed now e).fragments (c.topo.ensures ∙ ap (λ (i : InputData). i.topo) c.inputs.ensures.exact ∙ sym (same_topology now e)) own
+    (c.deref-in-Ok.ensures.value ∙ c.in_ok-links.ensures) (c.present-in-Ok.ensures ∙ ap (λ (i : InputData). i.fragments) (c.inputs-in-Ok.ensures.exact ∙ told)) in
+    windows_sound inside c.self.invariant e topo c.accepted.ensures.before owner windows keys are is c.accepted.new.log c.in-Ok.ensures.ok (beats_of_all c.deref-in-Ok.result.now c.present-in-Ok.result.now) c.grow.new.pieces c.prune-in-Ok.new.pieces c.touch_each.new.pieces
+    c.grow.ensures.grown c.prune-in-Ok.ensures.pruned c.touch_each.ensures after beats (on_ok c.grow.result _ c.grow.ensures.all (sym c.is_err.ensures.value ∙ c.if-is_err.false))
 
 pub returns-in-Ok-clause-ok : goal.returns-in-Ok-clause-ok
 returns-in-Ok-clause-ok c =
@@ -89,10 +88,9 @@ returns-in-Ok-clause-ok c =
     let is : (number window : ℕ) → Touches now e number window ↔ ((number ≡ owner) × Contains windows window) = λ number window.
     subst (λ o. Touches now e number window ↔ ((number ≡ o) × Contains windows window)) (sym c.from-owner.ensures)
     (subst (λ (s : SpansData). Touches (standing s) e number window ↔ ((number ≡ c.args.manager) × Contains windows window)) (sym c.self.view_is) (c.requires.touched number window)) in
-    let before : IsPresent now.fragments = subst IsPresent (c.present.ensures ∙ ap (λ (i : InputData). i.fragments) c.inputs-2.ensures.exact) c.is_empty.ensures.kept in
-    subst (λ (s : SpansData). EditsTo s e (record { log = c.accept.new.self; board = c.touch_each.new.pieces })) c.self.view_is
-    (windows_edited inside c.self.invariant e topo before owner windows keys are is c.accept.new.self c.in-Ok.ensures.ok (beats_of_all c.deref-in-Ok.result.now c.present-in-Ok-2.result.now) c.grow.new.pieces c.prune-in-Ok.new.pieces c.touch_each.new.pieces
-    c.grow.ensures.grown c.prune-in-Ok.ensures c.touch_each.ensures)
+    subst (λ (s : SpansData). EditsTo s e (record { log = c.accepted.new.log; board = c.touch_each.new.pieces })) c.self.view_is
+    (windows_edited inside c.self.invariant e topo c.accepted.ensures.before owner windows keys are is c.accepted.new.log c.in-Ok.ensures.ok (beats_of_all c.deref-in-Ok.result.now c.present-in-Ok.result.now) c.grow.new.pieces c.prune-in-Ok.new.pieces c.touch_each.new.pieces
+    c.grow.ensures.grown c.prune-in-Ok.ensures.pruned c.touch_each.ensures)
 
 pub invariant_of-self-in-Err : goal.invariant_of-self-in-Err
 invariant_of-self-in-Err c =
@@ -105,8 +103,8 @@ invariant_of-self-in-Err c =
     let back : c.prune-in-Err.new.pieces ≡ inside.board = gone_again inside c.self.invariant topo c.args.manager owner c.from-owner.ensures below c.topo.result.now c.deref-in-Err.result.now c.present-in-Err.result.now
     (c.topo.ensures ∙ ap (λ (i : InputData). i.topo) c.inputs.ensures.exact) (c.deref-in-Err.ensures.value ∙ c.in_ok-links.ensures)
     (c.present-in-Err.ensures ∙ ap (λ (i : InputData). i.fragments) (c.inputs-in-Err.ensures.exact ∙ ap (λ (l : LogData). inputs_after l.topo l.edits) c.in-Err.ensures.err))
-    c.args.windows.now keys are c.grow.new.pieces c.prune-in-Err.new.pieces c.grow.ensures.grown c.prune-in-Err.ensures c.len.ensures.kept.keys c.len-in-Err.ensures.kept.keys in
-    subst (λ (b : Board SpanState (List Row)). IsSound (record { log = c.accept.new.self; board = b })) (sym back)
+    c.args.windows.now keys are c.grow.new.pieces c.prune-in-Err.new.pieces c.grow.ensures.grown c.prune-in-Err.ensures.pruned c.grow.ensures.board.keys c.prune-in-Err.ensures.board.keys in
+    subst (λ (b : Board SpanState (List Row)). IsSound (record { log = c.accepted.new.log; board = b })) (sym back)
     (subst (λ (l : LogData). IsSound (record { log = l; board = inside.board })) (sym c.in-Err.ensures.err) c.self.invariant)
 
 pub returns-clause-err : goal.returns-clause-err
@@ -120,5 +118,8 @@ returns-clause-err c =
     let back : c.prune-in-Err.new.pieces ≡ inside.board = gone_again inside c.self.invariant topo c.args.manager owner c.from-owner.ensures below c.topo.result.now c.deref-in-Err.result.now c.present-in-Err.result.now
     (c.topo.ensures ∙ ap (λ (i : InputData). i.topo) c.inputs.ensures.exact) (c.deref-in-Err.ensures.value ∙ c.in_ok-links.ensures)
     (c.present-in-Err.ensures ∙ ap (λ (i : InputData). i.fragments) (c.inputs-in-Err.ensures.exact ∙ ap (λ (l : LogData). inputs_after l.topo l.edits) c.in-Err.ensures.err))
-    c.args.windows.now keys are c.grow.new.pieces c.prune-in-Err.new.pieces c.grow.ensures.grown c.prune-in-Err.ensures c.len.ensures.kept.keys c.len-in-Err.ensures.kept.keys in
-    ap (λ (b : Board SpanState (List Row)). record { log = c.accept.new.self; board = b }) back ∙ ap (λ (l : LogData). record { log = l; board = inside.board }) c.in-Err.ensures.err ∙ c.self.view_is
+    c.args.windows.now keys are c.grow.new.pieces c.prune-in-Err.new.pieces c.grow.ensures.grown c.prune-in-Err.ensures.pruned c.grow.ensures.board.keys c.prune-in-Err.ensures.board.keys in
+    ap (λ (b : Board SpanState (List Row)). record { log = c.accepted.new.log; board = b }) back ∙ ap (λ (l : LogData). record { log = l; board = inside.board }) c.in-Err.ensures.err ∙ c.self.view_is
+
+pub returns-in-Ok-clause-before : goal.returns-in-Ok-clause-before
+returns-in-Ok-clause-before c = subst (λ (s : SpansData). IsPresent (standing s).fragments) c.self.view_is c.accepted.ensures.before

@@ -9,7 +9,7 @@ use Rattle.tl_edits.specs.Edits.{AnEdit, attach}
 use Rattle.tl_edits.specs.Inputs.{InputData, changed, refusal}
 use Rattle.tl_edits.specs.Log.{LogData, inputs_after}
 use Rattle.tl_capture.specs.declared.key.PieceKey.{PieceKey}
-use Rattle.tl_capture.specs.Pieces.{Board, opening_of, with_openings}
+use Rattle.tl_capture.specs.Pieces.{Board, IsBoard, opening_of, with_openings}
 use Rattle.tl_check.specs.Captured.{watched_beats}
 use Rattle.tl_capture.specs.Present.{IsPresent}
 use Rattle.tl_capture.specs.Windows.{HasBeat}
@@ -19,7 +19,7 @@ use Rattle.tl_board.proofs.WindowLemmas.{grown_none}
 use Rattle.tl_board.specs.declared.tally.Tally.{Tally}
 use Rattle.tl_board.specs.Accepting.{EditsBoth}
 use Rattle.tl_board.specs.Watches.{WatchesData, AreWatches}
-use Rattle.tl_board.proofs.AfterLemmas.{both_edited, both_watched, read_fragments, told}
+use Rattle.tl_board.proofs.AfterLemmas.{both_edited, both_watched, told}
 use Rattle.tl_board.proofs.OwnerLemmas.{none_yet, opened_keys, goes_again, attached_edited}
 use Rattle.tl_board.proofs.watches.Watches.attach.Goals as goal
 
@@ -30,7 +30,9 @@ grow-requires c =
     let monitor : ℕ = c.args.monitor in
     let w : Watch = c.args.watch in
     let keys : List PieceKey = c.as_slice-keys.result.now in
-    let read : c.inputs-inputs.result.now ≡ now = c.inputs-inputs.ensures.exact ∙ ap (λ (l : LogData). inputs_after l.topo l.edits) c.log.ensures.exact in
+    let read : c.inputs-inputs.result.now ≡ now = c.inputs-inputs.ensures.exact ∙
+    ap (λ (l : LogData). inputs_after l.topo l.edits) (c.log.ensures.exact ∙ ap (λ (s : SpansData). s.log) c.spans.ensures.exact ∙ ap (λ (d : WatchesData). d.spans.log) (sym c.self.view_is)) in
+    let board : IsBoard old.board = subst (λ (d : WatchesData). IsBoard d.board) (sym c.self.view_is) c.spans.ensures.board in
     let none : opening_of monitor old.board.openings ≡ None = none_yet (length old.spans.log.edits) now monitor w
     (subst (λ (d : WatchesData). refusal (length d.spans.log.edits) (standing d.spans) (attach monitor w) ≡ None) (sym c.self.view_is) c.requires.none) old.board c.self.invariant in
     let opens : c.add_owner.new.self ≡ with_openings old.board (insert_entry nat_cmp old.board.openings monitor (record { count = 0 })) =
@@ -38,7 +40,7 @@ grow-requires c =
     let exact : (key : PieceKey) → Contains keys key ↔ ((key.owner ≡ monitor) × HasBeat (watched_beats now.topo now.fragments w) key.window) = λ key.
     subst (λ (ks : List PieceKey). Contains ks key ↔ ((key.owner ≡ monitor) × HasBeat (watched_beats now.topo now.fragments w) key.window)) (sym c.as_slice-keys.ensures.value)
     (subst (λ (i : InputData). Contains c.in_ok-keys.keys.items key ↔ ((key.owner ≡ monitor) × HasBeat (watched_beats i.topo i.fragments w) key.window)) read (c.in_ok-keys.ensures key)) in
-    opened_keys now monitor w c.known.ensures old.board c.add_owner.new.self c.add_owner.new.self c.len.ensures.kept none opens keys exact (grown_none keys c.add_owner.new.self)
+    opened_keys now monitor w c.known.ensures old.board c.add_owner.new.self c.add_owner.new.self board none opens keys exact (grown_none keys c.add_owner.new.self)
 
 pub invariant_of-self-then-is_err : goal.invariant_of-self-then-is_err
 invariant_of-self-then-is_err c =
@@ -47,7 +49,9 @@ invariant_of-self-then-is_err c =
     let monitor : ℕ = c.args.monitor in
     let w : Watch = c.args.watch in
     let keys : List PieceKey = c.as_slice-keys.result.now in
-    let read : c.inputs-inputs.result.now ≡ now = c.inputs-inputs.ensures.exact ∙ ap (λ (l : LogData). inputs_after l.topo l.edits) c.log.ensures.exact in
+    let read : c.inputs-inputs.result.now ≡ now = c.inputs-inputs.ensures.exact ∙
+    ap (λ (l : LogData). inputs_after l.topo l.edits) (c.log.ensures.exact ∙ ap (λ (s : SpansData). s.log) c.spans.ensures.exact ∙ ap (λ (d : WatchesData). d.spans.log) (sym c.self.view_is)) in
+    let board : IsBoard old.board = subst (λ (d : WatchesData). IsBoard d.board) (sym c.self.view_is) c.spans.ensures.board in
     let none : opening_of monitor old.board.openings ≡ None = none_yet (length old.spans.log.edits) now monitor w
     (subst (λ (d : WatchesData). refusal (length d.spans.log.edits) (standing d.spans) (attach monitor w) ≡ None) (sym c.self.view_is) c.requires.none) old.board c.self.invariant in
     let opens : c.add_owner.new.self ≡ with_openings old.board (insert_entry nat_cmp old.board.openings monitor (record { count = 0 })) =
@@ -55,7 +59,7 @@ invariant_of-self-then-is_err c =
     let exact : (key : PieceKey) → Contains keys key ↔ ((key.owner ≡ monitor) × HasBeat (watched_beats now.topo now.fragments w) key.window) = λ key.
     subst (λ (ks : List PieceKey). Contains ks key ↔ ((key.owner ≡ monitor) × HasBeat (watched_beats now.topo now.fragments w) key.window)) (sym c.as_slice-keys.ensures.value)
     (subst (λ (i : InputData). Contains c.in_ok-keys.keys.items key ↔ ((key.owner ≡ monitor) × HasBeat (watched_beats i.topo i.fragments w) key.window)) read (c.in_ok-keys.ensures key)) in
-    let back : c.remove_owner.new.self ≡ old.board = goes_again now monitor w c.known.ensures old.board c.add_owner.new.self c.grow.new.pieces c.len.ensures.kept none opens keys exact c.grow.ensures.grown c.remove_owner.new.self c.remove_owner.ensures c.len-then-is_err.ensures.kept.keys in
+    let back : c.take_away.new.pieces ≡ old.board = goes_again now monitor w c.known.ensures old.board c.add_owner.new.self c.grow.new.pieces board none opens keys exact c.grow.ensures.grown c.take_away.new.pieces c.take_away.ensures.gone c.take_away.ensures.after.keys in
     subst (AreWatches now) (sym back) c.self.invariant
 
 pub returns-then-is_err-clause-err : goal.returns-then-is_err-clause-err
@@ -65,7 +69,9 @@ returns-then-is_err-clause-err c =
     let monitor : ℕ = c.args.monitor in
     let w : Watch = c.args.watch in
     let keys : List PieceKey = c.as_slice-keys.result.now in
-    let read : c.inputs-inputs.result.now ≡ now = c.inputs-inputs.ensures.exact ∙ ap (λ (l : LogData). inputs_after l.topo l.edits) c.log.ensures.exact in
+    let read : c.inputs-inputs.result.now ≡ now = c.inputs-inputs.ensures.exact ∙
+    ap (λ (l : LogData). inputs_after l.topo l.edits) (c.log.ensures.exact ∙ ap (λ (s : SpansData). s.log) c.spans.ensures.exact ∙ ap (λ (d : WatchesData). d.spans.log) (sym c.self.view_is)) in
+    let board : IsBoard old.board = subst (λ (d : WatchesData). IsBoard d.board) (sym c.self.view_is) c.spans.ensures.board in
     let none : opening_of monitor old.board.openings ≡ None = none_yet (length old.spans.log.edits) now monitor w
     (subst (λ (d : WatchesData). refusal (length d.spans.log.edits) (standing d.spans) (attach monitor w) ≡ None) (sym c.self.view_is) c.requires.none) old.board c.self.invariant in
     let opens : c.add_owner.new.self ≡ with_openings old.board (insert_entry nat_cmp old.board.openings monitor (record { count = 0 })) =
@@ -73,7 +79,7 @@ returns-then-is_err-clause-err c =
     let exact : (key : PieceKey) → Contains keys key ↔ ((key.owner ≡ monitor) × HasBeat (watched_beats now.topo now.fragments w) key.window) = λ key.
     subst (λ (ks : List PieceKey). Contains ks key ↔ ((key.owner ≡ monitor) × HasBeat (watched_beats now.topo now.fragments w) key.window)) (sym c.as_slice-keys.ensures.value)
     (subst (λ (i : InputData). Contains c.in_ok-keys.keys.items key ↔ ((key.owner ≡ monitor) × HasBeat (watched_beats i.topo i.fragments w) key.window)) read (c.in_ok-keys.ensures key)) in
-    let back : c.remove_owner.new.self ≡ old.board = goes_again now monitor w c.known.ensures old.board c.add_owner.new.self c.grow.new.pieces c.len.ensures.kept none opens keys exact c.grow.ensures.grown c.remove_owner.new.self c.remove_owner.ensures c.len-then-is_err.ensures.kept.keys in
+    let back : c.take_away.new.pieces ≡ old.board = goes_again now monitor w c.known.ensures old.board c.add_owner.new.self c.grow.new.pieces board none opens keys exact c.grow.ensures.grown c.take_away.new.pieces c.take_away.ensures.gone c.take_away.ensures.after.keys in
     ap (λ (b : Board Tally (List Row)). record { spans = old.spans; board = b }) back ∙ c.self.view_is
 
 pub invariant_of-self-in-Ok : goal.invariant_of-self-in-Ok
@@ -83,7 +89,9 @@ invariant_of-self-in-Ok c =
     let monitor : ℕ = c.args.monitor in
     let w : Watch = c.args.watch in
     let keys : List PieceKey = c.as_slice-keys.result.now in
-    let read : c.inputs-inputs.result.now ≡ now = c.inputs-inputs.ensures.exact ∙ ap (λ (l : LogData). inputs_after l.topo l.edits) c.log.ensures.exact in
+    let read : c.inputs-inputs.result.now ≡ now = c.inputs-inputs.ensures.exact ∙
+    ap (λ (l : LogData). inputs_after l.topo l.edits) (c.log.ensures.exact ∙ ap (λ (s : SpansData). s.log) c.spans.ensures.exact ∙ ap (λ (d : WatchesData). d.spans.log) (sym c.self.view_is)) in
+    let board : IsBoard old.board = subst (λ (d : WatchesData). IsBoard d.board) (sym c.self.view_is) c.spans.ensures.board in
     let none : opening_of monitor old.board.openings ≡ None = none_yet (length old.spans.log.edits) now monitor w
     (subst (λ (d : WatchesData). refusal (length d.spans.log.edits) (standing d.spans) (attach monitor w) ≡ None) (sym c.self.view_is) c.requires.none) old.board c.self.invariant in
     let opens : c.add_owner.new.self ≡ with_openings old.board (insert_entry nat_cmp old.board.openings monitor (record { count = 0 })) =
@@ -94,10 +102,9 @@ invariant_of-self-in-Ok c =
     let e : AnEdit = attach monitor w in
     let spans : SpansData = c.accept.new.self in
     let edits = c.in-Ok.ensures.ok in
-    let before : IsPresent now.fragments = subst IsPresent (read_fragments old.spans c.log.result.now c.inputs-inputs.result.now c.present.result.now c.log.ensures.exact c.inputs-inputs.ensures.exact c.present.ensures) c.is_empty.ensures.kept in
-    let after : IsPresent (changed now e).fragments =
-    subst IsPresent (read_fragments spans c.log-in-Ok.result.now c.inputs.result.now c.present-in-Ok.result.now c.log-in-Ok.ensures.exact c.inputs.ensures.exact c.present-in-Ok.ensures ∙ ap (λ (i : InputData). i.fragments) (told old.spans spans e edits)) c.is_empty-in-Ok.ensures.kept in
-    let is = attached_edited now monitor w c.known.ensures old.board c.add_owner.new.self c.grow.new.pieces c.len.ensures.kept none opens keys exact c.grow.ensures.grown
+    let before : IsPresent now.fragments = c.in-Ok.ensures.before in
+    let after : IsPresent (changed now e).fragments = subst IsPresent (ap (λ (i : InputData). i.fragments) (told old.spans spans e edits)) c.in-Ok.ensures.after in
+    let is = attached_edited now monitor w c.known.ensures old.board c.add_owner.new.self c.grow.new.pieces board none opens keys exact c.grow.ensures.grown
     (on_ok c.grow.result _ c.grow.ensures.all (sym c.is_err.ensures.value ∙ c.if-is_err.false)) before after in
     both_watched old e spans edits before after c.grow.new.pieces is c.self.invariant
 
@@ -108,7 +115,9 @@ returns-in-Ok-clause-ok c =
     let monitor : ℕ = c.args.monitor in
     let w : Watch = c.args.watch in
     let keys : List PieceKey = c.as_slice-keys.result.now in
-    let read : c.inputs-inputs.result.now ≡ now = c.inputs-inputs.ensures.exact ∙ ap (λ (l : LogData). inputs_after l.topo l.edits) c.log.ensures.exact in
+    let read : c.inputs-inputs.result.now ≡ now = c.inputs-inputs.ensures.exact ∙
+    ap (λ (l : LogData). inputs_after l.topo l.edits) (c.log.ensures.exact ∙ ap (λ (s : SpansData). s.log) c.spans.ensures.exact ∙ ap (λ (d : WatchesData). d.spans.log) (sym c.self.view_is)) in
+    let board : IsBoard old.board = subst (λ (d : WatchesData). IsBoard d.board) (sym c.self.view_is) c.spans.ensures.board in
     let none : opening_of monitor old.board.openings ≡ None = none_yet (length old.spans.log.edits) now monitor w
     (subst (λ (d : WatchesData). refusal (length d.spans.log.edits) (standing d.spans) (attach monitor w) ≡ None) (sym c.self.view_is) c.requires.none) old.board c.self.invariant in
     let opens : c.add_owner.new.self ≡ with_openings old.board (insert_entry nat_cmp old.board.openings monitor (record { count = 0 })) =
@@ -119,10 +128,9 @@ returns-in-Ok-clause-ok c =
     let e : AnEdit = attach monitor w in
     let spans : SpansData = c.accept.new.self in
     let edits = c.in-Ok.ensures.ok in
-    let before : IsPresent now.fragments = subst IsPresent (read_fragments old.spans c.log.result.now c.inputs-inputs.result.now c.present.result.now c.log.ensures.exact c.inputs-inputs.ensures.exact c.present.ensures) c.is_empty.ensures.kept in
-    let after : IsPresent (changed now e).fragments =
-    subst IsPresent (read_fragments spans c.log-in-Ok.result.now c.inputs.result.now c.present-in-Ok.result.now c.log-in-Ok.ensures.exact c.inputs.ensures.exact c.present-in-Ok.ensures ∙ ap (λ (i : InputData). i.fragments) (told old.spans spans e edits)) c.is_empty-in-Ok.ensures.kept in
-    let is = attached_edited now monitor w c.known.ensures old.board c.add_owner.new.self c.grow.new.pieces c.len.ensures.kept none opens keys exact c.grow.ensures.grown
+    let before : IsPresent now.fragments = c.in-Ok.ensures.before in
+    let after : IsPresent (changed now e).fragments = subst IsPresent (ap (λ (i : InputData). i.fragments) (told old.spans spans e edits)) c.in-Ok.ensures.after in
+    let is = attached_edited now monitor w c.known.ensures old.board c.add_owner.new.self c.grow.new.pieces board none opens keys exact c.grow.ensures.grown
     (on_ok c.grow.result _ c.grow.ensures.all (sym c.is_err.ensures.value ∙ c.if-is_err.false)) before after in
     subst (λ (d : WatchesData). EditsBoth d e (record { spans = spans; board = c.grow.new.pieces })) c.self.view_is (both_edited old e spans edits before after c.grow.new.pieces is)
 
@@ -133,7 +141,9 @@ invariant_of-self-in-Err c =
     let monitor : ℕ = c.args.monitor in
     let w : Watch = c.args.watch in
     let keys : List PieceKey = c.as_slice-keys.result.now in
-    let read : c.inputs-inputs.result.now ≡ now = c.inputs-inputs.ensures.exact ∙ ap (λ (l : LogData). inputs_after l.topo l.edits) c.log.ensures.exact in
+    let read : c.inputs-inputs.result.now ≡ now = c.inputs-inputs.ensures.exact ∙
+    ap (λ (l : LogData). inputs_after l.topo l.edits) (c.log.ensures.exact ∙ ap (λ (s : SpansData). s.log) c.spans.ensures.exact ∙ ap (λ (d : WatchesData). d.spans.log) (sym c.self.view_is)) in
+    let board : IsBoard old.board = subst (λ (d : WatchesData). IsBoard d.board) (sym c.self.view_is) c.spans.ensures.board in
     let none : opening_of monitor old.board.openings ≡ None = none_yet (length old.spans.log.edits) now monitor w
     (subst (λ (d : WatchesData). refusal (length d.spans.log.edits) (standing d.spans) (attach monitor w) ≡ None) (sym c.self.view_is) c.requires.none) old.board c.self.invariant in
     let opens : c.add_owner.new.self ≡ with_openings old.board (insert_entry nat_cmp old.board.openings monitor (record { count = 0 })) =
@@ -141,8 +151,8 @@ invariant_of-self-in-Err c =
     let exact : (key : PieceKey) → Contains keys key ↔ ((key.owner ≡ monitor) × HasBeat (watched_beats now.topo now.fragments w) key.window) = λ key.
     subst (λ (ks : List PieceKey). Contains ks key ↔ ((key.owner ≡ monitor) × HasBeat (watched_beats now.topo now.fragments w) key.window)) (sym c.as_slice-keys.ensures.value)
     (subst (λ (i : InputData). Contains c.in_ok-keys.keys.items key ↔ ((key.owner ≡ monitor) × HasBeat (watched_beats i.topo i.fragments w) key.window)) read (c.in_ok-keys.ensures key)) in
-    let back : c.remove_owner-in-Err.new.self ≡ old.board = goes_again now monitor w c.known.ensures old.board c.add_owner.new.self c.grow.new.pieces c.len.ensures.kept none opens keys exact c.grow.ensures.grown c.remove_owner-in-Err.new.self c.remove_owner-in-Err.ensures c.len-in-Err.ensures.kept.keys in
-    subst (λ (s : SpansData). AreWatches (standing s) c.remove_owner-in-Err.new.self) (sym c.in-Err.ensures.err) (subst (AreWatches now) (sym back) c.self.invariant)
+    let back : c.take_away-in-Err.new.pieces ≡ old.board = goes_again now monitor w c.known.ensures old.board c.add_owner.new.self c.grow.new.pieces board none opens keys exact c.grow.ensures.grown c.take_away-in-Err.new.pieces c.take_away-in-Err.ensures.gone c.take_away-in-Err.ensures.after.keys in
+    subst (λ (s : SpansData). AreWatches (standing s) c.take_away-in-Err.new.pieces) (sym c.in-Err.ensures.err) (subst (AreWatches now) (sym back) c.self.invariant)
 
 pub returns-clause-err : goal.returns-clause-err
 returns-clause-err c =
@@ -151,7 +161,9 @@ returns-clause-err c =
     let monitor : ℕ = c.args.monitor in
     let w : Watch = c.args.watch in
     let keys : List PieceKey = c.as_slice-keys.result.now in
-    let read : c.inputs-inputs.result.now ≡ now = c.inputs-inputs.ensures.exact ∙ ap (λ (l : LogData). inputs_after l.topo l.edits) c.log.ensures.exact in
+    let read : c.inputs-inputs.result.now ≡ now = c.inputs-inputs.ensures.exact ∙
+    ap (λ (l : LogData). inputs_after l.topo l.edits) (c.log.ensures.exact ∙ ap (λ (s : SpansData). s.log) c.spans.ensures.exact ∙ ap (λ (d : WatchesData). d.spans.log) (sym c.self.view_is)) in
+    let board : IsBoard old.board = subst (λ (d : WatchesData). IsBoard d.board) (sym c.self.view_is) c.spans.ensures.board in
     let none : opening_of monitor old.board.openings ≡ None = none_yet (length old.spans.log.edits) now monitor w
     (subst (λ (d : WatchesData). refusal (length d.spans.log.edits) (standing d.spans) (attach monitor w) ≡ None) (sym c.self.view_is) c.requires.none) old.board c.self.invariant in
     let opens : c.add_owner.new.self ≡ with_openings old.board (insert_entry nat_cmp old.board.openings monitor (record { count = 0 })) =
@@ -159,5 +171,8 @@ returns-clause-err c =
     let exact : (key : PieceKey) → Contains keys key ↔ ((key.owner ≡ monitor) × HasBeat (watched_beats now.topo now.fragments w) key.window) = λ key.
     subst (λ (ks : List PieceKey). Contains ks key ↔ ((key.owner ≡ monitor) × HasBeat (watched_beats now.topo now.fragments w) key.window)) (sym c.as_slice-keys.ensures.value)
     (subst (λ (i : InputData). Contains c.in_ok-keys.keys.items key ↔ ((key.owner ≡ monitor) × HasBeat (watched_beats i.topo i.fragments w) key.window)) read (c.in_ok-keys.ensures key)) in
-    let back : c.remove_owner-in-Err.new.self ≡ old.board = goes_again now monitor w c.known.ensures old.board c.add_owner.new.self c.grow.new.pieces c.len.ensures.kept none opens keys exact c.grow.ensures.grown c.remove_owner-in-Err.new.self c.remove_owner-in-Err.ensures c.len-in-Err.ensures.kept.keys in
+    let back : c.take_away-in-Err.new.pieces ≡ old.board = goes_again now monitor w c.known.ensures old.board c.add_owner.new.self c.grow.new.pieces board none opens keys exact c.grow.ensures.grown c.take_away-in-Err.new.pieces c.take_away-in-Err.ensures.gone c.take_away-in-Err.ensures.after.keys in
     ap (λ (b : Board Tally (List Row)). record { spans = c.accept.new.self; board = b }) back ∙ ap (λ (s : SpansData). record { spans = s; board = old.board }) c.in-Err.ensures.err ∙ c.self.view_is
+
+pub returns-in-Ok-clause-before : goal.returns-in-Ok-clause-before
+returns-in-Ok-clause-before c = subst (λ (d : WatchesData). IsPresent (standing d.spans).fragments) c.self.view_is c.in-Ok.ensures.before

@@ -1,16 +1,15 @@
-use Rattle.std.proofs.Common.{◌≡◌, true, subst}
-use Rattle.std.specs.Prelude.{is_some}
-use Rattle.std.specs.Option.{IfSome}
-use Rattle.tl_edits.specs.Inputs.{watch_at}
-use Rattle.tl_capture.specs.Pieces.{piece_at}
+use Rattle.std.proofs.Common.{subst}
+use Rattle.tl_capture.specs.Pieces.{IsNextFree}
 use Rattle.tl_board.specs.Spans.{standing}
-use Rattle.tl_board.specs.Watches.{WatchesData}
+use Rattle.tl_board.specs.Tally.{SameTally}
 use Rattle.tl_board.proofs.OutsideLemmas.{key_there, key_attached}
 use Rattle.tl_board.proofs.watches.Watches.next_free_watch.Goals as goal
 
+pub returns-clause-next : goal.returns-clause-next
+returns-clause-next c = subst (λ b. IsNextFree SameTally b c.args.from c.next_free.result) c.pieces.ensures.exact c.next_free.ensures
+
 pub returns-clause-there : goal.returns-clause-there
-returns-clause-there c = subst (λ (w : WatchesData). IfSome c.next_free.result (λ key. is_some (piece_at key w.board) ≡ true)) c.self.view_is (key_there c.self.inside.pieces _ c.next_free.result c.next_free.ensures)
+returns-clause-there c = key_there c.args.self.now.board _ c.next_free.result (returns-clause-next c)
 
 pub returns-clause-attached : goal.returns-clause-attached
-returns-clause-attached c = subst (λ (w : WatchesData). IfSome c.next_free.result (λ key. is_some (watch_at key.owner (standing w.spans).monitors) ≡ true)) c.self.view_is
-    (key_attached (standing c.self.inside.spans) c.self.inside.pieces c.self.invariant c.len.ensures.kept _ c.next_free.result c.next_free.ensures)
+returns-clause-attached c = key_attached (standing c.args.self.now.spans) c.args.self.now.board c.pieces.ensures.kept c.pieces.ensures.board _ c.next_free.result (returns-clause-next c)

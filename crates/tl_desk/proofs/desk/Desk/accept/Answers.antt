@@ -18,4 +18,4 @@ invariant_of-self g c =
     (handed_in inside.windows.spans c.hand_in_span.new.self.spans _ job.ticket _ c.hand_in_span.ensures.spans) in
     sound_ended inside c.self.invariant job c.hand_in_span.new.self c.end.new.self out (handed_in_log inside.windows.spans c.hand_in_span.new.self.spans _ _ c.hand_in_span.ensures.spans)
     quiet c.hand_in_span.ensures.rest
-    (c.end.ensures ∙ ap (λ n. ended n inside.tickets) c.into_parts-ticket.ensures.ticket) c.are_spent.ensures.kept
+    (c.end.ensures.exact ∙ ap (λ n. ended n inside.tickets) c.into_parts-ticket.ensures.ticket) c.end.ensures.kept

@@ -16,11 +16,11 @@ returns-in-Taken-clause-out g c =
     let old : Core = c.args.self.now in
     let new : Core = c.hand_in.new.self in
     let is : job_at c.args.at c.args.places.now.items ≡ Some (works.job_of c.in-Some.done) = ap (option_and_then job_of) c.in-Some.ensures.some.0 in
-    subst (λ ps. AreOut ps new) (sym c.in-Some.ensures.some.1) (out_handed_in c.args.places.now.items c.args.at c.in-Some.done true old new is c.log.ensures.kept c.settlements.ensures.kept c.requires c.in-Taken.ensures.back)
+    subst (λ ps. AreOut ps new) (sym c.in-Some.ensures.some.1) (out_handed_in c.args.places.now.items c.args.at c.in-Some.done true old new is c.log.ensures.kept c.log.ensures.desk.boxes c.requires c.in-Taken.ensures.back)
 
 pub returns-in-Void-clause-out : goal.returns-in-Void-clause-out
 returns-in-Void-clause-out g c =
     let old : Core = c.args.self.now in
     let new : Core = c.hand_in.new.self in
     let is : job_at c.args.at c.args.places.now.items ≡ Some (works.job_of c.in-Some.done) = ap (option_and_then job_of) c.in-Some.ensures.some.0 in
-    subst (λ ps. AreOut ps new) (sym c.in-Some.ensures.some.1) (out_handed_in c.args.places.now.items c.args.at c.in-Some.done false old new is c.log.ensures.kept c.settlements.ensures.kept c.requires c.in-Void.ensures.back)
+    subst (λ ps. AreOut ps new) (sym c.in-Some.ensures.some.1) (out_handed_in c.args.places.now.items c.args.at c.in-Some.done false old new is c.log.ensures.kept c.log.ensures.desk.boxes c.requires c.in-Void.ensures.back)

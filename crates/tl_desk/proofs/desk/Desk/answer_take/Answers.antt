@@ -11,7 +11,7 @@ returns-in-Ok-Some-clause-out g c =
     let new : Core = c.take.new.self in
     let job = c.in-Ok-Some.job in
     let gives : Gives old (Some job) new = subst (λ o. Gives old o new) c.in-Ok-Some.field-0-is c.in-Ok-Some.ensures.step in
-    subst (λ ps. AreOut ps new) (sym c.push_reserved.ensures.items) (out_taken c.args.places.now.items job old new c.log.ensures.kept c.requires.out gives)
+    subst (λ ps. AreOut ps new) (sym c.push_reserved.ensures.items) (out_taken c.args.places.now.items job old new c.take.ensures.kept c.requires.out gives)
 
 pub returns-in-Ok-Some-clause-answers : goal.returns-in-Ok-Some-clause-answers
 returns-in-Ok-Some-clause-answers g c =

@@ -35,7 +35,7 @@ invariant_of-self-in-Ok g c =
     goes_on (log_of old) c.accept.new.self.spans.log e log (stands old.windows.spans e c.accept.new.self.spans.log c.accept.new.self.spans.board log) (was_attached_more (standing old) c.args.number c.watch.result) in
     let ends : HaveEnded c.accept.new.self.spans.log c.attach.new.self =
     ends_attached (log_of old) c.accept.new.self.spans.log c.args.number c.watch.result c.args.watched old.boxes c.attach.new.self c.self.invariant.ends accepted goes c.in_ok-attach.ensures.ok in
-    sound_edited old e c.accept.new.self c.attach.new.self c.self.invariant c.in-Ok.ensures.ok c.present.ensures.kept c.present-in-Ok.ensures.kept kept ends
+    sound_edited old e c.accept.new.self c.attach.new.self c.self.invariant c.in-Ok.ensures.ok c.in-Ok.ensures.before c.in-Ok.ensures.after kept ends
 
 pub unwrap-requires : goal.unwrap-requires
 unwrap-requires g c =

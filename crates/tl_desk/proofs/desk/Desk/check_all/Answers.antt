@@ -2,7 +2,7 @@ use Rattle.std.proofs.Common.{[], List, refl, sym, ap, subst, ◌∙◌}
 use Rattle.tl_beats.specs.declared.Row.{Row}
 use Rattle.tl_capture.specs.Pieces.{Board}
 use Rattle.tl_board.specs.Recheck.{ChecksSome}
-use Rattle.tl_board.proofs.RecheckLemmas.{begun, in_error}
+use Rattle.tl_board.proofs.RecheckLemmas.{none_checked, in_error}
 use Rattle.tl_board.specs.declared.tally.Tally.{Tally}
 use Rattle.tl_board.specs.Tally.{SameTally}
 use Rattle.tl_desk.specs.Core.{Core}
@@ -21,7 +21,7 @@ returns-in_err-of_managers-clause-err g c =
     let some : RechecksSome old new = record {
       log = c.in_err-of_managers.ensures.log;
       managers = c.in_err-of_managers.ensures.err;
-      monitors = subst (λ (b : Board Tally (List Row)). ChecksSome SameTally old.windows.board b) (sym c.in_err-of_managers.ensures.rest) ([], (begun SameTally old.windows.board c.spans.ensures.board).checked);
+      monitors = subst (λ (b : Board Tally (List Row)). ChecksSome SameTally old.windows.board b) (sym c.in_err-of_managers.ensures.rest) ([], none_checked SameTally old.windows.board);
       boxes = kept_none old.boxes;
       left = none_left new.windows old.boxes;
       reports = refl;

@@ -18,4 +18,4 @@ invariant_of-self g c =
     (subst (λ n. Unmarks inside.windows.spans c.window_key.result n c.unmark.new.windows.spans) c.ticket-ticket.ensures c.unmark.ensures.made) in
     sound_ended inside c.self.invariant job c.unmark.new.windows c.end.new.self out (unmarked_log inside.windows.spans c.unmark.new.windows.spans (key_for job) job.ticket made)
     (unmarked inside.windows.spans c.unmark.new.windows.spans (key_for job) job.ticket made) c.unmark.ensures.rest
-    (c.end.ensures ∙ ap (λ n. ended n inside.tickets) c.ticket-ticket.ensures) c.are_spent.ensures.kept
+    (c.end.ensures.exact ∙ ap (λ n. ended n inside.tickets) c.ticket-ticket.ensures) c.end.ensures.kept

@@ -1,5 +1,5 @@
 use Rattle.std.proofs.Common.{◌≡◌, ◌++◌, ℕ, None, rules, map, length, sym, ap, subst, ◌∙◌}
-use Rattle.tl_monitor.specs.Boxes.{told, here_in, first_out}
+use Rattle.tl_monitor.specs.Boxes.{IsBoxes, told, here_in, first_out}
 use Rattle.tl_edits.specs.Log.{LogData}
 use Rattle.tl_desk.specs.Core.{Core, log_of}
 use Rattle.tl_desk.specs.Ends.{AllHaveEnded}
@@ -20,4 +20,4 @@ returns-clause-once g c =
     ∙ ap (λ (n : ℕ). inside.boxes.ended ++ map (λ e. (e.0, told e.1 n)) (here_in inside.boxes.slots)) (c.len.ensures.count ∙ ap (λ (l : LogData). length l.edits) c.into_log-log.ensures) in
     let none : first_out inside.boxes.slots ≡ None = search rules in
     subst (λ (s : Core). AllHaveEnded (log_of s) c.finish-told.result.items) c.self.view_is
-    (subst (AllHaveEnded (log_of inside)) (sym is) (all_have_ended inside c.self.invariant c.settlements.ensures.kept none))
+    (subst (AllHaveEnded (log_of inside)) (sym is) (all_have_ended inside c.self.invariant (subst (λ (s : Core). IsBoxes s.boxes) (sym c.self.view_is) c.first_away.ensures.boxes) none))

@@ -20,6 +20,6 @@ loop-place-preserved g c =
           c.loop-place.invariant.left c.log.ensures.desk c.in-Some.ensures.items c.leave_one.ensures.left;
     }
 
-pub returns : goal.returns
-returns g c =
-    left_all c.args.places.items c.args.self.now (into_iter_items c.loop-place.places) c.loop-place.self c.loop-place.invariant.left c.log-2.ensures.desk (sym c.loop-place.invariant.len ∙ c.in_default.ensures.cases.0)
+pub returns-in_default : goal.returns-in_default
+returns-in_default g c =
+    left_all c.args.places.items c.args.self.now (into_iter_items c.loop-place.places) c.loop-place.self c.loop-place.invariant.left c.log.ensures.desk (sym c.loop-place.invariant.len ∙ c.in_default.ensures.cases.0)

@@ -1,13 +1,8 @@
 use Rattle.std.proofs.Common.{◌≡◌, Some, sym, subst, ◌∙◌}
 use Rattle.std.specs.Option.{IfSome}
-use Rattle.std.specs.Result.{OnOk}
-use Rattle.tl_desk.specs.Works.{ticket_of, window_of}
-use Rattle.tl_desk.specs.Core.{Core}
-use Rattle.tl_desk.specs.Jobs.{IsOutHere, TakesBack}
+use Rattle.tl_desk.specs.Jobs.{IsOutHere}
 use Rattle.tl_desk.specs.Plays.{LeavesOne, job_of}
-use Rattle.tl_desk.specs.Steps.{Step}
-use Rattle.tl_desk.specs.declared.call.Call.TheVariants as call
-use Rattle.tl_desk.proofs.PlayLemmas.{left_none, left_out, not_refused, out_rest}
+use Rattle.tl_desk.proofs.PlayLemmas.{left_none, left_out, out_rest}
 use Rattle.tl_desk.proofs.desk.Desk.leave_one.Goals as goal
 
 pub returns-in_default-clause-left : goal.returns-in_default-clause-left
@@ -16,28 +11,17 @@ returns-in_default-clause-left g c = left_none c.args.place c.args.self.now (sym
 pub returns-in_default-clause-out : goal.returns-in_default-clause-out
 returns-in_default-clause-out g c = λ rest are. out_rest c.args.place rest c.args.self.now are
 
-pub unwrap-requires : goal.unwrap-requires
-unwrap-requires g c =
-    let job = c.in-Some.job in
-    let is : job_of c.args.place ≡ Some job = sym c.into_job.ensures ∙ c.in-Some.is in
-    let out : IsOutHere c.args.self.now job = subst (λ o. IfSome o (IsOutHere c.args.self.now)) is c.requires in
-    not_refused (IsOutHere c.args.self.now job) c.abandon.result c.abandon.ensures.stranger out
+pub give_up-requires : goal.give_up-requires
+give_up-requires g c =
+    let is : job_of c.args.place ≡ Some c.in-Some.job = sym c.into_job.ensures ∙ c.in-Some.is in
+    subst (λ o. IfSome o (IsOutHere c.args.self.now)) is c.requires
 
 pub returns-clause-left : goal.returns-clause-left
 returns-clause-left g c =
-    let old : Core = c.args.self.now in
-    let new : Core = c.abandon.new.self in
-    let job = c.in-Some.job in
-    let is : job_of c.args.place ≡ Some job = sym c.into_job.ensures ∙ c.in-Some.is in
-    let step : Step old (call.Abandon (ticket_of job) (window_of job)) new = subst (λ r. OnOk r (Step old (call.Abandon (ticket_of job) (window_of job)) new)) c.unwrap.ensures c.abandon.ensures.step in
-    let back : TakesBack old job new = subst (λ r. OnOk r (TakesBack old job new)) c.unwrap.ensures c.abandon.ensures.ended in
-    subst (λ o. LeavesOne o old new) (sym is) (step, back)
+    let is : job_of c.args.place ≡ Some c.in-Some.job = sym c.into_job.ensures ∙ c.in-Some.is in
+    subst (λ o. LeavesOne o c.args.self.now c.give_up.new.self) (sym is) (c.give_up.ensures.step, c.give_up.ensures.back)
 
 pub returns-clause-out : goal.returns-clause-out
 returns-clause-out g c = λ rest are. (
-    let old : Core = c.args.self.now in
-    let new : Core = c.abandon.new.self in
-    let job = c.in-Some.job in
-    let is : job_of c.args.place ≡ Some job = sym c.into_job.ensures ∙ c.in-Some.is in
-    let back : TakesBack old job new = subst (λ r. OnOk r (TakesBack old job new)) c.unwrap.ensures c.abandon.ensures.ended in
-    left_out c.args.place rest job old new is c.log.ensures.kept c.settlements.ensures.kept are back)
+    let is : job_of c.args.place ≡ Some c.in-Some.job = sym c.into_job.ensures ∙ c.in-Some.is in
+    left_out c.args.place rest c.in-Some.job c.args.self.now c.give_up.new.self is c.give_up.ensures.desk.kept c.give_up.ensures.desk.boxes are c.give_up.ensures.back)

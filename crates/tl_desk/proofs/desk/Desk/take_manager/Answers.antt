@@ -28,7 +28,7 @@ invariant_of-self-2 g c =
     let window : taken.piece ≡ window_of key =
     ap (λ n. piece.Manager n c.window.result) (c.manager.ensures.exact ∙ c.in_ok-task.ensures.owner) ∙ ap (λ n. piece.Manager key.owner n) (c.window.ensures ∙ c.in_ok-task.ensures.window) in
     let edits : taken.edits ≡ length (log_of inside).edits = c.len-edits.ensures.count ∙ ap (λ (l : LogData). length l.edits) (c.log.ensures.exact ∙ ap (λ (s : SpansData). s.log) c.spans.ensures.exact) in
-    sound_taken inside c.self.invariant key taken c.set_live_span.new.self c.give.new.self window edits c.in_ok-ticket.ensures.ok c.are_spent-2.ensures.kept made
+    sound_taken inside c.self.invariant key taken c.set_live_span.new.self c.give.new.self window edits c.in_ok-ticket.ensures.ok c.give.ensures.kept made
 
 pub returns-clause-step : goal.returns-clause-step
 returns-clause-step g c =

@@ -27,7 +27,7 @@ invariant_of-self-2 g c =
     let taken : Taken = record { piece = watch_window_of key; edits = c.len-edits.result } in
     let made : c.set_live_watch.new.self ≡ marked_watch key (Some (inside.tickets.last + 1)) inside.windows = c.set_live_watch.ensures ∙ ap (λ n. marked_watch key (Some n) inside.windows) c.in_ok-ticket.ensures.number in
     let edits : taken.edits ≡ length (log_of inside).edits = c.len-edits.ensures.count ∙ ap (λ (l : LogData). length l.edits) (c.log.ensures.exact ∙ ap (λ (s : SpansData). s.log) c.spans.ensures.exact) in
-    sound_left inside c.self.invariant key c.unwrap-monitor.result taken c.set_live_watch.new.self c.take_box.new.self c.give.new.self refl edits c.in_ok-ticket.ensures.ok c.are_spent-2.ensures.kept made
+    sound_left inside c.self.invariant key c.unwrap-monitor.result taken c.set_live_watch.new.self c.take_box.new.self c.give.new.self refl edits c.in_ok-ticket.ensures.ok c.give.ensures.kept made
     (sym c.take_box.ensures.monitor ∙ c.unwrap-monitor.ensures) (c.take_box.ensures.rest ∙ ap (λ n. taken_at key.owner n inside.boxes) c.in_ok-ticket.ensures.number)
 
 -- The monitor has the watch of its window.

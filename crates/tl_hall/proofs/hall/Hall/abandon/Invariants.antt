@@ -3,4 +3,4 @@ use Rattle.tl_hall.proofs.hall.Hall.abandon.Given as goal
 
 -- the ticket and its window
 abbrev pub ghosts-leave_with : goal.ghosts-leave_with
-ghosts-leave_with g a = record { call = call.Abandon a.told.now.0 a.told.now.1 }
+ghosts-leave_with g a = record { call = call.Abandon a._told.now.0 a._told.now.1 }

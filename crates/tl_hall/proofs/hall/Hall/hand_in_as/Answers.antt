@@ -13,7 +13,7 @@ pub leave_with-requires-clause-may : goal.leave_with-requires-clause-may
 leave_with-requires-clause-may g c helps = tt
 
 pub leave_with-requires-clause-desk : goal.leave_with-requires-clause-desk
-leave_with-requires-clause-desk g c =
+leave_with-requires-clause-desk g c kept =
     let e = c.enter-desk.ensures in
     let now = c.enter-desk.new.seat.me.0 in
     let done = c.args.done in
@@ -22,10 +22,10 @@ leave_with-requires-clause-desk g c =
     let made_call : Call = hand_in_of done true in
     let same : made_call ≡ told = ap (λ t. call.HandIn t (done_window done) (outcome_for done) true) (sym c.ticket-ticket.ensures) ∙ ap (λ p. call.HandIn c.ticket-ticket.result p (outcome_for done) true) (sym c.piece-piece.ensures)
     ∙ ap (λ o. call.HandIn c.ticket-ticket.result c.piece-piece.result o true) c.requires.came in
-    recorded_as now c.enter-desk.result c.hand_in.new.self made_call told same led tt c.in-Taken.ensures.step c.log.ensures.desk
+    recorded_as now c.enter-desk.result c.hand_in.new.self made_call told same led tt c.in-Taken.ensures.step kept
 
 pub leave_with-requires-in-Void-clause-desk : goal.leave_with-requires-in-Void-clause-desk
-leave_with-requires-in-Void-clause-desk g c =
+leave_with-requires-in-Void-clause-desk g c kept =
     let e = c.enter-desk.ensures in
     let now = c.enter-desk.new.seat.me.0 in
     let done = c.args.done in
@@ -34,7 +34,7 @@ leave_with-requires-in-Void-clause-desk g c =
     let made_call : Call = hand_in_of done false in
     let same : made_call ≡ told = ap (λ t. call.HandIn t (done_window done) (outcome_for done) false) (sym c.ticket-ticket.ensures) ∙ ap (λ p. call.HandIn c.ticket-ticket.result p (outcome_for done) false) (sym c.piece-piece.ensures)
     ∙ ap (λ o. call.HandIn c.ticket-ticket.result c.piece-piece.result o false) c.requires.came in
-    recorded_as now c.enter-desk.result c.hand_in.new.self made_call told same led tt c.in-Void.ensures.step c.log-in-Void.ensures.desk
+    recorded_as now c.enter-desk.result c.hand_in.new.self made_call told same led tt c.in-Void.ensures.step kept
 
 pub invariant_of-result : goal.invariant_of-result
 invariant_of-result g c = rests_with g.K.Rights.helps c.pass.inside.seat.me.0 c.enter-desk.new.seat.me c.leave_with.new.seat.me (call.HandIn c.ticket-ticket.result c.piece-piece.result g.C.Came.found true) c.pass.invariant.1 c.enter-desk.ensures.saw c.enter-desk.ensures.inside c.leave_with.ensures.now
@@ -53,7 +53,7 @@ returns-in-Taken g c =
     let after = c.leave_with.new.seat in
     subst (λ (p : PassData). Made p made_call (ComesTo done answer.Taken) (passed after.table_id after.me.0)) c.pass.view_is
     (made c.pass.inside.seat.table_id after.table_id c.pass.inside.seat.me.0 c.enter-desk.new.seat.me after.me c.enter-desk.result c.hand_in.new.self made_call (ComesTo done answer.Taken) (c.leave_with.ensures.hall ∙ e.hall) e.saw e.desk tt
-    c.in-Taken.ensures.step c.log.ensures.desk c.in-Taken.ensures.back (written c.enter-desk.new.seat.me after.me told made_call same c.leave_with.ensures.now))
+    c.in-Taken.ensures.step c.leave_with.ensures.desk c.in-Taken.ensures.back (written c.enter-desk.new.seat.me after.me told made_call same c.leave_with.ensures.now))
 
 pub returns-in-Void : goal.returns-in-Void
 returns-in-Void g c =
@@ -66,4 +66,4 @@ returns-in-Void g c =
     let after = c.leave_with-in-Void.new.seat in
     subst (λ (p : PassData). Made p made_call (ComesTo done answer.Void) (passed after.table_id after.me.0)) c.pass.view_is
     (made c.pass.inside.seat.table_id after.table_id c.pass.inside.seat.me.0 c.enter-desk.new.seat.me after.me c.enter-desk.result c.hand_in.new.self made_call (ComesTo done answer.Void) (c.leave_with-in-Void.ensures.hall ∙ e.hall) e.saw e.desk tt
-    c.in-Void.ensures.step c.log-in-Void.ensures.desk c.in-Void.ensures.back (written c.enter-desk.new.seat.me after.me told made_call same c.leave_with-in-Void.ensures.now))
+    c.in-Void.ensures.step c.leave_with-in-Void.ensures.desk c.in-Void.ensures.back (written c.enter-desk.new.seat.me after.me told made_call same c.leave_with-in-Void.ensures.now))

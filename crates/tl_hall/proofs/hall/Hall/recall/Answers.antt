@@ -10,11 +10,11 @@ pub leave_with-requires-clause-may : goal.leave_with-requires-clause-may
 leave_with-requires-clause-may g c helps = absurd (true≢false (sym helps ∙ (c.enter-desk.ensures.saw.helps_is ∙ c.pass.invariant.1)))
 
 pub leave_with-requires-clause-desk : goal.leave_with-requires-clause-desk
-leave_with-requires-clause-desk g c =
+leave_with-requires-clause-desk g c kept =
     let e = c.enter-desk.ensures in
     let now = c.enter-desk.new.seat.me.0 in
     let led = subst (λ r. Leads r now.seen c.enter-desk.result) (sym e.saw.topo_is) e.desk in
-    leads_more now.topo now.seen now.number c.enter-desk.result (call.Recall c.args.ticket) c.recall.new.self led tt (c.if-recall.ensures.step refl) c.log.ensures.desk
+    leads_more now.topo now.seen now.number c.enter-desk.result (call.Recall c.args.ticket) c.recall.new.self led tt (c.if-recall.ensures.step refl) kept
 
 pub invariant_of-result : goal.invariant_of-result
 invariant_of-result g c = rests_with false c.pass.inside.seat.me.0 c.enter-desk.new.seat.me c.leave_with.new.seat.me (call.Recall c.args.ticket) c.pass.invariant.1 c.enter-desk.ensures.saw c.enter-desk.ensures.inside c.leave_with.ensures.now
@@ -25,4 +25,4 @@ returns-then-recall-clause-live g c live =
     let made_call = call.Recall c.args.ticket in
     let after = c.leave_with.new.seat in
     subst (λ (p : PassData). Made p made_call NoMore (passed after.table_id after.me.0)) c.pass.view_is
-    (made c.pass.inside.seat.table_id after.table_id c.pass.inside.seat.me.0 c.enter-desk.new.seat.me after.me c.enter-desk.result c.recall.new.self made_call NoMore (c.leave_with.ensures.hall ∙ e.hall) e.saw e.desk tt (c.if-recall.ensures.step refl) c.log.ensures.desk tt c.leave_with.ensures.now)
+    (made c.pass.inside.seat.table_id after.table_id c.pass.inside.seat.me.0 c.enter-desk.new.seat.me after.me c.enter-desk.result c.recall.new.self made_call NoMore (c.leave_with.ensures.hall ∙ e.hall) e.saw e.desk tt (c.if-recall.ensures.step refl) c.leave_with.ensures.desk tt c.leave_with.ensures.now)

@@ -3,4 +3,4 @@ use Rattle.tl_hall.proofs.hall.Hall.recall.Given as goal
 
 -- the ticket
 abbrev pub ghosts-leave_with : goal.ghosts-leave_with
-ghosts-leave_with g a = record { call = call.Recall a.told.now }
+ghosts-leave_with g a = record { call = call.Recall a._told.now }

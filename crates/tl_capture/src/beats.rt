@@ -31,6 +31,7 @@ impl Present {
         ensures exact { IfOk result (λ beats. beats.items ≡ beats_of_all links.now self.now) }
         ensures kept { IfOk result (λ beats. AreBeatsOf links.now beats.items) }
     {
+        // No two fragments of a link share a number or a cycle.
         let _ = &self.ranges;
         self.gather(alloc, 0, u64::MAX, links)
     }
@@ -39,6 +40,7 @@ impl Present {
     pub fn has_beat(&self, window: u64, links: &[u16]) -> bool
         ensures { Decides result (HasBeat (beats_of_all links.now self.now) window) }
     {
+        // No two fragments of a link share a number or a cycle.
         let _ = &self.ranges;
         let Some((from, to)) = span_of(window) else {
             return false;
@@ -69,6 +71,7 @@ impl Present {
         ensures exact { IfOk result (λ walk. walk ≡ beats_of_all links.now self.now) }
         ensures kept { IfOk result (λ walk. AreBeatsOf links.now walk) }
     {
+        // No two fragments of a link share a number or a cycle.
         let _ = &self.ranges;
         self.merge(alloc, 0, u64::MAX, links)
     }
@@ -86,6 +89,7 @@ impl Present {
         ensures exact { IfOk result (λ walk. walk ≡ beats_within from to (beats_of_all links.now self.now)) }
         ensures kept { IfOk result (λ walk. AreBeatsOf links.now walk) }
     {
+        // No two fragments of a link share a number or a cycle.
         let _ = &self.ranges;
         self.merge(alloc, from, to, links)
     }

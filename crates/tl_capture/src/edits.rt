@@ -20,6 +20,7 @@ impl Present {
         ensures err { OnErr result (self.new ≡ self.old) }
     {
         let key = (link, fragment.number());
+        // Its beats lie in its range, in order.
         let _ = fragment.beats();
         self.numbers.insert(key, fragment.last())?;
         if let Err(fault) = self.ranges.insert(link, fragment) {
@@ -38,6 +39,7 @@ impl Present {
         ensures err { OnErr result (self.new ≡ self.old) }
     {
         let key = (link, fragment.number());
+        // Its beats lie in its range, in order.
         let _ = fragment.beats();
         let end = fragment.last();
         let Some(last) = self.numbers.get(&key) else {

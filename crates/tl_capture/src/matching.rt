@@ -27,6 +27,7 @@ impl Present {
         requires { IsStrictlySortedBy nat_cmp links.now }
         ensures { Decides result (beats.now ≡ beats_in window (beats_of_all links.now self.now)) }
     {
+        // No two fragments of a link share a number or a cycle.
         let _ = &self.ranges;
         let Some((from, to)) = span_of(window) else {
             return beats.is_empty();
@@ -44,6 +45,7 @@ impl Present {
         requires links { IsStrictlySortedBy nat_cmp links.now }
         ensures { Decides result (length (beats_within from to (beats_of_all links.now self.now)) ≡ count) }
     {
+        // No two fragments of a link share a number or a cycle.
         let _ = &self.ranges;
         let mut left = count;
         for link in links {
@@ -73,6 +75,7 @@ impl Present {
         requires { from ≤ to }
         ensures { Decides result (AreAmong (span_beats from to (recorded link fragment.now)) (beats_within from to (beats_of_all links.now self.now))) }
     {
+        // No two fragments of a link share a number or a cycle.
         let _ = &self.ranges;
         let (start, end) = bounds(fragment, from, to);
         if start == end {

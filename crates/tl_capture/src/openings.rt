@@ -61,6 +61,7 @@ impl<S> Openings<S> {
         ensures ok { OnOk result (self.new ≡ insert_entry nat_cmp self.old owner (arc_value opening)) }
         ensures err { OnErr result (self.new ≡ self.old) }
     {
+        // The owners rise.
         let _ = self.states.len();
         if self.states.insert(owner, opening).is_err() {
             return Err(AllocError);
@@ -74,6 +75,7 @@ impl<S> Openings<S> {
         S: Drop,
         ensures { self.new ≡ remove_entry (is_at (nat_cmp owner)) self.old }
     {
+        // The owners rise.
         let _ = self.states.len();
         self.states.remove(&owner);
     }

@@ -105,6 +105,7 @@ impl<S: Same + Drop, R: Drop> PieceMap<S, R> {
         // The keys rise, and each is of an owner; so do the owners.
         ensures kept { IsBoard self.now }
     {
+        // The owners rise.
         let _ = self.owners();
         self.slots.len()
     }

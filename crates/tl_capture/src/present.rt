@@ -52,6 +52,7 @@ impl Present {
         // Each is a fragment's, and no two of one link share a number or a cycle.
         ensures kept { IsPresent self.now }
     {
+        // No two fragments of a link share a number or a cycle.
         let _ = &self.numbers;
         self.ranges.is_empty()
     }

@@ -82,6 +82,7 @@ impl Ranges {
         ensures ok { OnOk result (self.new ≡ put_in (recorded link (arc_value fragment)) self.old) }
         ensures err { OnErr result (self.new ≡ self.old) }
     {
+        // Its beats lie in its range, in order.
         let _ = fragment.beats();
         let last = fragment.last();
         self.ends.insert((link, last), fragment)?;
@@ -107,6 +108,7 @@ impl Ranges {
         ensures ok { OnOk result (self.new ≡ put_in (recorded link (arc_value fragment)) (without_end link last self.old)) }
         ensures err { OnErr result (self.new ≡ self.old) }
     {
+        // Its beats lie in its range, in order.
         let _ = fragment.beats();
         let end = fragment.last();
         self.ends.insert((link, end), fragment)?;

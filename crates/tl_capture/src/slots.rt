@@ -72,6 +72,7 @@ impl<S, R> Slots<S, R> {
         ensures none { result ≡ not (some_wanted self.now) }
         ensures order { Rises self.now }
     {
+        // The keys rise.
         let _ = self.map.len();
         self.wanted.count == 0
     }
@@ -82,6 +83,7 @@ impl<S, R> Slots<S, R> {
         ensures same { self.new ≡ self.old }
         ensures order { Rises self.old }
     {
+        // The keys rise.
         let _ = self.map.len();
         self.wanted.cursor = find(&self.map, Mark::Wanted, self.wanted);
         self.wanted.cursor
@@ -92,6 +94,7 @@ impl<S, R> Slots<S, R> {
         ensures found { result ≡ first mark.Free self.old }
         ensures same { self.new ≡ self.old }
     {
+        // The keys rise.
         let _ = self.map.len();
         self.free.cursor = find(&self.map, Mark::Free, self.free);
         self.free.cursor
@@ -132,6 +135,7 @@ impl<S, R> Slots<S, R> {
     pub(crate) fn last_result(&self, key: PieceKey) -> Option<&Stored<S, R>>
         ensures { option_map (λ r. r.now) result ≡ last_result key.owner (before key self.now) }
     {
+        // The keys rise.
         let _ = self.map.len();
         let mut earlier = self.map.range(..key);
         while let Some((at, slot)) = earlier.next_back() {
@@ -150,6 +154,7 @@ impl<S, R> Slots<S, R> {
         ensures key { result ≡ if_owned owner (first_key (from (start_of owner) self.now)) }
         ensures order { Rises self.now }
     {
+        // The keys rise.
         let _ = self.map.len();
         match self.map.range(PieceKey { owner, window: 0 }..).next() {
             Some((at, _)) if at.owner == owner => Some(*at),
@@ -162,6 +167,7 @@ impl<S, R> Slots<S, R> {
         ensures key { result ≡ if_owned key.owner (first_key (after key self.now)) }
         ensures order { Rises self.now }
     {
+        // The keys rise.
         let _ = self.map.len();
         let mut later = self.map.range((Bound::Excluded(key), Bound::Unbounded));
         match later.next() {
@@ -180,6 +186,7 @@ impl<S, R> Slots<S, R> {
         ensures err { OnErr result (self.new ≡ self.old) }
         ensures order { Rises self.new }
     {
+        // The keys rise.
         let _ = self.map.len();
         if self.map.insert(key, Slot::blank()).is_err() {
             return Err(AllocError);
@@ -197,6 +204,7 @@ impl<S, R> Slots<S, R> {
         ensures slots { self.new ≡ remove_entry (is_at (key_cmp key)) self.old }
         ensures order { Rises self.old }
     {
+        // The keys rise.
         let _ = self.map.len();
         let Some(slot) = self.map.remove(&key) else {
             return;
@@ -215,6 +223,7 @@ impl<S, R> Slots<S, R> {
         ensures slots { self.new ≡ change key (changed what) self.old }
         ensures order { Rises self.old }
     {
+        // The keys rise.
         let _ = self.map.len();
         let Some(turn) = write(&mut self.map, key, what) else {
             return;

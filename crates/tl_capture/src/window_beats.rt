@@ -140,6 +140,7 @@ impl Present {
         ensures exact { IfOk result (λ beats. beats ≡ beats_in window (beats_of_all links.now self.now)) }
         ensures kept { IfOk result (λ beats. AreBeatsOf links.now beats) }
     {
+        // No two fragments of a link share a number or a cycle.
         let _ = &self.ranges;
         match span_of(window) {
             Some((from, to)) => self.share(alloc, from, to, links),
@@ -159,6 +160,7 @@ impl Present {
         requires links { IsStrictlySortedBy nat_cmp links.now }
         ensures { IfOk result (λ beats. beats ≡ beats_within from to (beats_of_all links.now self.now)) }
     {
+        // No two fragments of a link share a number or a cycle.
         let _ = &self.ranges;
         let mut parts = Vec::new(alloc);
         for link in links {

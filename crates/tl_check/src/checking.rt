@@ -28,6 +28,7 @@ pub(crate) fn with_watches(
     ensures links { (regions : AllRegions) → AreOfManagers topo.now regions present.now managers.items
         → IfOk result (λ rows. All (λ row. row.link < length topo.now.links) rows.items) }
 {
+    // No two fragments of a link share a number or a cycle.
     let _ = present.is_empty();
     let flagged = watches_rows(alloc, topo, present, watches)?;
     let mut rows = managers;

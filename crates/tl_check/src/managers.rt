@@ -64,6 +64,7 @@ pub(crate) fn links_rows(
     requires within { All (λ link. link < length topo.now.links) links.now }
     ensures { IfOk result (λ rows. rows.items ≡ rows_of_links (manager_at topo.now manager (areas_of regions.now)) present.now links.now) }
 {
+    // No two fragments of a link share a number or a cycle.
     let _ = present.is_empty();
     let exponent = topo.block(manager).unwrap();
     let mut rows = Vec::new(alloc);
@@ -123,6 +124,7 @@ pub(crate) fn with_caches(
     requires plain { ArePlainRows topo.now manager (areas_of regions.now) present.now plain.items }
     ensures { IfOk result (λ rows. AreOfManager topo.now manager (areas_of regions.now) present.now rows.items) }
 {
+    // No two fragments of a link share a number or a cycle.
     let _ = present.is_empty();
     let clients = clients_of(alloc, topo, manager)?;
     let cached = cached_links(alloc, topo, &clients)?;

@@ -27,6 +27,7 @@ fn monitor_rows<M: Monitor>(
     ensures { IfOk result (λ rows. IsReport (of_monitor number (M.held monitor).watch beats.now ∷ []) rows.items) }
 {
     let mut watched = Watched::new(monitor);
+    // Its watch names a channel, an opcode and a link that can be.
     let _ = watched.watch();
     let checked = monitor_check(alloc, number, &mut watched, 0, beats)?;
     Ok(checked.rows)
@@ -70,6 +71,7 @@ fn watch_rows(
 ) -> Result<Vec<Row>, AllocError>
     ensures { IfOk result (λ rows. IsReport (watch_capture topo.now present.now (number, watch.now) ∷ []) rows.items) }
 {
+    // No two fragments of a link share a number or a cycle.
     let _ = present.is_empty();
     let Some(link) = topo.link_of(&watch.link()) else {
         return Ok(Vec::new(alloc));

@@ -52,6 +52,7 @@ impl Log {
         ensures count { result ≡ length self.now.edits }
         ensures limit { result ≤ 65536 }
     {
+        // The log has at most 65,536 edits.
         let _ = &self.inputs;
         self.edits.len() as u64
     }

@@ -65,6 +65,7 @@ impl<M: Monitor> Boxes<M> {
         ensures exact { result.now ≡ self.now.ended }
         ensures kept { IsBoxes self.now }
     {
+        // The numbers rise.
         let _ = self.slots.len();
         self.ended.as_slice()
     }
@@ -136,6 +137,7 @@ impl<M: Monitor> Boxes<M> {
     pub fn retune(&mut self, number: u32, limit: u32)
         ensures { self.new ≡ retuned_at number limit self.old }
     {
+        // There is room for what each tells at its end, and each that is out left with its watch.
         let _ = &self.ended;
         if let Some(slot) = self.slots.get_mut(&number) {
             slot.retune(limit);
@@ -147,6 +149,7 @@ impl<M: Monitor> Boxes<M> {
         requires { is_some (held_at number self.old.slots) ≡ true }
         ensures { IfSome (held_at number self.old.slots) (λ held. self.new ≡ ended_at number held edit self.old) }
     {
+        // There is room for what each tells at its end, and each that is out left with its watch.
         let _ = &self.ended;
         let slot = self.slots.remove(&number).unwrap();
         let told = end(slot.into_monitor().unwrap(), edit);
@@ -158,6 +161,7 @@ impl<M: Monitor> Boxes<M> {
         requires { is_some (place_at number self.old.slots) ≡ true }
         ensures { self.new ≡ ended_at number monitor edit self.old }
     {
+        // There is room for what each tells at its end, and each that is out left with its watch.
         let _ = &self.ended;
         drop(self.slots.remove(&number));
         let told = end(monitor, edit);
@@ -168,6 +172,7 @@ impl<M: Monitor> Boxes<M> {
     fn set_closing(&mut self, number: u32, edit: u64)
         ensures { self.new ≡ option_map_or (λ place. placed_at number (place_closing edit place) self.old) (place_at number self.old.slots) self.old }
     {
+        // There is room for what each tells at its end, and each that is out left with its watch.
         let _ = &self.ended;
         if let Some(slot) = self.slots.get_mut(&number) {
             slot.set_closing(edit);
@@ -179,6 +184,7 @@ impl<M: Monitor> Boxes<M> {
         requires { is_some (place_at number self.old.slots) ≡ true }
         ensures { self.new ≡ placed_at number (Here monitor) self.old }
     {
+        // There is room for what each tells at its end, and each that is out left with its watch.
         let _ = &self.ended;
         let slot = self.slots.get_mut(&number).unwrap();
         slot.put(monitor);
@@ -202,6 +208,7 @@ impl<M: Monitor> Boxes<M> {
         ensures monitor { result ≡ held_at number self.old.slots }
         ensures rest { self.new ≡ taken_at number ticket self.old }
     {
+        // There is room for what each tells at its end, and each that is out left with its watch.
         let _ = &self.ended;
         self.slots.get_mut(&number)?.take(ticket)
     }

@@ -229,6 +229,7 @@ fn with_lines(
     ensures shown { IfOk result (λ text. IsShown topo.now present.now head.now rows.now (string_bytes text)) }
     ensures noted { IfOk result (λ text. IsNoted (head.now ++ flat_map (row_text topo.now) rows.now) (string_bytes text)) }
 {
+    // Each link has a name.
     let _ = topo.link_count();
     let count = shown_count(rows);
     let survey = survey_beats(alloc, topo, present, &rows[..count])?;

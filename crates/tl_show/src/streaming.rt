@@ -39,6 +39,7 @@ fn bare_notes(alloc: Global, topo: &Topo, kept: &Present, row: &Row) -> Result<S
     requires { row.now.link < length topo.now.links }
     ensures { IfOk result (λ text. IsNoted [] (string_bytes text)) }
 {
+    // Each link has a name.
     let _ = topo.link_count();
     match beat_of(kept, row) {
         Some(place) => bare_lines(alloc, topo, &place, row.rule),
@@ -94,6 +95,7 @@ fn told_notes(alloc: Global, topo: &Topo, told: &Told) -> Result<String, AllocEr
     requires { IsSoundTold topo.now told.now }
     ensures { IfOk result (λ text. IsNoted [] (string_bytes text)) }
 {
+    // Each link has a name.
     let _ = topo.link_count();
     told_lines(alloc, topo, told)
 }
@@ -126,6 +128,7 @@ fn row_with(
     requires { row.now.link < length topo.now.links }
     ensures { IfOk result (λ text. IsNoted (row_text topo.now row.now) (string_bytes text)) }
 {
+    // Each link has a name.
     let _ = topo.link_count();
     let line = row_text(alloc, topo, row)?;
     let notes = notes_of(alloc, topo, kept, told, row)?;

@@ -27,7 +27,7 @@ fn monitor_rows<M: Monitor>(
     ensures { IfOk result (λ rows. IsReport (of_monitor number (M.held monitor).watch beats.now ∷ []) rows.items) }
 {
     let mut watched = Watched::new(monitor);
-    // Its watch names a channel, an opcode and a link that can be.
+    // The limit of its watch has 32 bits.
     let _ = watched.watch();
     let checked = monitor_check(alloc, number, &mut watched, 0, beats)?;
     Ok(checked.rows)

@@ -267,6 +267,7 @@ fn passed(
     told: &Told,
     subject: Option<Subject>,
 ) -> Result<Pass, AllocError> {
+    // No two fragments of a link share a number or a cycle.
     let _ = present.is_empty();
     let exponent = topo.block(manager).unwrap_or(0);
     let clients = clients_of(alloc, topo, manager)?;

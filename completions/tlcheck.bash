@@ -4,7 +4,7 @@ _tlcheck() {
     case $COMP_CWORD:${COMP_WORDS[1]} in
     1:*) words='once run audit stream merge doctor view explain help --help --version' ;;
     *:once) words='--workers --manager --show --explain-faults --summary --deny --format --rule --link --from --to --waive --midway --help' ;;
-    *:run) words='--workers --show --explain-faults --summary --deny --help' ;;
+    *:run) words='--workers --show --explain-faults --summary --deny --midway --help' ;;
     *:audit) words='--workers --show --explain-faults --summary --deny --format --rule --link --from --to --waive --midway --help' ;;
     *:stream) words='--workers --setup --manager --show --explain-faults --midway --help' ;;
     *:merge) words='--explain-faults --help' ;;

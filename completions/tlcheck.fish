@@ -29,6 +29,7 @@ complete -c tlcheck -n '__fish_seen_subcommand_from run' -l show -d 'Puts after 
 complete -c tlcheck -n '__fish_seen_subcommand_from run' -l explain-faults -d 'Says on standard error what is wrong in a file and what would be right, as at a terminal'
 complete -c tlcheck -n '__fish_seen_subcommand_from run' -l summary -d 'Says on standard error how far a long run is, and after it what was checked and found, as at a terminal'
 complete -c tlcheck -n '__fish_seen_subcommand_from run' -x -a 'refused empty' -l deny -d 'Ends with status 2 where an edit or a report was refused (refused) or no beat was checked (empty)'
+complete -c tlcheck -n '__fish_seen_subcommand_from run' -l midway -d 'Writes only rows that stand whatever came before a capture from the middle of a run (any, the default), or if no burst that it cuts breaks U1 (bursts), or if it begins each channel with the head of a message (heads)'
 complete -c tlcheck -n '__fish_seen_subcommand_from run' -s h -l help -d 'Print help'
 complete -c tlcheck -n '__fish_seen_subcommand_from audit' -x -a '(seq 0 16)' -l workers -d 'How many threads judge beside the first, 0 to 16; 0 without this option'
 complete -c tlcheck -n '__fish_seen_subcommand_from audit' -l show -d 'Puts after each row its beat in words and the earlier beat that makes it so'

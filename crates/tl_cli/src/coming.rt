@@ -127,17 +127,17 @@ fn outcome_of<K: Maker + Drop, I: ByteIn, O: ByteOut>(
     alloc: Global,
     topo: &Topo,
     maker: K,
-    show: bool,
+    how: How,
     input: &mut I,
     out: &mut O,
 ) -> Result<(Outcome, Left<K>), Fault>
     requires { O.failure_count out.old < 2 ^ 63 }
     ensures { OnOk result (O.failure_count out.new ≡ O.failure_count out.old) }
 {
-    let Ok(log) = log_if(alloc, topo, show) else {
+    let Ok(log) = log_if(alloc, topo, how.show) else {
         return Ok((run_nothing(alloc, out)?, None));
     };
-    let Ok(making) = Making::new(alloc, topo, maker) else {
+    let Ok(making) = Making::new(alloc, topo, how.midway, maker) else {
         return Ok((run_nothing(alloc, out)?, None));
     };
     let (making, told) = carried_out(alloc, making, log, input, out);
@@ -151,7 +151,7 @@ fn outcome_of<K: Maker + Drop, I: ByteIn, O: ByteOut>(
 
 /// Whether the text of a run is wanted at its end.
 fn is_wanted(how: How) -> bool {
-    how.summary || how.deny.refused || how.deny.empty
+    how.summary || how.midway.is_some() || how.deny.refused || how.deny.empty
 }
 
 /// How a run ends that didn't stop, of which this text was kept.
@@ -169,6 +169,7 @@ fn ending_kept(
                 topo,
                 text,
                 show: how.show,
+                midway: how.midway,
             };
             ending_told(alloc, run, how, outcome, last)
         }
@@ -196,7 +197,7 @@ fn run_coming<I: ByteIn, O: ByteOut>(
         None
     };
     let mut kept = Kept { input, text };
-    let (outcome, left) = outcome_of(alloc, topo, watchers, how.show, &mut kept, out)?;
+    let (outcome, left) = outcome_of(alloc, topo, watchers, how, &mut kept, out)?;
     match left {
         Some((watchers, last)) if outcome.stop.is_none() => {
             write_settlements(alloc, &watchers.attached, out)?;

@@ -13,11 +13,11 @@ use std::sync::Wait;
 use std::thread::Threads;
 use tl_advice::{Look, More};
 use tl_commands::{
-    Denial, Ending, Fault, Manner, Past, Progress, Suspect, Written, audit_of_files,
+    Denial, Ending, Fault, Gauge, Manner, Past, Progress, Suspect, Written, audit_of_files,
     doctor_of_files, input_sentence, input_sentences, merge_of_files, once_of_files, once_sentence,
     report_of, run_sentences, script_sentence, stream_of_files, stream_sentence, view_of_files,
 };
-use tl_options::{Command, Told, not_utf8, read_words, titles};
+use tl_options::{AuditWords, Command, OnceWords, RunWords, Told, not_utf8, read_words, titles};
 use tl_script::Outcome;
 use tl_text::{ByteIn, ByteOut, read_text, write_all};
 
@@ -128,12 +128,8 @@ fn refusals_of<R: Files + AllocGlobal>(
     screen: Screen,
 ) -> Result<Option<String>, Fault> {
     match command {
-        Command::Run {
-            topology,
-            script,
-            ..
-        } if screen.has_sentences(command) => {
-            run_sentences(rt, *topology, *script, screen.look())
+        Command::Run(words) if screen.has_sentences(command) => {
+            run_sentences(rt, words.topology, words.script, screen.look())
         }
         _ => Ok(None),
     }
@@ -232,15 +228,11 @@ fn file_sentence<R: Files + AllocGlobal + Clone + Drop>(
     look: Look,
 ) -> Result<Option<String>, Fault> {
     match command {
-        Command::Once {
-            topology,
-            capture,
-            ..
-        } => once_sentence(
+        Command::Once(words) => once_sentence(
             rt,
-            Suspect::new(*topology, fault, look),
-            &capture.fragments,
-            &capture.managers,
+            Suspect::new(words.topology, fault, look),
+            &words.capture.fragments,
+            &words.capture.managers,
         ),
         Command::Doctor {
             topology,
@@ -257,16 +249,12 @@ fn file_sentence<R: Files + AllocGlobal + Clone + Drop>(
             reports,
             ..
         } => once_sentence(rt, Suspect::new(*topology, fault, look), reports, &[]),
-        Command::Run {
-            topology,
-            script,
-            ..
-        } => script_sentence(rt, Suspect::new(*topology, fault, look), *script),
-        Command::Audit {
-            topology,
-            script,
-            ..
-        } => script_sentence(rt, Suspect::new(*topology, fault, look), *script),
+        Command::Run(words) => {
+            script_sentence(rt, Suspect::new(words.topology, fault, look), words.script)
+        }
+        Command::Audit(words) => {
+            script_sentence(rt, Suspect::new(words.topology, fault, look), words.script)
+        }
         Command::Stream { topology, options } => {
             stream_sentence(rt, Suspect::new(*topology, fault, look), options)
         }
@@ -452,6 +440,64 @@ fn tell_ending<R: Files + AllocGlobal + Clone + Drop, E: ByteOut>(
     }
 }
 
+/// Does what the words of `once` ask for.
+fn do_once<R: Files + Threads + Sync + AllocGlobal + Clone + Drop, G: Gauge, O: ByteOut>(
+    rt: &R,
+    words: &OnceWords<'_>,
+    screen: Screen,
+    gauge: &mut G,
+    out: &mut O,
+) -> Result<Ending, Fault>
+    requires { O.failure_count out.old < 2 ^ 63 }
+{
+    let manner = Manner {
+        how: screen.how(words.how),
+        view: &words.view,
+    };
+    once_of_files(rt, words.topology, &words.capture, manner, gauge, out)
+}
+
+/// Does what the words of `run` ask for. One whose commands come tells no summary unless it is asked for.
+fn do_run<R: Files + Threads + Wait + Sync + AllocGlobal, I: ByteIn, G: Gauge, O: ByteOut>(
+    rt: &R,
+    words: RunWords<'_>,
+    input: &mut I,
+    screen: Screen,
+    gauge: &mut G,
+    out: &mut O,
+) -> Result<Ending, Fault>
+    requires { O.failure_count out.old < 2 ^ 63 }
+{
+    if words.comes() {
+        run_of_coming(rt, words.topology, input, words.how, gauge, out)
+    } else {
+        let how = screen.how(words.how);
+        run_of_files(rt, words.topology, words.script, how, gauge, out)
+    }
+}
+
+/// Does what the words of `audit` ask for.
+fn do_audit<R: Files + Threads + Sync + AllocGlobal, G: Gauge, O: ByteOut>(
+    rt: &R,
+    words: &AuditWords<'_>,
+    screen: Screen,
+    gauge: &mut G,
+    out: &mut O,
+) -> Result<Ending, Fault>
+    requires { O.failure_count out.old < 2 ^ 63 }
+{
+    let past = Past {
+        topology: words.topology,
+        script: words.script,
+        edit: words.edit,
+    };
+    let manner = Manner {
+        how: screen.how(words.how),
+        view: &words.view,
+    };
+    audit_of_files(rt, past, manner, gauge, out)
+}
+
 /// Does what a command asks for, and answers the exit status.
 fn do_command<
     R: Files + Clock + Threads + Wait + Sync + AllocGlobal + Clone + Drop,
@@ -470,45 +516,9 @@ fn do_command<
         match command {
             Command::Input => return run_input(rt, input, out, &mut progress, screen),
             Command::Explain { entry } => return tell_entry(rt.alloc(), out, &mut progress, *entry),
-            Command::Once {
-                topology,
-                capture,
-                how,
-                view,
-            } => {
-                let how = screen.how(*how);
-                let manner = Manner { how, view };
-                once_of_files(rt, *topology, capture, manner, &mut progress, out)
-            }
-            Command::Run {
-                topology,
-                script: "-",
-                how,
-                ..
-            } => run_of_coming(rt, *topology, input, *how, &mut progress, out),
-            Command::Run {
-                topology,
-                script,
-                how,
-            } => {
-                let how = screen.how(*how);
-                run_of_files(rt, *topology, *script, how, &mut progress, out)
-            }
-            Command::Audit {
-                topology,
-                script,
-                edit,
-                how,
-                view,
-            } => {
-                let past = Past {
-                    topology: *topology,
-                    script: *script,
-                    edit: *edit,
-                };
-                let how = screen.how(*how);
-                audit_of_files(rt, past, Manner { how, view }, &mut progress, out)
-            }
+            Command::Once(words) => do_once(rt, words, screen, &mut progress, out),
+            Command::Run(words) => do_run(rt, *words, input, screen, &mut progress, out),
+            Command::Audit(words) => do_audit(rt, words, screen, &mut progress, out),
             Command::Stream { topology, options } => {
                 stream_of_files(rt, *topology, options, input, out, &mut progress)
             }

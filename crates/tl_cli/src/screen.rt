@@ -42,14 +42,10 @@ impl Screen {
     /// Whether it is told there how far a command is: where its summary is, and at a terminal of those without one.
     pub(crate) fn has_progress(self, command: &Command<'_>) -> bool {
         match command {
-            Command::Run {
-                script: "-",
-                how,
-                ..
-            } => how.summary,
-            Command::Once { how, .. } | Command::Run { how, .. } | Command::Audit { how, .. } => {
-                self.how(*how).summary
-            }
+            Command::Run(words) if words.comes() => words.how.summary,
+            Command::Run(words) => self.how(words.how).summary,
+            Command::Once(words) => self.how(words.how).summary,
+            Command::Audit(words) => self.how(words.how).summary,
             _ => self.is_terminal(),
         }
     }

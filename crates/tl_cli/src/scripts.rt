@@ -11,11 +11,13 @@ use tl_advice::run_summary;
 use tl_beats::Watch;
 use tl_check::Report;
 use tl_commands::{
-    Ending, Fault, Gauge, LineCounter, denial_of_run, edits_in, ending_of, script_of, topology_of,
+    Ending, Fault, Gauge, LineCounter, denial_of_run, edits_in, ending_of, midway_notes, script_of,
+    topology_of,
 };
+use tl_midway::Midway;
 use tl_monitor::{After, Budget, Monitor};
 use tl_options::How;
-use tl_script::Outcome;
+use tl_script::{AuditFault, Outcome};
 use tl_text::{ByteOut, WriteFault, write_all};
 use tl_topology::{Topo, read_topo};
 use tl_workers::{Script, run_with, show_with};
@@ -29,6 +31,8 @@ pub(crate) struct ScriptRun<'a> {
     pub(crate) text: &'a [u8],
     /// Whether its reports are shown.
     pub(crate) show: bool,
+    /// By which law rows stand, where its capture begins in the middle of a run.
+    pub(crate) midway: Option<Midway>,
 }
 
 /// The run of a script with these monitors, of whatever kind: a script of boxes is not seen through by the borrow checker. Leaves
@@ -45,7 +49,7 @@ fn outcome_of<R: Threads + Wait + Sync + AllocGlobal, M: Monitor + Send, O: Byte
     requires out { O.failure_count out.old < 2 ^ 63 }
     ensures { OnOk result (O.failure_count out.new ≡ O.failure_count out.old) }
 {
-    let script = Script::new(run.topo, run.text, boxes);
+    let script = Script::new(run.topo, run.text, boxes).beginning(run.midway);
     if run.show {
         show_with(rt, rt.alloc(), script, out, workers, last)
     } else {
@@ -133,23 +137,39 @@ fn run_of_script<R: Threads + Wait + Sync + AllocGlobal, O: ByteOut>(
     run_attached(rt, run, &attached, workers, last, out)
 }
 
-/// The summary of a run that does not stop, if it is told; None where memory is refused.
-fn summary_of(
+/// What is told at the end of a run that does not stop: its summary, and what rows rest on where its capture begins in the middle of
+/// a run, each where it is told.
+fn closing(
+    alloc: Global,
+    run: ScriptRun<'_>,
+    summary: bool,
+    last: Option<&Report>,
+) -> Result<String, AuditFault> {
+    let mut text = match run.midway {
+        Some(law) => midway_notes(alloc, run.topo, run.text, last, law, summary)?,
+        None => String::new(alloc),
+    };
+    if summary {
+        let told = run_summary(alloc, run.topo, run.text, edits_in(run.text), last)?;
+        text.push_str(&told)?;
+    }
+    Ok(text)
+}
+
+/// What is told at the end of a run that does not stop, if something is; None where memory is refused.
+fn closing_of(
     alloc: Global,
     run: ScriptRun<'_>,
     how: How,
     last: Option<&Report>,
 ) -> Option<String> {
-    if !how.summary {
-        return None;
-    }
-    match run_summary(alloc, run.topo, run.text, edits_in(run.text), last) {
-        Ok(summary) => Some(summary),
-        Err(_) => None,
+    match closing(alloc, run, how.summary, last) {
+        Ok(text) if !text.is_empty() => Some(text),
+        _ => None,
     }
 }
 
-/// How the run of a script ends that came to this, with this last report: denied or not, and told in a summary or not.
+/// How the run of a script ends that came to this, with this last report: denied or not, and with what is told at its end.
 pub(crate) fn ending_told(
     alloc: Global,
     run: ScriptRun<'_>,
@@ -161,8 +181,8 @@ pub(crate) fn ending_told(
         return Ok(Ending::Came(outcome));
     }
     let denial = denial_of_run(how.deny, alloc, run.topo, run.text)?;
-    match summary_of(alloc, run, how, last) {
-        Some(summary) => Ok(Ending::Summed(outcome, denial, summary)),
+    match closing_of(alloc, run, how, last) {
+        Some(text) => Ok(Ending::Summed(outcome, denial, text)),
         None => Ok(ending_of(outcome, denial)),
     }
 }
@@ -200,6 +220,7 @@ fn run_on<R: Files + Threads + Wait + Sync + AllocGlobal, O: ByteOut>(
         topo,
         text: &text,
         show: how.show,
+        midway: how.midway,
     };
     run_denied(rt, run, how, out)
 }
@@ -233,6 +254,7 @@ pub(crate) fn run_of_input<R: Threads + Wait + Sync + AllocGlobal, O: ByteOut>(
         topo: &topo,
         text: &text[used..],
         show: false,
+        midway: None,
     };
     let mut last = None;
     run_of_script(rt, run, 0, &mut last, out)

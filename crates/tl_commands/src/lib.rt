@@ -25,6 +25,7 @@ pub use doctor::doctor_of_files;
 pub use fault::Fault;
 pub use files::{script_of, topology_of};
 pub use merging::merge_of_files;
+pub use midway::midway_notes;
 pub use picking::Written;
 pub use progress::{Gauge, LineCounter, Progress, SoFar};
 pub use reports::{Ending, Manner, Past, audit_of_files, ending_of, once_of_files, report_of};

@@ -1,10 +1,13 @@
 //! What is told of rows of a capture from the middle of a run.
 
 use crate::merging::link_name;
+use crate::pasts::inputs_left;
 use std::alloc::{AllocError, Global};
+use tl_check::Report;
 use tl_edits::Inputs;
 use tl_midway::{HeadsKnown, Midway, heads_known, lead_in_beats};
 use tl_rows::chan_text;
+use tl_script::AuditFault;
 use tl_tables::Chan;
 use tl_topology::Topo;
 
@@ -105,4 +108,27 @@ pub(crate) fn heads_text(
         text.push_str(&link_heads(alloc, inputs.topo(), own)?)?;
     }
     Ok(text)
+}
+
+/// What the rows of the last report of a script's run rest on: the law by which they stand, how many beats are in lead-ins, and with a
+/// summary from which cycle on heads are known. Without a report nothing of beats. The faults of an audit of its edits.
+pub fn midway_notes(
+    alloc: Global,
+    topo: &Topo,
+    script: &[u8],
+    last: Option<&Report>,
+    law: Midway,
+    summary: bool,
+) -> Result<String, AuditFault> {
+    let mut notes = String::new(alloc);
+    let Some(report) = last else {
+        notes.push_str(law_line(law))?;
+        return Ok(notes);
+    };
+    let inputs = inputs_left(alloc, topo, script, Some(report.edit()))?;
+    push_law(alloc, &inputs, law, &mut notes)?;
+    if summary {
+        notes.push_str(&heads_text(alloc, &inputs, Some(law))?)?;
+    }
+    Ok(notes)
 }

@@ -185,7 +185,7 @@ pub(crate) fn order_of<'a, R: Files + AllocGlobal>(
         pick,
         waive: view.waive,
         summary: how.summary,
-        midway: view.midway,
+        midway: how.midway,
     })
 }
 

@@ -85,6 +85,13 @@ pub struct Manner<'a, 'v> {
     pub view: &'a View<'v>,
 }
 
+impl Manner<'_, '_> {
+    /// Whether all rows of a whole run are written, as text, and nothing is told of them.
+    fn is_plain(self) -> bool {
+        !self.how.summary && self.how.midway.is_none() && self.view.is_whole()
+    }
+}
+
 /// How a command ends that wrote chosen rows.
 fn ending_with(written: Result<Written, Fault>) -> Result<Ending, Fault> {
     Ok(Ending::Picked(written?, None))
@@ -117,7 +124,7 @@ fn once_of<R: Files + Threads + Sync + AllocGlobal, O: ByteOut>(
 ) -> Result<Ending, Fault>
     requires { O.failure_count out.old < 2 ^ 63 }
 {
-    if manner.how.summary || !manner.view.is_whole() {
+    if !manner.is_plain() {
         return once_picked(rt, topo, fragments, manner, out);
     }
     let judges = Judges::new(rt, manner.how.workers);
@@ -247,7 +254,7 @@ fn audit_of<R: Files + Threads + Sync + AllocGlobal, O: ByteOut>(
 ) -> Result<Ending, Fault>
     requires { O.failure_count out.old < 2 ^ 63 }
 {
-    if manner.how.summary || !manner.view.is_whole() {
+    if !manner.is_plain() {
         return audit_picked(rt, audit, manner, out);
     }
     let Audit { topo, script, edit } = audit;

@@ -22,4 +22,4 @@ pub use explain::{entry_of, titles};
 pub use picture::Picture;
 pub use stream::StreamOptions;
 pub use view::View;
-pub use words::{Command, Deny, How, Told, not_utf8, read_words};
+pub use words::{AuditWords, Command, Deny, How, OnceWords, RunWords, Told, not_utf8, read_words};

@@ -1,12 +1,10 @@
 //! Which rows the words want to be written, and how.
 
-use crate::midway::{midway_asked, midway_option};
 use crate::usage::{Draft, setting};
 use clap::builder::ValueParser;
 use clap::error::ErrorKind;
 use clap::{Arg, ArgAction, ArgMatches, Error};
 use std::alloc::Global;
-use tl_midway::Midway;
 use tl_rows::{Cycles, Format, rule_named};
 use tl_tables::Rule;
 
@@ -23,19 +21,16 @@ pub struct View<'a> {
     pub cycles: Cycles,
     /// The path of a text of waivers.
     pub waive: Option<&'a str>,
-    /// By which law rows stand of a capture from the middle of a run; None where the capture is a whole run's.
-    pub midway: Option<Midway>,
 }
 
 impl View<'_> {
-    /// Whether all rows of a whole run are to be written, as text.
+    /// Whether all rows are to be written, as text.
     pub fn is_whole(&self) -> bool {
         matches!(self.format, Format::Text | Format::Shown)
             && self.rules.is_empty()
             && self.links.is_empty()
             && self.cycles == Cycles::ALL
             && self.waive.is_none()
-            && self.midway.is_none()
     }
 }
 
@@ -103,7 +98,6 @@ pub(crate) fn with_view<'a>(alloc: Global, command: Draft<'a>) -> Draft<'a> {
             "Writes only rows of this cycle and those before it",
         ))
         .arg(waive_option(alloc))
-        .arg(midway_option(alloc))
 }
 
 /// The format that the words want.
@@ -197,6 +191,5 @@ pub(crate) fn view_asked<'a>(
         links,
         cycles,
         waive: found.get_str("waive"),
-        midway: midway_asked(found),
     })
 }

@@ -4,6 +4,7 @@ use crate::capture::{Capture, capture_asked, fragments, managers};
 use crate::doctor::{doctor, doctor_asked};
 use crate::explain::entry_of;
 use crate::merge::{merge, merge_asked};
+use crate::midway::{midway_asked, midway_option};
 use crate::picture::{Picture, picture_asked, view};
 use crate::stream::{StreamOptions, stream, stream_asked};
 use crate::usage::{Draft, flag, setting, word};
@@ -12,6 +13,7 @@ use clap::builder::ValueParser;
 use clap::error::ErrorKind;
 use clap::{Arg, ArgAction, ArgMatches, Error};
 use std::alloc::{AllocError, Global};
+use tl_midway::Midway;
 
 /// What `--deny` makes a fault.
 #[derive(Clone, Copy)]
@@ -35,6 +37,54 @@ pub struct How {
     pub summary: bool,
     /// How many threads work beside the first, 0 to 16.
     pub workers: u8,
+    /// By which law rows stand of a capture from the middle of a run; None where the capture is a whole run's.
+    pub midway: Option<Midway>,
+}
+
+/// What the words of `once` ask for.
+#[derive(Drop)]
+pub struct OnceWords<'a> {
+    /// The path of the topology.
+    pub topology: &'a str,
+    /// The fragments.
+    pub capture: Capture<'a>,
+    /// How their report is made.
+    pub how: How,
+    /// Which rows are written.
+    pub view: View<'a>,
+}
+
+/// What the words of `run` ask for.
+#[derive(Clone, Copy)]
+pub struct RunWords<'a> {
+    /// The path of the topology.
+    pub topology: &'a str,
+    /// The path of the script, or `-`.
+    pub script: &'a str,
+    /// How it is run.
+    pub how: How,
+}
+
+impl RunWords<'_> {
+    /// Whether the script comes by standard input, command by command.
+    pub fn comes(&self) -> bool {
+        self.script == "-"
+    }
+}
+
+/// What the words of `audit` ask for.
+#[derive(Drop)]
+pub struct AuditWords<'a> {
+    /// The path of the topology.
+    pub topology: &'a str,
+    /// The path of the script.
+    pub script: &'a str,
+    /// How many of its accepted edits.
+    pub edit: u64,
+    /// How they are checked.
+    pub how: How,
+    /// Which rows are written.
+    pub view: View<'a>,
 }
 
 /// What the words ask for.
@@ -43,26 +93,11 @@ pub enum Command<'a> {
     /// No words: a topology and a script on standard input.
     Input,
     /// The report of fragments, from files.
-    Once {
-        topology: &'a str,
-        capture: Capture<'a>,
-        how: How,
-        view: View<'a>,
-    },
+    Once(OnceWords<'a>),
     /// The run of a script, from files.
-    Run {
-        topology: &'a str,
-        script: &'a str,
-        how: How,
-    },
+    Run(RunWords<'a>),
     /// What the first edits of a script leave, from files.
-    Audit {
-        topology: &'a str,
-        script: &'a str,
-        edit: u64,
-        how: How,
-        view: View<'a>,
-    },
+    Audit(AuditWords<'a>),
     /// The rows of fragments as they come.
     Stream {
         topology: &'a str,
@@ -97,9 +132,9 @@ impl Command<'_> {
     /// How it is to be done; None where its words say nothing of that.
     fn how(&self) -> Option<How> {
         match self {
-            Command::Once { how, .. } | Command::Run { how, .. } | Command::Audit { how, .. } => {
-                Some(*how)
-            }
+            Command::Once(words) => Some(words.how),
+            Command::Run(words) => Some(words.how),
+            Command::Audit(words) => Some(words.how),
             Command::Input
             | Command::Stream { .. }
             | Command::Merge { .. }
@@ -223,7 +258,7 @@ fn once<'a>(alloc: Global) -> Draft<'a> {
             "How many threads read files and judge beside the first, 0 to 16; 0 without this option",
         ))
         .arg(managers(alloc));
-    with_view(alloc, with_how(alloc, once))
+    with_view(alloc, with_how(alloc, once)).arg(midway_option(alloc))
 }
 
 pub(crate) fn workers<'a>(alloc: Global, help: &'a str) -> Arg<'a> {
@@ -248,7 +283,7 @@ fn run<'a>(alloc: Global) -> Draft<'a> {
             alloc,
             "How many threads check windows beside the first, 0 to 16; 0 without this option, and with - for the script",
         ));
-    with_how(alloc, run)
+    with_how(alloc, run).arg(midway_option(alloc))
 }
 
 fn edit<'a>(alloc: Global) -> Arg<'a> {
@@ -270,7 +305,7 @@ fn audit<'a>(alloc: Global) -> Draft<'a> {
             alloc,
             "How many threads judge beside the first, 0 to 16; 0 without this option",
         ));
-    with_view(alloc, with_how(alloc, audit))
+    with_view(alloc, with_how(alloc, audit)).arg(midway_option(alloc))
 }
 
 fn entry<'a>(alloc: Global) -> Arg<'a> {
@@ -349,6 +384,7 @@ fn how_asked(found: &ArgMatches<'_>, workers: u8) -> How {
         },
         summary: found.get_flag("summary"),
         workers,
+        midway: midway_asked(found),
     }
 }
 
@@ -373,12 +409,12 @@ fn once_asked<'a>(
 ) -> Result<Command<'a>, Error> {
     let view = view_asked(alloc, program, found)?;
     let capture = capture_asked(alloc, found)?;
-    Ok(Command::Once {
+    Ok(Command::Once(OnceWords {
         topology: found.get_str("TOPO").unwrap_or(""),
         capture,
         how: how_asked(found, workers_of(found)),
         view,
-    })
+    }))
 }
 
 /// The number of workers that words name.
@@ -401,11 +437,11 @@ fn run_asked<'a>(
     program: &mut clap::Command<'a>,
     found: &ArgMatches<'a>,
 ) -> Result<Command<'a>, Error> {
-    Ok(Command::Run {
+    Ok(Command::Run(RunWords {
         topology: found.get_str("TOPO").unwrap_or(""),
         script: found.get_str("SCRIPT").unwrap_or(""),
         how: how_asked(found, workers_asked(program, found)?),
-    })
+    }))
 }
 
 /// What the words of `audit` ask for.
@@ -415,13 +451,13 @@ fn audit_asked<'a>(
     found: &ArgMatches<'a>,
 ) -> Result<Command<'a>, Error> {
     let view = view_asked(alloc, program, found)?;
-    Ok(Command::Audit {
+    Ok(Command::Audit(AuditWords {
         topology: found.get_str("TOPO").unwrap_or(""),
         script: found.get_str("SCRIPT").unwrap_or(""),
         edit: found.get_one("EDIT").unwrap_or(0),
         how: how_asked(found, workers_of(found)),
         view,
-    })
+    }))
 }
 
 /// What is told of a word that `explain` doesn't know.

@@ -6,7 +6,6 @@ use Rattle.std.proofs.lemmas.Grind.{flat_map-append}
 use Rattle.std.proofs.lemmas.List.Concat.{flat_map-cons}
 use Rattle.std.specs.List.{AllByRecursion}
 use Rattle.std.specs.Io.KnownBytes.{Keeps, Appends}
-use Rattle.tl_topology.specs.Topology.{Topology}
 use Rattle.tl_beats.specs.declared.watch.Watch.{Watch}
 use Rattle.tl_check.specs.Notes.{Tells}
 use Rattle.tl_check.proofs.NoteLaws.{tells_nil}
@@ -25,7 +24,7 @@ use Rattle.tl_script.specs.declared.stop.StopCause.{StopCause}
 use Rattle.tl_script.specs.declared.stop.StopCause.TheVariants as cause
 use Rattle.tl_run.specs.Coming.{is_whole, all_watches, IsFirstOf, IsCarriedOut, IsCutOff, HasComeTo, KeepsUp}
 use Rattle.tl_script.specs.Asked.{Asking, asked, attached_by, watches_of}
-use Rattle.tl_run.specs.Output.{Progress, start, IsStep, IsOutput, TakesBox, LacksBox}
+use Rattle.tl_run.specs.Output.{Setting, Progress, start, IsStep, IsOutput, TakesBox, LacksBox}
 use Rattle.tl_run.specs.Stops.{AreSaid, IsSaid, IsFront, IsFrontOf, last_text}
 use Rattle.tl_script.specs.Causes.{of_script}
 use Rattle.tl_run.proofs.LineLaws.{nothing_said, said_written}
@@ -89,19 +88,19 @@ never_lacks asking boxes none lacks = lacks [] (ap (λ bs. bs ++ attached_by ask
 
 -- ---- a run that came so far
 
-pub record Came (noted : Bool) (topo : Topology) (script rest : List ℕ) (done : ℕ) (now : Progress) (old new : Known) (gathered : List ℕ) : Type 0 where
+pub record Came (noted : Bool) (setting : Setting) (script rest : List ℕ) (done : ℕ) (now : Progress) (old new : Known) (gathered : List ℕ) : Type 0 where
   pub before : List Command
   pub lines : List ℕ
   pub read : IsRead script rest before done
   pub lawful : AllByRecursion IsCommand before
   pub joins : script ≡ script_text before ++ rest
-  pub output : IsOutput topo start before lines now
+  pub output : IsOutput setting start before lines now
   pub said : AreSaid noted old new gathered lines
 
 -- It is one that has the monitors that the script attaches.
-pub ran_of : (noted : Bool) (topo : Topology) (script rest : List ℕ) (done : ℕ) (now : Progress) (old new : Known) (gathered : List ℕ) → Came noted topo script rest done now old new gathered
-    → Ran noted topo script rest done (all_watches script) (all_watches rest) now old new gathered
-ran_of noted topo script rest done now old new gathered came = record {
+pub ran_of : (noted : Bool) (setting : Setting) (script rest : List ℕ) (done : ℕ) (now : Progress) (old new : Known) (gathered : List ℕ) → Came noted setting script rest done now old new gathered
+    → Ran noted setting script rest done (all_watches script) (all_watches rest) now old new gathered
+ran_of noted setting script rest done now old new gathered came = record {
   before = came.before;
   lines = came.lines;
   read = came.read;
@@ -111,14 +110,14 @@ ran_of noted topo script rest done now old new gathered came = record {
 }
 
 -- The same, where what comes is known.
-abbrev pub CameBy : Bool → Topology → Known → Known → ℕ → Progress → Known → Known → List ℕ → Type 0
-CameBy noted topo None left done now old new gathered = Unit {0}
-CameBy noted topo (Some script) None done now old new gathered = ⊥
-CameBy noted topo (Some script) (Some rest) done now old new gathered = Came noted topo script rest done now old new gathered
+abbrev pub CameBy : Bool → Setting → Known → Known → ℕ → Progress → Known → Known → List ℕ → Type 0
+CameBy noted setting None left done now old new gathered = Unit {0}
+CameBy noted setting (Some script) None done now old new gathered = ⊥
+CameBy noted setting (Some script) (Some rest) done now old new gathered = Came noted setting script rest done now old new gathered
 
-begun : (noted : Bool) (topo : Topology) (known : Known) (now : Progress) (old : Known) (gathered : List ℕ) → now ≡ start → gathered ≡ [] → CameBy noted topo known (all_left [] known) 0 now old old gathered
-begun noted topo None now old gathered fresh empty = tt
-begun noted topo (Some script) now old gathered fresh empty = record {
+begun : (noted : Bool) (setting : Setting) (known : Known) (now : Progress) (old : Known) (gathered : List ℕ) → now ≡ start → gathered ≡ [] → CameBy noted setting known (all_left [] known) 0 now old old gathered
+begun noted setting None now old gathered fresh empty = tt
+begun noted setting (Some script) now old gathered fresh empty = record {
   before = [];
   lines = [];
   read = none_read script;
@@ -128,39 +127,39 @@ begun noted topo (Some script) now old gathered fresh empty = record {
   said = ([], tells_nil noted, subst (λ l. IsSaid old old l []) (sym empty) (nothing_said old));
 }
 
-pub came_none : (noted : Bool) (topo : Topology) (known : Known) (read : List ℕ) (now : Progress) (old : Known) (gathered : List ℕ) → read ≡ [] → now ≡ start → gathered ≡ []
-    → CameBy noted topo known (all_left read known) 0 now old old gathered
-came_none noted topo known read now old gathered none fresh empty =
-    subst (λ l. CameBy noted topo known (all_left l known) 0 now old old gathered) (sym none) (begun noted topo known now old gathered fresh empty)
+pub came_none : (noted : Bool) (setting : Setting) (known : Known) (read : List ℕ) (now : Progress) (old : Known) (gathered : List ℕ) → read ≡ [] → now ≡ start → gathered ≡ []
+    → CameBy noted setting known (all_left read known) 0 now old old gathered
+came_none noted setting known read now old gathered none fresh empty =
+    subst (λ l. CameBy noted setting known (all_left l known) 0 now old old gathered) (sym none) (begun noted setting known now old gathered fresh empty)
 
-pub came_kept : (noted : Bool) (topo : Topology) (known left then : Known) (done : ℕ) (now : Progress) (old new : Known) (gathered : List ℕ) → CameBy noted topo known left done now old new gathered → Keeps left then
-    → CameBy noted topo known then done now old new gathered
-came_kept noted topo None left then done now old new gathered came kept = tt
-came_kept noted topo (Some script) None then done now old new gathered came kept = absurd came
-came_kept noted topo (Some script) (Some rest) None done now old new gathered came kept = absurd kept
-came_kept noted topo (Some script) (Some rest) (Some again) done now old new gathered came kept = subst (λ l. Came noted topo script l done now old new gathered) (sym kept) came
+pub came_kept : (noted : Bool) (setting : Setting) (known left then : Known) (done : ℕ) (now : Progress) (old new : Known) (gathered : List ℕ) → CameBy noted setting known left done now old new gathered → Keeps left then
+    → CameBy noted setting known then done now old new gathered
+came_kept noted setting None left then done now old new gathered came kept = tt
+came_kept noted setting (Some script) None then done now old new gathered came kept = absurd came
+came_kept noted setting (Some script) (Some rest) None done now old new gathered came kept = absurd kept
+came_kept noted setting (Some script) (Some rest) (Some again) done now old new gathered came kept = subst (λ l. Came noted setting script l done now old new gathered) (sym kept) came
 
 -- what follows from it where what comes is known
-pub by_came : (noted : Bool) (topo : Topology) (known left : Known) (done : ℕ) (now : Progress) (old new : Known) (gathered : List ℕ) (P : List ℕ → Type 0) → CameBy noted topo known left done now old new gathered
-    → ((script rest : List ℕ) → Came noted topo script rest done now old new gathered → P script) → IfSome known P
-by_came noted topo None left done now old new gathered P came f = tt
-by_came noted topo (Some script) None done now old new gathered P came f = absurd came
-by_came noted topo (Some script) (Some rest) done now old new gathered P came f = f script rest came
+pub by_came : (noted : Bool) (setting : Setting) (known left : Known) (done : ℕ) (now : Progress) (old new : Known) (gathered : List ℕ) (P : List ℕ → Type 0) → CameBy noted setting known left done now old new gathered
+    → ((script rest : List ℕ) → Came noted setting script rest done now old new gathered → P script) → IfSome known P
+by_came noted setting None left done now old new gathered P came f = tt
+by_came noted setting (Some script) None done now old new gathered P came f = absurd came
+by_came noted setting (Some script) (Some rest) done now old new gathered P came f = f script rest came
 
 -- The same, where the first of what is left is the first of what was read of it.
-pub by_first : (noted : Bool) (topo : Topology) (known : Known) (read : List ℕ) (more : Known) (done : ℕ) (now : Progress) (old new : Known) (gathered : List ℕ) (P : List ℕ → Type 0)
-    → CameBy noted topo known (all_left read more) done now old new gathered → IfSome (all_left read more) (IsFirstOf read)
-    → ((script rest : List ℕ) → Came noted topo script rest done now old new gathered → command_in rest ≡ command_in read → P script) → IfSome known P
-by_first noted topo None read more done now old new gathered P came first f = tt
-by_first noted topo (Some script) read None done now old new gathered P came first f = absurd came
-by_first noted topo (Some script) read (Some more) done now old new gathered P came first f = f script (read ++ more) came first
+pub by_first : (noted : Bool) (setting : Setting) (known : Known) (read : List ℕ) (more : Known) (done : ℕ) (now : Progress) (old new : Known) (gathered : List ℕ) (P : List ℕ → Type 0)
+    → CameBy noted setting known (all_left read more) done now old new gathered → IfSome (all_left read more) (IsFirstOf read)
+    → ((script rest : List ℕ) → Came noted setting script rest done now old new gathered → command_in rest ≡ command_in read → P script) → IfSome known P
+by_first noted setting None read more done now old new gathered P came first f = tt
+by_first noted setting (Some script) read None done now old new gathered P came first f = absurd came
+by_first noted setting (Some script) read (Some more) done now old new gathered P came first f = f script (read ++ more) came first
 
 -- ---- one command more
 
-one_more : (noted : Bool) (topo : Topology) (script rest : List ℕ) (done : ℕ) (now next : Progress) (old new then : Known) (gathered kept : List ℕ) (c : Command) (taken : ℕ) (line : List ℕ)
-    → Came noted topo script rest done now old new gathered → command_in rest ≡ Ok (Some (c, taken)) → IsStep topo now (asked c) line next
-    → ((before : List ℕ) → AreSaid noted old new gathered before → AreSaid noted old then kept (before ++ line)) → Came noted topo script (drop taken rest) (done + 1) next old then kept
-one_more noted topo script rest done now next old new then gathered kept c taken line came e step told =
+one_more : (noted : Bool) (setting : Setting) (script rest : List ℕ) (done : ℕ) (now next : Progress) (old new then : Known) (gathered kept : List ℕ) (c : Command) (taken : ℕ) (line : List ℕ)
+    → Came noted setting script rest done now old new gathered → command_in rest ≡ Ok (Some (c, taken)) → IsStep setting now (asked c) line next
+    → ((before : List ℕ) → AreSaid noted old new gathered before → AreSaid noted old then kept (before ++ line)) → Came noted setting script (drop taken rest) (done + 1) next old then kept
+one_more noted setting script rest done now next old new then gathered kept c taken line came e step told =
     let law = in_starts rest c taken e in
     let behind : drop taken rest ≡ law.rest = ap (λ (n : ℕ). drop n rest) law.long ∙ ap (λ (l : List ℕ). drop (length (command_text c)) l) law.joins ∙ drop-append_seam (command_text c) law.rest in
     let text : rest ≡ command_text c ++ drop taken rest = law.joins ∙ ap (λ (l : List ℕ). command_text c ++ l) (sym behind) in
@@ -170,51 +169,51 @@ one_more noted topo script rest done now next old new then gathered kept c taken
       read = one_read script rest came.before done c taken came.read e;
       lawful = all_more came.before c came.lawful law.lawful;
       joins = came.joins ∙ ap (λ l. script_text came.before ++ l) text ∙ sym (append_assoc (script_text came.before) (command_text c) (drop taken rest)) ∙ ap (λ l. l ++ drop taken rest) (sym (spelled_more came.before c));
-      output = output_more topo start came.before came.lines now c line next came.output step;
+      output = output_more setting start came.before came.lines now c line next came.output step;
       said = told came.lines came.said;
     }
 
-pub came_more : (noted : Bool) (topo : Topology) (known : Known) (read : List ℕ) (more : Known) (done : ℕ) (now next : Progress) (old new then : Known) (gathered kept : List ℕ) (c : Command) (taken : ℕ) (line : List ℕ)
-    → CameBy noted topo known (all_left read more) done now old new gathered → IfSome (all_left read more) (IsFirstOf read) → command_in read ≡ Ok (Some (c, taken)) → IsStep topo now (asked c) line next
-    → ((before : List ℕ) → AreSaid noted old new gathered before → AreSaid noted old then kept (before ++ line)) → CameBy noted topo known (all_left (drop taken read) more) (done + 1) next old then kept
-came_more noted topo None read more done now next old new then gathered kept c taken line came first e step told = tt
-came_more noted topo (Some script) read None done now next old new then gathered kept c taken line came first e step told = absurd came
-came_more noted topo (Some script) read (Some more) done now next old new then gathered kept c taken line came first e step told =
+pub came_more : (noted : Bool) (setting : Setting) (known : Known) (read : List ℕ) (more : Known) (done : ℕ) (now next : Progress) (old new then : Known) (gathered kept : List ℕ) (c : Command) (taken : ℕ) (line : List ℕ)
+    → CameBy noted setting known (all_left read more) done now old new gathered → IfSome (all_left read more) (IsFirstOf read) → command_in read ≡ Ok (Some (c, taken)) → IsStep setting now (asked c) line next
+    → ((before : List ℕ) → AreSaid noted old new gathered before → AreSaid noted old then kept (before ++ line)) → CameBy noted setting known (all_left (drop taken read) more) (done + 1) next old then kept
+came_more noted setting None read more done now next old new then gathered kept c taken line came first e step told = tt
+came_more noted setting (Some script) read None done now next old new then gathered kept c taken line came first e step told = absurd came
+came_more noted setting (Some script) read (Some more) done now next old new then gathered kept c taken line came first e step told =
     let law = in_starts read c taken e in
     let front : drop taken (read ++ more) ≡ drop taken read ++ more =
     ap (λ (n : ℕ). drop n (read ++ more)) law.long ∙ ap (λ (l : List ℕ). drop (length (command_text c)) (l ++ more)) law.joins ∙ ap (λ (l : List ℕ). drop (length (command_text c)) l) (append_assoc (command_text c) law.rest more)
     ∙ drop-append_seam (command_text c) (law.rest ++ more)
     ∙ ap (λ (l : List ℕ). l ++ more) (sym (ap (λ (n : ℕ). drop n read) law.long ∙ ap (λ (l : List ℕ). drop (length (command_text c)) l) law.joins ∙ drop-append_seam (command_text c) law.rest)) in
-    subst (λ l. Came noted topo script l (done + 1) next old then kept) front (one_more noted topo script (read ++ more) done now next old new then gathered kept c taken line came (first ∙ e) step told)
+    subst (λ l. Came noted setting script l (done + 1) next old then kept) front (one_more noted setting script (read ++ more) done now next old new then gathered kept c taken line came (first ∙ e) step told)
 
 -- ---- where it ends without an outcome
 
 -- A write failed.
-pub came_cut : (noted : Bool) (topo : Topology) (known : Known) (read : List ℕ) (more : Known) (done : ℕ) (now next : Progress) (old new then : Known) (gathered : List ℕ) (c : Command) (taken : ℕ) (line : List ℕ)
-    → CameBy noted topo known (all_left read more) done now old new gathered → IfSome (all_left read more) (IsFirstOf read) → command_in read ≡ Ok (Some (c, taken)) → IsStep topo now (asked c) line next
-    → ((before : List ℕ) → AreSaid noted old new gathered before → IsFrontOf noted old then (before ++ line)) → IfSome known (IsCutOff noted topo old then)
-came_cut noted topo known read more done now next old new then gathered c taken line came first e step told =
-    by_first noted topo known read more done now old new gathered (IsCutOff noted topo old then) came first
+pub came_cut : (noted : Bool) (setting : Setting) (known : Known) (read : List ℕ) (more : Known) (done : ℕ) (now next : Progress) (old new then : Known) (gathered : List ℕ) (c : Command) (taken : ℕ) (line : List ℕ)
+    → CameBy noted setting known (all_left read more) done now old new gathered → IfSome (all_left read more) (IsFirstOf read) → command_in read ≡ Ok (Some (c, taken)) → IsStep setting now (asked c) line next
+    → ((before : List ℕ) → AreSaid noted old new gathered before → IsFrontOf noted old then (before ++ line)) → IfSome known (IsCutOff noted setting old then)
+came_cut noted setting known read more done now next old new then gathered c taken line came first e step told =
+    by_first noted setting known read more done now old new gathered (IsCutOff noted setting old then) came first
     (λ script rest so same.
-    cut_there noted topo script rest done (all_watches script) (all_watches rest) now old new gathered (ran_of noted topo script rest done now old new gathered so) c taken line next (all_watches (drop taken rest)) then (same ∙ e) step (takes_first rest c taken (same ∙ e)) told)
+    cut_there noted setting script rest done (all_watches script) (all_watches rest) now old new gathered (ran_of noted setting script rest done now old new gathered so) c taken line next (all_watches (drop taken rest)) then (same ∙ e) step (takes_first rest c taken (same ∙ e)) told)
 
 -- What comes next isn't whole.
-keeps_up : (noted : Bool) (topo : Topology) (script read more : List ℕ) (done : ℕ) (now : Progress) (old new : Known) (gathered : List ℕ) → Came noted topo script (read ++ more) done now old new gathered → gathered ≡ []
-    → is_whole (command_in read) ≡ false → KeepsUp noted topo (Some more) old new script
-keeps_up noted topo script read more done now old new gathered came empty cut = record {
+keeps_up : (noted : Bool) (setting : Setting) (script read more : List ℕ) (done : ℕ) (now : Progress) (old new : Known) (gathered : List ℕ) → Came noted setting script (read ++ more) done now old new gathered → gathered ≡ []
+    → is_whole (command_in read) ≡ false → KeepsUp noted setting (Some more) old new script
+keeps_up noted setting script read more done now old new gathered came empty cut = record {
   read = script_text came.before ++ read;
   consumed = came.joins ∙ sym (append_assoc (script_text came.before) read more);
   lines = came.lines;
   next = now;
-  output = subst (λ cs. IsOutput topo start cs came.lines now) (sym (read_commands came.before read came.lawful cut)) came.output;
+  output = subst (λ cs. IsOutput setting start cs came.lines now) (sym (read_commands came.before read came.lawful cut)) came.output;
   put = (came.said.0, came.said.1, said_written old new came.said.0 (subst (λ l. IsSaid old new l came.said.0) empty came.said.2));
 }
 
-pub came_unread : (noted : Bool) (topo : Topology) (known : Known) (read : List ℕ) (more : Known) (done : ℕ) (now : Progress) (old new : Known) (gathered : List ℕ) → CameBy noted topo known (all_left read more) done now old new gathered
-    → gathered ≡ [] → is_whole (command_in read) ≡ false → IfSome known (KeepsUp noted topo more old new)
-came_unread noted topo None read more done now old new gathered came empty cut = tt
-came_unread noted topo (Some script) read None done now old new gathered came empty cut = absurd came
-came_unread noted topo (Some script) read (Some more) done now old new gathered came empty cut = keeps_up noted topo script read more done now old new gathered came empty cut
+pub came_unread : (noted : Bool) (setting : Setting) (known : Known) (read : List ℕ) (more : Known) (done : ℕ) (now : Progress) (old new : Known) (gathered : List ℕ) → CameBy noted setting known (all_left read more) done now old new gathered
+    → gathered ≡ [] → is_whole (command_in read) ≡ false → IfSome known (KeepsUp noted setting more old new)
+came_unread noted setting None read more done now old new gathered came empty cut = tt
+came_unread noted setting (Some script) read None done now old new gathered came empty cut = absurd came
+came_unread noted setting (Some script) read (Some more) done now old new gathered came empty cut = keeps_up noted setting script read more done now old new gathered came empty cut
 
 -- ---- the end is written
 
@@ -228,37 +227,37 @@ abbrev ended : ℕ → Progress → StopCause → Outcome
 ended done now why = record { last_rows = length now.rows; stop = Some (record { cause = why; command = done + 1 }) }
 
 -- Memory is refused.
-pub came_want : (noted : Bool) (topo : Topology) (known left : Known) (done : ℕ) (now : Progress) (old new then : Known) (gathered kept : List ℕ) → CameBy noted topo known left done now old new gathered → then ≡ new → kept ≡ gathered
-    → IfSome known (HasComeTo noted topo old then kept (ended done now cause.Memory))
-came_want noted topo known left done now old new then gathered kept came same stays =
-    by_came noted topo known left done now old new gathered (HasComeTo noted topo old then kept (ended done now cause.Memory)) came
-    (λ script rest so. came_to_want noted topo script rest done (all_watches script) (all_watches rest) now old new gathered (ran_of noted topo script rest done now old new gathered so) then kept same stays)
+pub came_want : (noted : Bool) (setting : Setting) (known left : Known) (done : ℕ) (now : Progress) (old new then : Known) (gathered kept : List ℕ) → CameBy noted setting known left done now old new gathered → then ≡ new → kept ≡ gathered
+    → IfSome known (HasComeTo noted setting old then kept (ended done now cause.Memory))
+came_want noted setting known left done now old new then gathered kept came same stays =
+    by_came noted setting known left done now old new gathered (HasComeTo noted setting old then kept (ended done now cause.Memory)) came
+    (λ script rest so. came_to_want noted setting script rest done (all_watches script) (all_watches rest) now old new gathered (ran_of noted setting script rest done now old new gathered so) then kept same stays)
 
 -- The same, after as many as are counted.
-pub came_last : (noted : Bool) (topo : Topology) (known left : Known) (done count : ℕ) (now : Progress) (old new : Known) (gathered : List ℕ) → CameBy noted topo known left done now old new gathered → count ≡ done + 1
-    → IfSome known (HasComeTo noted topo old new gathered (record { last_rows = length now.rows; stop = Some (record { cause = cause.Memory; command = count }) }))
-came_last noted topo known left done count now old new gathered came counted =
-    subst (λ n. IfSome known (HasComeTo noted topo old new gathered (record { last_rows = length now.rows; stop = Some (record { cause = cause.Memory; command = n }) }))) (sym counted)
-    (came_want noted topo known left done now old new new gathered gathered came refl refl)
+pub came_last : (noted : Bool) (setting : Setting) (known left : Known) (done count : ℕ) (now : Progress) (old new : Known) (gathered : List ℕ) → CameBy noted setting known left done now old new gathered → count ≡ done + 1
+    → IfSome known (HasComeTo noted setting old new gathered (record { last_rows = length now.rows; stop = Some (record { cause = cause.Memory; command = count }) }))
+came_last noted setting known left done count now old new gathered came counted =
+    subst (λ n. IfSome known (HasComeTo noted setting old new gathered (record { last_rows = length now.rows; stop = Some (record { cause = cause.Memory; command = n }) }))) (sym counted)
+    (came_want noted setting known left done now old new new gathered gathered came refl refl)
 
-module _ (noted : Bool) (topo : Topology) (known : Known) (read : List ℕ) (more : Known) (done : ℕ) (now : Progress) (old new : Known) (gathered : List ℕ) (came : CameBy noted topo known (all_left read more) done now old new gathered) (first : IfSome (all_left read more) (IsFirstOf read)) where
+module _ (noted : Bool) (setting : Setting) (known : Known) (read : List ℕ) (more : Known) (done : ℕ) (now : Progress) (old new : Known) (gathered : List ℕ) (came : CameBy noted setting known (all_left read more) done now old new gathered) (first : IfSome (all_left read more) (IsFirstOf read)) where
   -- The next command is bad, or cut off at the end.
-  pub came_fault : (found : ScriptFault) → command_in read ≡ Err found → IfSome known (HasComeTo noted topo old new gathered (ended done now (of_script found)))
+  pub came_fault : (found : ScriptFault) → command_in read ≡ Err found → IfSome known (HasComeTo noted setting old new gathered (ended done now (of_script found)))
   came_fault found e =
-      by_first noted topo known read more done now old new gathered (HasComeTo noted topo old new gathered (ended done now (of_script found))) came first
-      (λ script rest so same. came_to_fault noted topo script rest done (all_watches script) (all_watches rest) now old new gathered (ran_of noted topo script rest done now old new gathered so) found (same ∙ e))
+      by_first noted setting known read more done now old new gathered (HasComeTo noted setting old new gathered (ended done now (of_script found))) came first
+      (λ script rest so same. came_to_fault noted setting script rest done (all_watches script) (all_watches rest) now old new gathered (ran_of noted setting script rest done now old new gathered so) found (same ∙ e))
 
   -- There is none.
-  pub came_end : command_in read ≡ Ok None → IfSome known (HasComeTo noted topo old new gathered (record { last_rows = length now.rows; stop = None }))
+  pub came_end : command_in read ≡ Ok None → IfSome known (HasComeTo noted setting old new gathered (record { last_rows = length now.rows; stop = None }))
   came_end e =
-      by_first noted topo known read more done now old new gathered (HasComeTo noted topo old new gathered (record { last_rows = length now.rows; stop = None })) came first
-      (λ script rest so same. came_to_end noted topo script rest done (all_watches script) (all_watches rest) now old new gathered (ran_of noted topo script rest done now old new gathered so) (same ∙ e))
+      by_first noted setting known read more done now old new gathered (HasComeTo noted setting old new gathered (record { last_rows = length now.rows; stop = None })) came first
+      (λ script rest so same. came_to_end noted setting script rest done (all_watches script) (all_watches rest) now old new gathered (ran_of noted setting script rest done now old new gathered so) (same ∙ e))
 
-module _ (noted : Bool) (topo : Topology) (known old now then : Known) (gathered notes : List ℕ) (outcome : Outcome) (come : IfSome known (HasComeTo noted topo old now gathered outcome)) (none : Tells noted [] notes) where
-  pub coming_cut : ((lines : List ℕ) → IsSaid old now gathered lines → IsFront old then (lines ++ (last_text outcome.stop ++ notes))) → IfSome known (IsCutOff noted topo old then)
+module _ (noted : Bool) (setting : Setting) (known old now then : Known) (gathered notes : List ℕ) (outcome : Outcome) (come : IfSome known (HasComeTo noted setting old now gathered outcome)) (none : Tells noted [] notes) where
+  pub coming_cut : ((lines : List ℕ) → IsSaid old now gathered lines → IsFront old then (lines ++ (last_text outcome.stop ++ notes))) → IfSome known (IsCutOff noted setting old then)
   coming_cut front =
-      if_some known (HasComeTo noted topo old now gathered outcome) (IsCutOff noted topo old then) (λ script so. end_cut noted topo script (all_watches script) old now then gathered notes outcome so none front) come
+      if_some known (HasComeTo noted setting old now gathered outcome) (IsCutOff noted setting old then) (λ script so. end_cut noted setting script (all_watches script) old now then gathered notes outcome so none front) come
 
-  pub coming_written : ((lines : List ℕ) → IsSaid old now gathered lines → Appends old then (lines ++ (last_text outcome.stop ++ notes))) → IfSome known (IsCarriedOut noted topo outcome old then)
+  pub coming_written : ((lines : List ℕ) → IsSaid old now gathered lines → Appends old then (lines ++ (last_text outcome.stop ++ notes))) → IfSome known (IsCarriedOut noted setting outcome old then)
   coming_written written =
-      if_some known (HasComeTo noted topo old now gathered outcome) (IsCarriedOut noted topo outcome old then) (λ script so. end_written noted topo script (all_watches script) old now then gathered notes outcome so none written) come
+      if_some known (HasComeTo noted setting old now gathered outcome) (IsCarriedOut noted setting outcome old then) (λ script so. end_written noted setting script (all_watches script) old now then gathered notes outcome so none written) come

@@ -39,11 +39,11 @@ attached_is (command.Detach number) = refl
 attached_is command.Publish = refl
 
 pub none_made : (run : RunData) (c : Command) → monitor_of c ≡ None → run ≡ supplied true (asked c) run
-none_made run c e = ap (λ bs. record { topo = run.topo; now = run.now; boxes = bs }) (sym (append-nil run.boxes) ∙ ap (λ ws. run.boxes ++ ws) (sym (attached_is c ∙ ap watch_in e)))
+none_made run c e = ap (λ bs. record { setting = run.setting; now = run.now; boxes = bs }) (sym (append-nil run.boxes) ∙ ap (λ ws. run.boxes ++ ws) (sym (attached_is c ∙ ap watch_in e)))
 
-pub one_made : (old new : RunData) (c : Command) (number : ℕ) (watch held : Watch) → monitor_of c ≡ Some (number, watch) → held ≡ watch → new.topo ≡ old.topo → new.now ≡ old.now → new.boxes ≡ old.boxes ++ held ∷ []
+pub one_made : (old new : RunData) (c : Command) (number : ℕ) (watch held : Watch) → monitor_of c ≡ Some (number, watch) → held ≡ watch → new.setting ≡ old.setting → new.now ≡ old.now → new.boxes ≡ old.boxes ++ held ∷ []
     → new ≡ supplied true (asked c) old
-one_made old new c number watch held e same topo now boxes =
-    ap (λ t. record { topo = t; now = new.now; boxes = new.boxes }) topo
-    ∙ ap (λ n. record { topo = old.topo; now = n; boxes = new.boxes }) now
-    ∙ ap (λ bs. record { topo = old.topo; now = old.now; boxes = bs }) (boxes ∙ ap (λ w. old.boxes ++ w ∷ []) same ∙ ap (λ ws. old.boxes ++ ws) (sym (attached_is c ∙ ap watch_in e)))
+one_made old new c number watch held e same setting now boxes =
+    ap (λ t. record { setting = t; now = new.now; boxes = new.boxes }) setting
+    ∙ ap (λ n. record { setting = old.setting; now = n; boxes = new.boxes }) now
+    ∙ ap (λ bs. record { setting = old.setting; now = old.now; boxes = bs }) (boxes ∙ ap (λ w. old.boxes ++ w ∷ []) same ∙ ap (λ ws. old.boxes ++ ws) (sym (attached_is c ∙ ap watch_in e)))

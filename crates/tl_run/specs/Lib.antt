@@ -1,4 +1,5 @@
 pub mod Boxes
 pub mod Output
+pub mod Sessions
 pub mod Stops
 pub mod Coming

@@ -1,19 +1,20 @@
 -- What the run of a script writes, command by command.
 use Rattle.std.specs.Prelude.{ℕ, ◌≡◌, ◌+◌, Bool, true, false, List, [], ◌∷◌, ◌++◌, length, Option, Some, None, Result, Ok, Err, nat_lt}
-use Rattle.std.specs.Option.{option_map_or}
 use Rattle.tl_topology.specs.Topology.{Topology}
 use Rattle.tl_beats.specs.Faults as fragment
 use Rattle.tl_beats.specs.declared.Row.{Row}
 use Rattle.tl_beats.specs.declared.watch.Watch.{Watch}
 use Rattle.tl_definitions.specs.Report.{IsReport}
 use Rattle.tl_edits.specs.Edits.{AnEdit, code_of, number_of}
-use Rattle.tl_edits.specs.Inputs.{refusal}
 use Rattle.tl_edits.specs.Log.{inputs_after}
 use Rattle.tl_edits.specs.declared.fault.EditFault.{EditFault}
+use Rattle.tl_edits.specs.Inputs.{InputData, refusal}
 use Rattle.tl_check.specs.Captured.{captures_after}
-use Rattle.tl_check.specs.Output.{ReportData, report_bytes}
+use Rattle.tl_check.specs.Output.{report_bytes}
+use Rattle.tl_midway.specs.declared.midway.Midway.{Midway}
+use Rattle.tl_midway.specs.Report.{IsMidwayReport}
 use Rattle.tl_script.specs.declared.command.Command.{Command}
-use Rattle.tl_desk.specs.Core.{Core, AreLinked, log_of, latest_of, most_versions}
+use Rattle.tl_desk.specs.Core.{AreLinked, most_versions}
 use Rattle.tl_edits.specs.declared.fault.EditFault.TheVariants as edit_fault
 use Rattle.tl_run.specs.declared.answer.Answer.{Answer}
 use Rattle.tl_run.specs.declared.answer.Answer.TheVariants as answer
@@ -27,18 +28,23 @@ pub record Progress : Type 0 where
   pub reports : ℕ
   pub rows : List Row
 
--- a run on its topology, and the watches of the monitors that no command has attached yet
-pub record RunData : Type 0 where
+-- What a run is of: its topology, and by which law rows stand where its capture begins in the middle of another run.
+pub record Setting : Type 0 where
   pub topo : Topology
+  pub midway : Option Midway
+
+-- one whose capture is a whole run's
+abbrev pub whole : Topology → Setting
+whole topo = record { topo = topo; midway = None }
+
+-- a run, what it is of, and the watches of the monitors that no command has attached yet
+pub record RunData : Type 0 where
+  pub setting : Setting
   pub now : Progress
   pub boxes : List Watch
 
 abbrev pub start : Progress
 start = record { edits = []; reports = 0; rows = [] }
-
--- what a run has come to whose desk is this
-abbrev pub progress_of : Core → Progress
-progress_of core = record { edits = (log_of core).edits; reports = length core.reports; rows = option_map_or (λ (r : ReportData). r.rows) (latest_of core.reports) [] }
 
 -- The lines of what came of a command.
 abbrev pub text_of : Topology → Answer → List ℕ
@@ -61,25 +67,30 @@ abbrev pub IsEdit : Progress → AnEdit → Option EditFault → List ℕ → Pr
 IsEdit now e None line next = (line ≡ edit_text (length now.edits + 1)) × (next ≡ record now { edits = now.edits ++ e ∷ [] })
 IsEdit now e (Some why) line next = (line ≡ refused_text (code_of why) (number_of why)) × (next ≡ now)
 
+-- The rows are those of a report of what edits leave: all that the definitions find, or those that stand by the law.
+abbrev pub HasRows : Option Midway → InputData → List Row → Type 0
+HasRows None now rows = IsReport (captures_after now) rows
+HasRows (Some law) now rows = IsMidwayReport law now rows
+
 -- The next report is of what the accepted edits leave.
-abbrev pub IsRenewed : Topology → Progress → Progress → Type 0
-IsRenewed topo now next = IsReport (captures_after (inputs_after topo now.edits)) next.rows × (next ≡ record now { reports = now.reports + 1; rows = next.rows })
+abbrev pub IsRenewed : Setting → Progress → Progress → Type 0
+IsRenewed setting now next = HasRows setting.midway (inputs_after setting.topo now.edits) next.rows × (next ≡ record now { reports = now.reports + 1; rows = next.rows })
 
 -- A report of what the accepted edits leave, where more reports can be published; else a refusal.
-abbrev pub IsPublish : Topology → Progress → Bool → List ℕ → Progress → Type 0
-IsPublish topo now true line next = IsRenewed topo now next
-    × (line ≡ report_bytes topo (record { version = next.reports; edit = length next.edits; rows = next.rows }))
-IsPublish topo now false line next = (line ≡ refused_text 32 None) × (next ≡ now)
+abbrev pub IsPublish : Setting → Progress → Bool → List ℕ → Progress → Type 0
+IsPublish setting now true line next = IsRenewed setting now next
+    × (line ≡ report_bytes setting.topo (record { version = next.reports; edit = length next.edits; rows = next.rows }))
+IsPublish setting now false line next = (line ≡ refused_text 32 None) × (next ≡ now)
 
 -- One command: its lines, and what the run then comes to.
-unfoldable pub IsStep : Topology → Progress → Asking → List ℕ → Progress → Type 0
-IsStep topo now (an_edit e) line next = IsEdit now e (refusal (length now.edits) (inputs_after topo now.edits) e) line next
-IsStep topo now (no_fragment fault) line next = (line ≡ refused_text (fragment.code_of fault) (fragment.number_of fault)) × (next ≡ now)
-IsStep topo now a_report line next = IsPublish topo now (nat_lt now.reports most_versions) line next
+unfoldable pub IsStep : Setting → Progress → Asking → List ℕ → Progress → Type 0
+IsStep setting now (an_edit e) line next = IsEdit now e (refusal (length now.edits) (inputs_after setting.topo now.edits) e) line next
+IsStep setting now (no_fragment fault) line next = (line ≡ refused_text (fragment.code_of fault) (fragment.number_of fault)) × (next ≡ now)
+IsStep setting now a_report line next = IsPublish setting now (nat_lt now.reports most_versions) line next
 
 -- a run after what a command attaches was made ready, where that is done
 abbrev pub supplied : Bool → Asking → RunData → RunData
-supplied true asking run = record { topo = run.topo; now = run.now; boxes = run.boxes ++ attached_by asking }
+supplied true asking run = record { setting = run.setting; now = run.now; boxes = run.boxes ++ attached_by asking }
 supplied false asking run = run
 
 -- The next of the monitors is the one that is attached, if one is, and these are left.
@@ -92,7 +103,7 @@ LacksBox boxes asking = (left : List Watch) → TakesBox boxes asking left → �
 
 -- One command takes its monitor, if it attaches one, and has lines of which this is true.
 abbrev pub Advances : RunData → Command → RunData → (List ℕ → Type 0) → Type 0
-Advances old c new IsTold = (line : List ℕ) × IsStep old.topo old.now (asked c) line new.now × TakesBox old.boxes (asked c) new.boxes × IsTold line
+Advances old c new IsTold = (line : List ℕ) × IsStep old.setting old.now (asked c) line new.now × TakesBox old.boxes (asked c) new.boxes × IsTold line
 
 -- One command advances the run that is viewed so.
 abbrev pub Steps : {R : Type 0} → (R → RunData) → R → R → Command → (List ℕ → Type 0) → Type 0
@@ -103,19 +114,19 @@ abbrev pub StepsSupplied : {R : Type 0} → (R → RunData) → R → R → Comm
 StepsSupplied so_far old new c IsTold = Advances (supplied true (asked c) (so_far old)) c (so_far new) IsTold
 
 -- Commands, one after the other.
-abbrev pub IsOutput : Topology → Progress → List Command → List ℕ → Progress → Type 0
-IsOutput topo now [] text next = (text ≡ []) × (next ≡ now)
-IsOutput topo now (c ∷ cs) text next = (line : List ℕ) × (rest : List ℕ) × (then : Progress) × IsStep topo now (asked c) line then
-    × IsOutput topo then cs rest next × (text ≡ line ++ rest)
+abbrev pub IsOutput : Setting → Progress → List Command → List ℕ → Progress → Type 0
+IsOutput setting now [] text next = (text ≡ []) × (next ≡ now)
+IsOutput setting now (c ∷ cs) text next = (line : List ℕ) × (rest : List ℕ) × (then : Progress) × IsStep setting now (asked c) line then
+    × IsOutput setting then cs rest next × (text ≡ line ++ rest)
 
 -- Commands have one output.
 abbrev pub OneOutput : Type 0
-OneOutput = (topo : Topology) (now : Progress) (commands : List Command) (one two : List ℕ) (here there : Progress)
-    → IsOutput topo now commands one here → IsOutput topo now commands two there → (one ≡ two) × (here ≡ there)
+OneOutput = (setting : Setting) (now : Progress) (commands : List Command) (one two : List ℕ) (here there : Progress)
+    → IsOutput setting now commands one here → IsOutput setting now commands two there → (one ≡ two) × (here ≡ there)
 
 -- ---- the edits alone
 
 -- They are those that a run comes to.
 abbrev pub RunsKeepEdits : Type 0
-RunsKeepEdits = (topo : Topology) (now : Progress) (commands : List Command) (text : List ℕ) (next : Progress)
-    → IsOutput topo now commands text next → next.edits ≡ accepted topo now.edits commands
+RunsKeepEdits = (setting : Setting) (now : Progress) (commands : List Command) (text : List ℕ) (next : Progress)
+    → IsOutput setting now commands text next → next.edits ≡ accepted setting.topo now.edits commands

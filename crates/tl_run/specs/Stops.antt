@@ -4,7 +4,6 @@ use Rattle.std.specs.Option.{option_map_or}
 use Rattle.std.specs.Io.KnownBytes.{Appends}
 use Rattle.tl_text.specs.Numbers.{numeral}
 use Rattle.tl_text.specs.Words.{ended}
-use Rattle.tl_topology.specs.Topology.{Topology}
 use Rattle.tl_beats.specs.declared.watch.Watch.{Watch}
 use Rattle.tl_check.specs.Notes.{Tells, IsPut}
 use Rattle.tl_script.specs.Scripts.{Script, commands_of, fault_of}
@@ -19,7 +18,7 @@ use Rattle.tl_script.specs.declared.stop.Stop.{Stop}
 use Rattle.tl_script.specs.declared.stop.StopCause.{StopCause}
 use Rattle.tl_script.specs.declared.stop.StopCause.TheVariants as cause
 use Rattle.tl_script.specs.Asked.{asked, watches_of}
-use Rattle.tl_run.specs.Output.{Progress, RunData, start, IsOutput, LacksBox}
+use Rattle.tl_run.specs.Output.{Progress, RunData, Setting, start, IsOutput, LacksBox}
 
 -- why a command has no lines
 abbrev pub of_command : CommandFault → LineFault
@@ -69,23 +68,23 @@ commands_before script None = script.commands
 commands_before script (Some stop) = take (stop.command - 1) script.commands
 
 -- What a run with these monitors writes, and what it comes to: the lines of its commands up to its end or its stop, and the line of the stop.
-pub record IsRun (topo : Topology) (script : Script) (boxes : List Watch) (stop : Option Stop) (text : List ℕ) (next : Progress) : Type 0 where
+pub record IsRun (setting : Setting) (script : Script) (boxes : List Watch) (stop : Option Stop) (text : List ℕ) (next : Progress) : Type 0 where
   pub stops : Stops boxes script stop
   pub have : HaveBoxes boxes (commands_before script stop)
   pub lines : List ℕ
-  pub output : IsOutput topo start (commands_before script stop) lines next
+  pub output : IsOutput setting start (commands_before script stop) lines next
   pub text_is : text ≡ lines ++ last_text stop
 
-abbrev pub IsOutcome : Topology → List ℕ → List Watch → Outcome → List ℕ → Type 0
-IsOutcome topo bytes boxes outcome text = (next : Progress) × IsRun topo (commands_of bytes) boxes outcome.stop text next × (outcome.last_rows ≡ length next.rows)
+abbrev pub IsOutcome : Setting → List ℕ → List Watch → Outcome → List ℕ → Type 0
+IsOutcome setting bytes boxes outcome text = (next : Progress) × IsRun setting (commands_of bytes) boxes outcome.stop text next × (outcome.last_rows ≡ length next.rows)
 
 -- All that the run of a script writes was written.
-abbrev pub IsWritten : Topology → List ℕ → List Watch → Outcome → Option (List ℕ) → Option (List ℕ) → Type 0
-IsWritten topo script boxes outcome old new = (text : List ℕ) × IsOutcome topo script boxes outcome text × Appends old new text
+abbrev pub IsWritten : Setting → List ℕ → List Watch → Outcome → Option (List ℕ) → Option (List ℕ) → Type 0
+IsWritten setting script boxes outcome old new = (text : List ℕ) × IsOutcome setting script boxes outcome text × Appends old new text
 
 -- The same of what is written for it, with notes or without.
-abbrev pub IsWrittenAs : Bool → Topology → List ℕ → List Watch → Outcome → Option (List ℕ) → Option (List ℕ) → Type 0
-IsWrittenAs noted topo script boxes outcome old new = (text : List ℕ) × IsOutcome topo script boxes outcome text × IsPut noted old new text
+abbrev pub IsWrittenAs : Bool → Setting → List ℕ → List Watch → Outcome → Option (List ℕ) → Option (List ℕ) → Type 0
+IsWrittenAs noted setting script boxes outcome old new = (text : List ℕ) × IsOutcome setting script boxes outcome text × IsPut noted old new text
 
 -- What was written and what is gathered after it are these lines.
 abbrev pub IsSaid : Option (List ℕ) → Option (List ℕ) → List ℕ → List ℕ → Type 0
@@ -105,18 +104,18 @@ SaysAs noted contents out next gathered gathering lines = (old : Option (List �
     → AreSaid noted old (contents next) (string_bytes gathering) (before ++ lines)
 
 -- A run came to its end or its stop: its lines were written or are gathered.
-pub record HasCome (noted : Bool) (topo : Topology) (script : Script) (boxes : List Watch) (old now : Option (List ℕ)) (gathered : List ℕ) (outcome : Outcome) : Type 0 where
+pub record HasCome (noted : Bool) (setting : Setting) (script : Script) (boxes : List Watch) (old now : Option (List ℕ)) (gathered : List ℕ) (outcome : Outcome) : Type 0 where
   pub stops : Stops boxes script outcome.stop
   pub have : HaveBoxes boxes (commands_before script outcome.stop)
   pub lines : List ℕ
   pub next : Progress
-  pub output : IsOutput topo start (commands_before script outcome.stop) lines next
+  pub output : IsOutput setting start (commands_before script outcome.stop) lines next
   pub rows : outcome.last_rows ≡ length next.rows
   pub said : AreSaid noted old now gathered lines
 
 -- A run that began so did.
 abbrev pub HasRun : Bool → RunData → List ℕ → Option (List ℕ) → Option (List ℕ) → List ℕ → Outcome → Type 0
-HasRun noted run script old now gathered outcome = HasCome noted run.topo (commands_of script) run.boxes old now gathered outcome
+HasRun noted run script old now gathered outcome = HasCome noted run.setting (commands_of script) run.boxes old now gathered outcome
 
 -- A front of these lines was written.
 abbrev pub IsFront : Option (List ℕ) → Option (List ℕ) → List ℕ → Type 0
@@ -141,28 +140,28 @@ IsBehind boxes script count None = Unit {0}
 IsBehind boxes script count (Some stop) = StopsFor boxes script stop.cause stop.command × (stop.command ≡ count + 1)
 
 -- A front of what a run writes: of the lines of so many commands, with the line of its stop or without.
-pub record IsCutBy (Front : List ℕ → Type 0) (topo : Topology) (script : Script) (boxes : List Watch) : Type 0 where
+pub record IsCutBy (Front : List ℕ → Type 0) (setting : Setting) (script : Script) (boxes : List Watch) : Type 0 where
   pub count : ℕ
   pub have : HaveBoxes boxes (take count script.commands)
   pub lines : List ℕ
   pub next : Progress
-  pub output : IsOutput topo start (take count script.commands) lines next
+  pub output : IsOutput setting start (take count script.commands) lines next
   pub stop : Option Stop
   pub stops : IsBehind boxes script count stop
   pub front : Front (lines ++ last_text stop)
 
 -- It was written; or it was with notes or without.
-abbrev pub IsCut : Topology → Script → List Watch → Option (List ℕ) → Option (List ℕ) → Type 0
-IsCut topo script boxes old new = IsCutBy (IsFront old new) topo script boxes
+abbrev pub IsCut : Setting → Script → List Watch → Option (List ℕ) → Option (List ℕ) → Type 0
+IsCut setting script boxes old new = IsCutBy (IsFront old new) setting script boxes
 
-abbrev pub IsCutAs : Bool → Topology → Script → List Watch → Option (List ℕ) → Option (List ℕ) → Type 0
-IsCutAs noted topo script boxes old new = IsCutBy (IsFrontOf noted old new) topo script boxes
+abbrev pub IsCutAs : Bool → Setting → Script → List Watch → Option (List ℕ) → Option (List ℕ) → Type 0
+IsCutAs noted setting script boxes old new = IsCutBy (IsFrontOf noted old new) setting script boxes
 
 -- A front of what a run that began so writes was written.
 abbrev pub IsRunCut : {T : Type 0} → Bool → RunData → List ℕ → (T → Option (List ℕ)) → T → T → Type 0
-IsRunCut noted run script contents old new = IsCutAs noted run.topo (commands_of script) run.boxes (contents old) (contents new)
+IsRunCut noted run script contents old new = IsCutAs noted run.setting (commands_of script) run.boxes (contents old) (contents new)
 
 -- A front of what any run writes was written, with notes or without.
 abbrev pub IsAnyCut : {T : Type 0} → (T → Option (List ℕ)) → T → T → Type 0
-IsAnyCut contents old new = (noted : Bool) (topo : Topology) (script : List ℕ) (boxes : List Watch)
-    → IsCutAs noted topo (commands_of script) boxes (contents old) (contents new)
+IsAnyCut contents old new = (noted : Bool) (setting : Setting) (script : List ℕ) (boxes : List Watch)
+    → IsCutAs noted setting (commands_of script) boxes (contents old) (contents new)

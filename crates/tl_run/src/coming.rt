@@ -109,7 +109,7 @@ fn run_at_once<S: Runner, O: ByteOut>(
     requires lawful { IsCommand command.now }
     requires supplies { S.supplies ≡ true }
     requires none { (S.so_far runner.old).boxes ≡ [] }
-    ensures topo { (S.so_far runner.new).topo ≡ (S.so_far runner.old).topo }
+    ensures setting { (S.so_far runner.new).setting ≡ (S.so_far runner.old).setting }
     ensures none { OnOk result ((S.so_far runner.new).boxes ≡ []) }
     ensures quiet { OnOk result (O.failure_count out.new ≡ O.failure_count out.old) }
     ensures step { OnOk result (StepsSupplied S.so_far runner.old runner.new command.now
@@ -157,7 +157,7 @@ fn run_coming<S: Runner, I: ByteIn, O: ByteOut>(
     requires empty { string_bytes gathered.old ≡ [] }
     ensures quiet { OnOk result (O.failure_count out.new ≡ O.failure_count out.old) }
     ensures come { IfOk result (λ outcome. IfSome (I.remaining input.old)
-        (HasComeTo S.noted (S.so_far runner.old).topo (O.contents out.old) (O.contents out.new) (string_bytes gathered.new) outcome)) }
+        (HasComeTo S.noted (S.so_far runner.old).setting (O.contents out.old) (O.contents out.new) (string_bytes gathered.new) outcome)) }
     ensures failed { IsErrOf result ComingFault.WriteFault → FailsOnce O.failure_count out.old out.new
         × CutsOff S.noted (S.so_far runner.old) (I.remaining input.old) O.contents out.old out.new }
     ensures unread { IsErrOf result ComingFault.ReadFault → FailsMore I.failure_count input.old input.new
@@ -211,7 +211,7 @@ pub fn carry_out_coming<S: Runner, I: ByteIn, O: ByteOut>(
     requires supplies { S.supplies ≡ true }
     requires none { (S.so_far runner.old).boxes ≡ [] }
     ensures written { IfOk result (λ outcome. IfSome (I.remaining input.old)
-        (IsCarriedOut S.noted (S.so_far runner.old).topo outcome (O.contents out.old) (O.contents out.new))) }
+        (IsCarriedOut S.noted (S.so_far runner.old).setting outcome (O.contents out.old) (O.contents out.new))) }
     ensures quiet { OnOk result (O.failure_count out.new ≡ O.failure_count out.old) }
     ensures failed { IsErrOf result ComingFault.WriteFault → FailsOnce O.failure_count out.old out.new
         × CutsOff S.noted (S.so_far runner.old) (I.remaining input.old) O.contents out.old out.new }

@@ -7,6 +7,7 @@ mod coming;
 pub mod laws;
 mod lines;
 mod making;
+mod midway;
 mod run;
 mod runner;
 mod session;

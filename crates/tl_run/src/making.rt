@@ -15,6 +15,7 @@ use std::alloc::{AllocError, Global};
 use std::marker::Model;
 use tl_beats::Watch;
 use tl_check::Report;
+use tl_midway::Midway;
 use tl_monitor::{Monitor, Settlement};
 use tl_script::{Asked, Command, StopCause, asked_by};
 use tl_topology::Topo;
@@ -45,25 +46,31 @@ impl<K: Maker + Drop> Model for Making<K> {
 }
 
 impl<K: Maker + Drop> Making<K> {
-    /// One without edits and reports. AllocError where memory is refused.
-    pub fn new(alloc: Global, topo: &Topo, maker: K) -> Result<Making<K>, AllocError>
-        ensures { IfOk result (λ making. making ≡ record { topo = topo.now; now = start; boxes = [] }) }
+    /// One without edits and reports; with a law where its capture begins in the middle of another run. AllocError where memory is
+    /// refused.
+    pub fn new(
+        alloc: Global,
+        topo: &Topo,
+        midway: Option<Midway>,
+        maker: K,
+    ) -> Result<Making<K>, AllocError>
+        ensures { IfOk result (λ making. making ≡ record { setting = record { topo = topo.now; midway = midway }; now = start; boxes = [] }) }
     {
-        let session = Session::new(alloc, topo, Vec::new(alloc))?;
+        let session = Session::new(alloc, topo, midway, Vec::new(alloc))?;
         Ok(Making { maker, session })
     }
 
     /// The last report, if there is one.
     pub fn last(&self) -> Option<&Report>
         ensures rows { self.now.now.rows ≡ option_map_or (λ r. r.now.rows) result [] }
-        ensures links { IfSome result (λ report. AreLinked self.now.topo report.now.rows) }
+        ensures links { IfSome result (λ report. AreLinked self.now.setting.topo report.now.rows) }
     {
         self.session.last()
     }
 
     /// Ends the run, as `Session::finish` does, and gives the maker back.
     pub fn finish(self) -> (K, Vec<(u32, Settlement)>)
-        ensures { AllHaveEnded (record { topo = self.topo; edits = self.now.edits }) result.1.items }
+        ensures { AllHaveEnded (record { topo = self.setting.topo; edits = self.now.edits }) result.1.items }
     {
         let Making { maker, session } = self;
         (maker, session.finish())

@@ -2,14 +2,13 @@
 
 ghost use Rattle.std.specs.Prelude.{Bool, ◌≡◌, ◌+◌, ◌<◌, ◌≤◌, ◌^◌, ℕ, List, Some, IfOk, OnOk, OnErr, length, drop, string_bytes, [], IfSome};
 ghost use Rattle.std.specs.Result.{IsErrOf};
-ghost use Rattle.tl_topology.specs.Topology.{Topology};
 ghost use Rattle.tl_beats.specs.declared.watch.Watch.{Watch as AnyWatch};
 ghost use Rattle.tl_check.specs.Notes.{Tells};
 ghost use Rattle.tl_script.specs.Scripts.{commands_of};
 ghost use Rattle.tl_script.specs.Text.{IsCommand};
 ghost use Rattle.tl_run.specs.Boxes.{watches_in};
 ghost use Rattle.tl_script.specs.Asked.{asked};
-ghost use Rattle.tl_run.specs.Output.{start, Steps, LacksBox};
+ghost use Rattle.tl_run.specs.Output.{Setting, start, whole, Steps, LacksBox};
 ghost use Rattle.tl_run.specs.Stops.{SaysAs, HasRun, IsWritten, IsWrittenAs, FailsOnce, CutsAs, IsCut, IsRunCut, IsAnyCut};
 
 use crate::lines::{LineFault, put_lines, write_end};
@@ -33,7 +32,7 @@ pub(crate) fn run_command<S: Runner, O: ByteOut>(
 ) -> Result<(), LineFault>
     requires out { O.failure_count out.old < 2 ^ 63 }
     requires lawful { IsCommand command.now }
-    ensures topo { (S.so_far runner.new).topo ≡ (S.so_far runner.old).topo }
+    ensures setting { (S.so_far runner.new).setting ≡ (S.so_far runner.old).setting }
     ensures quiet { OnOk result (O.failure_count out.new ≡ O.failure_count out.old) }
     ensures step { OnOk result (Steps S.so_far runner.old runner.new command.now
         (SaysAs S.noted O.contents out.old out.new gathered.old gathered.new)) }
@@ -147,7 +146,7 @@ pub fn carry_out<S: Runner, O: ByteOut>(
 ) -> Result<Outcome, WriteFault>
     requires out { O.failure_count out.old < 2 ^ 63 }
     requires new { (S.so_far runner.old).now ≡ start }
-    ensures written { IfOk result (λ outcome. IsWrittenAs S.noted (S.so_far runner.old).topo script.now (S.so_far runner.old).boxes outcome (O.contents out.old) (O.contents out.new)) }
+    ensures written { IfOk result (λ outcome. IsWrittenAs S.noted (S.so_far runner.old).setting script.now (S.so_far runner.old).boxes outcome (O.contents out.old) (O.contents out.new)) }
     ensures quiet { OnOk result (O.failure_count out.new ≡ O.failure_count out.old) }
     ensures failed { OnErr result (FailsOnce O.failure_count out.old out.new
         × IsRunCut S.noted (S.so_far runner.old) script.now O.contents out.old out.new) }
@@ -163,8 +162,8 @@ pub fn carry_out<S: Runner, O: ByteOut>(
 /// its first command. WriteFault where a write fails.
 pub fn run_nothing<O: ByteOut>(alloc: Global, out: &mut O) -> Result<Outcome, WriteFault>
     requires { O.failure_count out.old < 2 ^ 63 }
-    ensures written { IfOk result (λ outcome. (noted : Bool) (topo : Topology) (script : List ℕ) (boxes : List AnyWatch)
-        → IsWrittenAs noted topo script boxes outcome (O.contents out.old) (O.contents out.new)) }
+    ensures written { IfOk result (λ outcome. (noted : Bool) (setting : Setting) (script : List ℕ) (boxes : List AnyWatch)
+        → IsWrittenAs noted setting script boxes outcome (O.contents out.old) (O.contents out.new)) }
     ensures quiet { OnOk result (O.failure_count out.new ≡ O.failure_count out.old) }
     ensures failed { OnErr result (FailsOnce O.failure_count out.old out.new × IsAnyCut O.contents out.old out.new) }
 {
@@ -187,12 +186,12 @@ pub fn run_script<M: Monitor, O: ByteOut>(
     out: &mut O,
 ) -> Result<Outcome, WriteFault>
     requires { O.failure_count out.old < 2 ^ 63 }
-    ensures written { IfOk result (λ outcome. IsWritten topo.now script.now (watches_in M.held boxes.items) outcome (O.contents out.old) (O.contents out.new)) }
+    ensures written { IfOk result (λ outcome. IsWritten (whole topo.now) script.now (watches_in M.held boxes.items) outcome (O.contents out.old) (O.contents out.new)) }
     ensures quiet { OnOk result (O.failure_count out.new ≡ O.failure_count out.old) }
     ensures failed { OnErr result (FailsOnce O.failure_count out.old out.new
-        × IsCut topo.now (commands_of script.now) (watches_in M.held boxes.items) (O.contents out.old) (O.contents out.new)) }
+        × IsCut (whole topo.now) (commands_of script.now) (watches_in M.held boxes.items) (O.contents out.old) (O.contents out.new)) }
 {
-    let Ok(mut session) = Session::new(alloc, topo, boxes) else {
+    let Ok(mut session) = Session::new(alloc, topo, None, boxes) else {
         return run_nothing(alloc, out);
     };
     let told = carry_out(alloc, &mut session, script, out);

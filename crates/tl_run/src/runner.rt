@@ -27,7 +27,7 @@ pub trait Runner {
 
     /// Its topology.
     fn topo(&self) -> &Topo
-        ensures { result.now ≡ (so_far self.now).topo };
+        ensures { result.now ≡ (so_far self.now).setting.topo };
 
     /// What the next command asks for, before which so many bytes of the script are left. AllocError where memory is refused.
     fn ask(&self, alloc: Global, command: &Command<'_>, left: usize) -> Result<Asked, AllocError>
@@ -43,16 +43,16 @@ pub trait Runner {
     /// What comes of one command more. WrongBox, with nothing changed, where it attaches a monitor and the next one is missing or
     /// watches something else; Memory where memory is refused: the run is then at its end.
     fn answer(&mut self, alloc: Global, asked: Asked) -> Result<Answer, CommandFault>
-        ensures topo { (so_far self.new).topo ≡ (so_far self.old).topo }
+        ensures setting { (so_far self.new).setting ≡ (so_far self.old).setting }
         ensures boxes { OnOk result (TakesBox (so_far self.old).boxes (asking asked) (so_far self.new).boxes) }
         ensures lacks { IsErrOf result CommandFault.WrongBox → LacksBox (so_far self.old).boxes (asking asked) × (so_far self.new ≡ so_far self.old) }
-        ensures step { IfOk result (λ found. IsStep (so_far self.old).topo (so_far self.old).now (asking asked) (text_of (so_far self.old).topo found) (so_far self.new).now) }
-        ensures links { IfOk result (IsLinked (so_far self.old).topo) };
+        ensures step { IfOk result (λ found. IsStep (so_far self.old).setting (so_far self.old).now (asking asked) (text_of (so_far self.old).setting.topo found) (so_far self.new).now) }
+        ensures links { IfOk result (IsLinked (so_far self.old).setting.topo) };
 
     /// The lines of what came of a command. AllocError where memory is refused.
     fn text(&self, alloc: Global, answer: &Answer) -> Result<String, AllocError>
-        requires { IsLinked (so_far self.now).topo answer.now }
-        ensures { IfOk result (λ text. Tells noted (text_of (so_far self.now).topo answer.now) (string_bytes text)) };
+        requires { IsLinked (so_far self.now).setting.topo answer.now }
+        ensures { IfOk result (λ text. Tells noted (text_of (so_far self.now).setting.topo answer.now) (string_bytes text)) };
 
     /// Notes after the line of a stop, before which this is left of the script; none where memory is refused.
     fn stop_notes(&self, alloc: Global, cause: StopCause, rest: &[u8]) -> String

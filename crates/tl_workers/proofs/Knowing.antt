@@ -24,13 +24,13 @@ use Rattle.tl_hall.specs.declared.entry.Entry.{Entry}
 use Rattle.tl_hall.specs.declared.working.Round.{Round}
 use Rattle.tl_hall.specs.History.{entry, IsOfWorker, AreOfWorker, OnlyWork, Leads}
 use Rattle.tl_hall.specs.Passes.{HallData, PassData, Made, NoMore, Looked, IsRefused, IsUnready, IsLatest}
-use Rattle.tl_hall.specs.Telling.{Told, nothing_told, told_more, told_after, told_by, told_of, version_and_edit}
+use Rattle.tl_hall.specs.Telling.{Told, nothing_told, told_more, told_after, told_by, version_and_edit}
 use Rattle.tl_hall.specs.Working.{WorkedOnce}
 use Rattle.tl_hall.proofs.Histories.{only_self, only_trans}
 use Rattle.tl_hall.proofs.Tellings.{histories_tell}
 use Rattle.tl_script.specs.Asked.{Asking, an_edit, a_report}
 use Rattle.tl_run.specs.declared.answer.Answer.{Answer}
-use Rattle.tl_run.specs.Output.{Progress, RunData, IsEdit, IsPublish, IsStep, IsLinked, IsAnswerTo, text_of}
+use Rattle.tl_run.specs.Output.{Progress, RunData, IsEdit, IsPublish, IsStep, IsLinked, IsAnswerTo, text_of, whole}
 use Rattle.tl_script.specs.Replies.{edit_text, refused_text}
 use Rattle.tl_workers.specs.Crew.{GoesOn, HasPublished, IsUnpublished, progress_in, seen_in}
 use Rattle.tl_workers.specs.Crew.{Leads as LeadsRun}
@@ -108,7 +108,7 @@ progress_told rows told = record { edits = told.edits; reports = told.versions; 
 
 -- An edit that was accepted.
 edited : (p q : PassData) (rows : List Row) (k : Call) (e : AnEdit) (number : ℕ) (line : List ℕ) → p.sole ≡ true → (made : Made p k NoMore q) → Edits made.from e number made.to
-    → ((t : Told) → told_more t k ≡ record t { edits = t.edits ++ e ∷ [] }) → line ≡ edit_text number → IsStep p.topo (progress_in p.seen rows) (an_edit e) line (progress_in q.seen rows)
+    → ((t : Told) → told_more t k ≡ record t { edits = t.edits ++ e ∷ [] }) → line ≡ edit_text number → IsStep (whole p.topo) (progress_in p.seen rows) (an_edit e) line (progress_in q.seen rows)
 unfolding IsStep
 edited p q rows k e number line sole made edits tells said =
     let told : Told = told_by p.seen in
@@ -122,16 +122,16 @@ edited p q rows k e number line sole made edits tells said =
     subst (λ why. IsEdit now e why line (progress_in q.seen rows)) (sym accepted) (said ∙ ap edit_text its, next)
 
 pub change_made : (p q : PassData) (rows : List Row) (c : Change) (number : ℕ) (line : List ℕ) → p.sole ≡ true → Made p (call.Edit c number) NoMore q → line ≡ edit_text number
-    → IsStep p.topo (progress_in p.seen rows) (an_edit (plain_change c)) line (progress_in q.seen rows)
+    → IsStep (whole p.topo) (progress_in p.seen rows) (an_edit (plain_change c)) line (progress_in q.seen rows)
 change_made p q rows c number line sole made said = edited p q rows (call.Edit c number) (plain_change c) number line sole made made.step.0 (λ t. refl) said
 
 pub attach_made : (p q : PassData) (rows : List Row) (monitor : ℕ) (w : Watch) (number : ℕ) (line : List ℕ) → p.sole ≡ true → Made p (call.Attach monitor w number) NoMore q → line ≡ edit_text number
-    → IsStep p.topo (progress_in p.seen rows) (an_edit (attach monitor w)) line (progress_in q.seen rows)
+    → IsStep (whole p.topo) (progress_in p.seen rows) (an_edit (attach monitor w)) line (progress_in q.seen rows)
 attach_made p q rows monitor w number line sole made said = edited p q rows (call.Attach monitor w number) (attach monitor w) number line sole made made.step.0 (λ t. refl) said
 
 -- An edit that was refused, and not for want of memory.
 pub edit_refused : (p q : PassData) (rows : List Row) (e : AnEdit) (fault : EditFault) (line : List ℕ) → p.sole ≡ true → Looked p (IsRefused e fault) q → (fault ≡ edit_fault.Memory → ⊥) → line ≡ refused_text (code_of fault) (number_of fault)
-    → IsStep p.topo (progress_in p.seen rows) (an_edit e) line (progress_in q.seen rows)
+    → IsStep (whole p.topo) (progress_in p.seen rows) (an_edit e) line (progress_in q.seen rows)
 unfolding IsStep
 edit_refused p q rows e fault line sole look other said =
     let told : Told = told_by p.seen in
@@ -152,7 +152,7 @@ linked q s report look = subst (λ (t : Topology). AreLinked t report.rows) (his
 
 -- A report that was published, and is read before another one is.
 pub publish_made : (p q s : PassData) (rows : List Row) (version : ℕ) (report : ReportData) (line : List ℕ) → p.sole ≡ true → HasPublished p version q → Looked q (IsLatest (Some report)) s → line ≡ report_bytes p.topo report
-    → IsStep p.topo (progress_in p.seen rows) a_report line (progress_in s.seen report.rows)
+    → IsStep (whole p.topo) (progress_in p.seen rows) a_report line (progress_in s.seen report.rows)
 unfolding IsStep
 publish_made p q s rows version report line sole has look said =
     let r = has.0 in
@@ -184,12 +184,12 @@ publish_made p q s rows version report line sole has look said =
     let under : told.versions < most_versions = omega (arith, few, count) in
     let room : nat_lt told.versions most_versions ≡ true = grind (arith, nat_tests) in
     let named : report ≡ record { version = told.versions + 1; edit = length told.edits; rows = report.rows } = λ i. record { version = version_is i; edit = edit_is i; rows = report.rows } in
-    subst (λ n. IsPublish p.topo now (nat_lt told.versions most_versions) line n) (sym next_is)
-    (subst (λ b. IsPublish p.topo now b line next) (sym room) ((found, refl), said ∙ ap (report_bytes p.topo) named))
+    subst (λ n. IsPublish (whole p.topo) now (nat_lt told.versions most_versions) line n) (sym next_is)
+    (subst (λ b. IsPublish (whole p.topo) now b line next) (sym room) ((found, refl), said ∙ ap (report_bytes p.topo) named))
 
 -- No report has room.
 pub publish_full : (p q : PassData) (rows : List Row) (line : List ℕ) → p.sole ≡ true → IsUnpublished p publish_fault.VersionFull q → line ≡ refused_text 32 None
-    → IsStep p.topo (progress_in p.seen rows) a_report line (progress_in q.seen rows)
+    → IsStep (whole p.topo) (progress_in p.seen rows) a_report line (progress_in q.seen rows)
 unfolding IsStep
 publish_full p q rows line sole un said =
     let r = un.0 in
@@ -202,7 +202,7 @@ publish_full p q rows line sole un said =
     let count : length look.core.reports ≡ told.versions = same_count r.topo q.seen look.core told look.leads after in
     let all : told.versions ≡ most_versions = sym count ∙ full in
     let room : nat_lt told.versions most_versions ≡ false = grind (arith, nat_tests) in
-    subst (λ b. IsPublish p.topo now b line (progress_in q.seen rows)) (sym room) (said, ap (progress_told rows) after)
+    subst (λ b. IsPublish (whole p.topo) now b line (progress_in q.seen rows)) (sym room) (said, ap (progress_told rows) after)
 
 -- A report that was published is read.
 pub read_finds : (p q s : PassData) (version : ℕ) → p.sole ≡ true → HasPublished p version q → Looked q (IsLatest None) s → ⊥
@@ -219,7 +219,7 @@ read_finds p q s version sole has look =
 
 -- ---- a run and its pass
 
-module _ (hall : HallData) (topo : Topology) (pass : Option PassData) (rows : List Row) (boxes : List Watch) (run : RunData) (view : record { topo = topo; now = progress_in (seen_in pass) rows; boxes = boxes } ≡ run)
+module _ (hall : HallData) (topo : Topology) (pass : Option PassData) (rows : List Row) (boxes : List Watch) (run : RunData) (view : record { setting = whole topo; now = progress_in (seen_in pass) rows; boxes = boxes } ≡ run)
     (leads : LeadsRun hall topo pass) (p : PassData) (is : pass ≡ Some p) where
   its : leads.p ≡ p
   its = let both : Some leads.p ≡ Some p = sym leads.is ∙ is in cc (both)
@@ -233,24 +233,24 @@ module _ (hall : HallData) (topo : Topology) (pass : Option PassData) (rows : Li
   pub run_hall : p.hall ≡ hall.hall
   run_hall = sym (ap (λ (x : PassData). x.hall) its) ∙ leads.hall_is
 
-  pub run_step : (asking : Asking) (line : List ℕ) (next : Progress) → IsStep p.topo (progress_in p.seen rows) asking line next → IsStep run.topo run.now asking line next
+  pub run_step : (asking : Asking) (line : List ℕ) (next : Progress) → IsStep (whole p.topo) (progress_in p.seen rows) asking line next → IsStep run.setting run.now asking line next
   run_step asking line next step =
-      subst (λ (r : RunData). IsStep r.topo r.now asking line next) view
-      (subst (λ (t : Topology). IsStep t (progress_in (seen_in pass) rows) asking line next) run_topo
-      (subst (λ (o : Option PassData). IsStep p.topo (progress_in (seen_in o) rows) asking line next) (sym is) step))
+      subst (λ (r : RunData). IsStep r.setting r.now asking line next) view
+      (subst (λ (t : Topology). IsStep (whole t) (progress_in (seen_in pass) rows) asking line next) run_topo
+      (subst (λ (o : Option PassData). IsStep (whole p.topo) (progress_in (seen_in o) rows) asking line next) (sym is) step))
 
   pub change_answer : (c : Change) (answer : Result ℕ EditFault) (q : PassData) (found : Answer) → IfOk answer (λ n. Made p (call.Edit c n) NoMore q) → IfErr answer (λ f. Looked p (IsRefused (plain_change c) f) q) → IsAnswerTo answer found
-      → IsStep run.topo run.now (an_edit (plain_change c)) (text_of run.topo found) (progress_in q.seen rows)
-  change_answer c (Ok n) q found ok err said = run_step (an_edit (plain_change c)) (text_of run.topo found) (progress_in q.seen rows) (change_made p q rows c n (text_of run.topo found) run_sole ok (ap (text_of run.topo) said))
+      → IsStep run.setting run.now (an_edit (plain_change c)) (text_of run.setting.topo found) (progress_in q.seen rows)
+  change_answer c (Ok n) q found ok err said = run_step (an_edit (plain_change c)) (text_of run.setting.topo found) (progress_in q.seen rows) (change_made p q rows c n (text_of run.setting.topo found) run_sole ok (ap (text_of run.setting.topo) said))
   change_answer c (Err f) q found ok err said =
-      run_step (an_edit (plain_change c)) (text_of run.topo found) (progress_in q.seen rows) (edit_refused p q rows (plain_change c) f (text_of run.topo found) run_sole err said.0 (ap (text_of run.topo) said.1))
+      run_step (an_edit (plain_change c)) (text_of run.setting.topo found) (progress_in q.seen rows) (edit_refused p q rows (plain_change c) f (text_of run.setting.topo found) run_sole err said.0 (ap (text_of run.setting.topo) said.1))
 
   pub attach_answer : (monitor : ℕ) (w : Watch) (answer : Result ℕ EditFault) (q : PassData) (found : Answer) → IfOk answer (λ n. Made p (call.Attach monitor w n) NoMore q) → IfErr answer (λ f. Looked p (IsRefused (attach monitor w) f) q) → IsAnswerTo answer found
-      → IsStep run.topo run.now (an_edit (attach monitor w)) (text_of run.topo found) (progress_in q.seen rows)
+      → IsStep run.setting run.now (an_edit (attach monitor w)) (text_of run.setting.topo found) (progress_in q.seen rows)
   attach_answer monitor w (Ok n) q found ok err said =
-      run_step (an_edit (attach monitor w)) (text_of run.topo found) (progress_in q.seen rows) (attach_made p q rows monitor w n (text_of run.topo found) run_sole ok (ap (text_of run.topo) said))
+      run_step (an_edit (attach monitor w)) (text_of run.setting.topo found) (progress_in q.seen rows) (attach_made p q rows monitor w n (text_of run.setting.topo found) run_sole ok (ap (text_of run.setting.topo) said))
   attach_answer monitor w (Err f) q found ok err said =
-      run_step (an_edit (attach monitor w)) (text_of run.topo found) (progress_in q.seen rows) (edit_refused p q rows (attach monitor w) f (text_of run.topo found) run_sole err said.0 (ap (text_of run.topo) said.1))
+      run_step (an_edit (attach monitor w)) (text_of run.setting.topo found) (progress_in q.seen rows) (edit_refused p q rows (attach monitor w) f (text_of run.setting.topo found) run_sole err said.0 (ap (text_of run.setting.topo) said.1))
 
 -- What comes of an edit has no rows.
 pub edits_linked : (topo : Topology) (answer : Result ℕ EditFault) (found : Answer) → IsAnswerTo answer found → IsLinked topo found

@@ -14,7 +14,7 @@ use Rattle.tl_hall.specs.Passes.{HallData, PassData, IsSame, Made, NoMore, Looke
 use Rattle.tl_hall.specs.Telling.{told_by}
 use Rattle.tl_script.specs.Scripts.{commands_of}
 use Rattle.tl_script.specs.declared.stop.Outcome.{Outcome}
-use Rattle.tl_run.specs.Output.{Progress, RunData, start}
+use Rattle.tl_run.specs.Output.{Progress, RunData, Setting, start}
 use Rattle.tl_run.specs.Stops.{IsWrittenAs, IsCutAs}
 
 -- what a pass has seen
@@ -52,22 +52,22 @@ IsUnpublished p fault.Memory q = GoesOn p q
 IsUnpublished p fault.VersionFull q = (r : PassData) × GoesOn p r × Looked r (IsUnready fault.VersionFull) q
 IsUnpublished p fault.NotReady q = ⊥
 
--- A script, the topology that it runs on, and what its monitors watch, in the order in which its commands attach them.
+-- A script, what its run is of, and what its monitors watch, in the order in which its commands attach them.
 pub record ScriptData : Type 0 where
-  pub topo : Topology
+  pub setting : Setting
   pub text : List ℕ
   pub boxes : List Watch
 
 -- A script was carried out from its first command on: what was written, how often a write failed before and after, and what is told.
 pub record IsCarriedOut {E : Type 0} (noted : Bool) (run : RunData) (script : List ℕ) (old new : Option (List ℕ)) (failed fails : ℕ) (told : Result Outcome E) : Type 0 where
-  pub written : IfOk told (λ outcome. IsWrittenAs noted run.topo script run.boxes outcome old new)
+  pub written : IfOk told (λ outcome. IsWrittenAs noted run.setting script run.boxes outcome old new)
   pub quiet : OnOk told (fails ≡ failed)
-  pub cut : OnErr told ((fails ≡ failed + 1) × IsCutAs noted run.topo (commands_of script) run.boxes old new)
+  pub cut : OnErr told ((fails ≡ failed + 1) × IsCutAs noted run.setting (commands_of script) run.boxes old new)
 
 -- a run that begins
-abbrev pub beginning : Topology → List Watch → RunData
-beginning topo boxes = record { topo = topo; now = start; boxes = boxes }
+abbrev pub beginning : Setting → List Watch → RunData
+beginning setting boxes = record { setting = setting; now = start; boxes = boxes }
 
 -- The script was carried out so from its beginning on.
 abbrev pub IsScriptRun : {E : Type 0} → Bool → ScriptData → Option (List ℕ) → Option (List ℕ) → ℕ → ℕ → Result Outcome E → Type 0
-IsScriptRun noted script old new failed fails told = IsCarriedOut noted (beginning script.topo script.boxes) script.text old new failed fails told
+IsScriptRun noted script old new failed fails told = IsCarriedOut noted (beginning script.setting script.boxes) script.text old new failed fails told

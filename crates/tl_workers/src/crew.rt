@@ -40,12 +40,12 @@ pub(crate) struct Crew<'x, 'h, 't, 's, R: Wait, M: Monitor, G: Gate> {
 }
 
 impl<'x, 'h, 't, 's, R: Wait, M: Monitor, G: Gate> Model for Crew<'x, 'h, 't, 's, R, M, G> {
-    ghost use Rattle.tl_run.specs.Output.{RunData};
+    ghost use Rattle.tl_run.specs.Output.{RunData, whole};
     ghost use Rattle.tl_workers.specs.Crew.{Leads, progress_in, seen_in, rows_in};
 
     ghost Value = { RunData };
 
-    ghost view = { λ c. record { topo = c.topo.now; now = progress_in (seen_in c.pass) (rows_in c.last); boxes = c.boxes } };
+    ghost view = { λ c. record { setting = whole c.topo.now; now = progress_in (seen_in c.pass) (rows_in c.last); boxes = c.boxes } };
 
     ghost invariant = { λ c. Leads c.hall.now c.topo.now c.pass };
 }
@@ -116,10 +116,10 @@ fn published<R: Wait, M: Monitor, G: Gate>(
 impl<'x, 'h, 't, 's, R: Wait, M: Monitor, G: Gate> Crew<'x, 'h, 't, 's, R, M, G> {
     /// What comes of an edit that brings no monitor.
     fn change(&mut self, alloc: Global, change: Change) -> Result<Answer, AllocError>
-        ensures topo { self.new.topo ≡ self.old.topo }
+        ensures setting { self.new.setting ≡ self.old.setting }
         ensures boxes { self.new.boxes ≡ self.old.boxes }
-        ensures step { IfOk result (λ found. IsStep self.old.topo self.old.now (an_edit (plain_change change)) (text_of self.old.topo found) self.new.now) }
-        ensures links { IfOk result (IsLinked self.old.topo) }
+        ensures step { IfOk result (λ found. IsStep self.old.setting self.old.now (an_edit (plain_change change)) (text_of self.old.setting.topo found) self.new.now) }
+        ensures links { IfOk result (IsLinked self.old.setting.topo) }
     {
         let manager = manager_of(self.topo, &change);
         let pass = self.pass.take().unwrap();
@@ -133,11 +133,11 @@ impl<'x, 'h, 't, 's, R: Wait, M: Monitor, G: Gate> Crew<'x, 'h, 't, 's, R, M, G>
 
     /// What comes of the attachment of the next monitor.
     fn attach(&mut self, alloc: Global, number: u32, watch: Watch) -> Result<Answer, CommandFault>
-        ensures topo { self.new.topo ≡ self.old.topo }
+        ensures setting { self.new.setting ≡ self.old.setting }
         ensures boxes { OnOk result (TakesBox self.old.boxes (an_edit (attach number watch)) self.new.boxes) }
         ensures lacks { IsErrOf result CommandFault.WrongBox → LacksBox self.old.boxes (an_edit (attach number watch)) × (self.new ≡ self.old) }
-        ensures step { IfOk result (λ found. IsStep self.old.topo self.old.now (an_edit (attach number watch)) (text_of self.old.topo found) self.new.now) }
-        ensures links { IfOk result (IsLinked self.old.topo) }
+        ensures step { IfOk result (λ found. IsStep self.old.setting self.old.now (an_edit (attach number watch)) (text_of self.old.setting.topo found) self.new.now) }
+        ensures links { IfOk result (IsLinked self.old.setting.topo) }
     {
         let Some(monitor) = self.boxes.next(&watch) else {
             return Err(CommandFault::WrongBox);
@@ -150,10 +150,10 @@ impl<'x, 'h, 't, 's, R: Wait, M: Monitor, G: Gate> Crew<'x, 'h, 't, 's, R, M, G>
 
     /// A report of all edits, or the refusal of one more.
     fn publish(&mut self, alloc: Global) -> Result<Answer, AllocError>
-        ensures topo { self.new.topo ≡ self.old.topo }
+        ensures setting { self.new.setting ≡ self.old.setting }
         ensures boxes { self.new.boxes ≡ self.old.boxes }
-        ensures step { IfOk result (λ found. IsStep self.old.topo self.old.now a_report (text_of self.old.topo found) self.new.now) }
-        ensures links { IfOk result (IsLinked self.old.topo) }
+        ensures step { IfOk result (λ found. IsStep self.old.setting self.old.now a_report (text_of self.old.setting.topo found) self.new.now) }
+        ensures links { IfOk result (IsLinked self.old.setting.topo) }
     {
         let pass = self.pass.take().unwrap();
         let (pass, answer) = published(self.rt, alloc, self.hall, pass, self.shift);

@@ -3,7 +3,7 @@
 ghost use Rattle.std.specs.Prelude.{◌≡◌, ◌+◌, ◌<◌, ◌≤◌, ◌^◌, List, ℕ, IfOk, OnOk, OnErr, [], false, true, is_some};
 ghost use Rattle.tl_script.specs.Scripts.{commands_of};
 ghost use Rattle.tl_run.specs.Boxes.{watches_in};
-ghost use Rattle.tl_run.specs.Output.{start};
+ghost use Rattle.tl_run.specs.Output.{start, whole};
 ghost use Rattle.tl_run.specs.Stops.{IsWritten, IsWrittenAs, IsCut, IsCutAs};
 ghost use Rattle.tl_workers.specs.Crew.{IsCarriedOut, IsScriptRun};
 
@@ -18,6 +18,7 @@ use std::thread::{Threads, join};
 use tl_check::Report;
 use tl_edits::Log;
 use tl_hall::{Gate, Hall, Helper, Pass};
+use tl_midway::Midway;
 use tl_monitor::Monitor;
 use tl_run::{Boxes, Runner, Session, Showing, carry_out, run_nothing};
 use tl_script::Outcome;
@@ -166,10 +167,12 @@ fn run_errand<
     told
 }
 
-/// A script, the topology that it runs on, and the monitors that its commands attach, in their order.
+/// A script, the topology that it runs on, and the monitors that its commands attach, in their order; with a law where its capture
+/// begins in the middle of a run.
 #[derive(Drop)]
 pub struct Script<'a, M: Monitor> {
     topo: &'a Topo,
+    midway: Option<Midway>,
     text: &'a [u8],
     boxes: Vec<M>,
 }
@@ -180,15 +183,27 @@ impl<'a, M: Monitor> Model for Script<'a, M> {
 
     ghost Value = { ScriptData };
 
-    ghost view = { λ s. record { topo = s.topo.now; text = s.text.now; boxes = watches_in M.held s.boxes.items } };
+    ghost view = { λ s. record { setting = record { topo = s.topo.now; midway = s.midway }; text = s.text.now; boxes = watches_in M.held s.boxes.items } };
 }
 
 impl<'a, M: Monitor> Script<'a, M> {
     /// The script of a text on a topology, with the monitors that its commands attach, in their order.
     pub fn new(topo: &'a Topo, text: &'a [u8], boxes: Vec<M>) -> Script<'a, M>
-        ensures { result ≡ record { topo = topo.now; text = text.now; boxes = watches_in M.held boxes.items } }
+        ensures { result ≡ record { setting = whole topo.now; text = text.now; boxes = watches_in M.held boxes.items } }
     {
-        Script { topo, text, boxes }
+        Script {
+            topo,
+            midway: None,
+            text,
+            boxes,
+        }
+    }
+
+    /// The same script, whose capture begins in the middle of a run where there is a law.
+    pub fn beginning(self, midway: Option<Midway>) -> Script<'a, M>
+        ensures { result ≡ record self.entry { setting = record { topo = self.entry.setting.topo; midway = midway } } }
+    {
+        Script { midway, ..self }
     }
 }
 
@@ -213,11 +228,17 @@ fn run_on_hall<'x, R: Threads + Wait + Sync, M: Monitor + Send, G: Gate + Sync, 
     last: &mut Option<Report>,
 ) -> Result<Outcome, WriteFault>
     requires workers { way.workers ≤ 16 }
+    requires whole { script.setting.midway ≡ None }
     requires out { O.failure_count out.old < 2 ^ 63 }
     ensures { IsScriptRun (is_some way.entry.log) script.entry
         (O.contents out.old) (O.contents out.new) (O.failure_count out.old) (O.failure_count out.new) result }
 {
-    let Script { topo, text, boxes } = script;
+    let Script {
+        topo,
+        text,
+        boxes,
+        ..
+    } = script;
     let Ok((hall, pass)) = hall_of(alloc, topo) else {
         return run_nothing(alloc, out);
     };
@@ -261,8 +282,13 @@ fn run_alone<M: Monitor, O: ByteOut>(
     ensures { IsScriptRun false script.entry
         (O.contents out.old) (O.contents out.new) (O.failure_count out.old) (O.failure_count out.new) result }
 {
-    let Script { topo, text, boxes } = script;
-    let Ok(mut session) = Session::new(alloc, topo, boxes) else {
+    let Script {
+        topo,
+        midway,
+        text,
+        boxes,
+    } = script;
+    let Ok(mut session) = Session::new(alloc, topo, midway, boxes) else {
         return run_nothing(alloc, out);
     };
     let told = carry_out(alloc, &mut session, text, out);
@@ -283,8 +309,13 @@ fn show_alone<M: Monitor, O: ByteOut>(
     ensures { IsScriptRun true script.entry
         (O.contents out.old) (O.contents out.new) (O.failure_count out.old) (O.failure_count out.new) result }
 {
-    let Script { topo, text, boxes } = script;
-    let Ok(session) = Session::new(alloc, topo, boxes) else {
+    let Script {
+        topo,
+        midway,
+        text,
+        boxes,
+    } = script;
+    let Ok(session) = Session::new(alloc, topo, midway, boxes) else {
         return run_nothing(alloc, out);
     };
     let mut showing = Showing::new(session, log);
@@ -309,7 +340,7 @@ fn run_way<'x, R: Threads + Wait + Sync, M: Monitor + Send, G: Gate + Sync, O: B
     ensures { IsScriptRun (is_some way.entry.log) script.entry
         (O.contents out.old) (O.contents out.new) (O.failure_count out.old) (O.failure_count out.new) result }
 {
-    if way.workers > 0 {
+    if way.workers > 0 && script.midway.is_none() {
         return run_on_hall(rt, alloc, script, way, out, last);
     }
     match way.log {
@@ -330,10 +361,10 @@ pub fn run_gated<'x, R: Threads + Wait + Sync, M: Monitor + Send, G: Gate + Sync
 ) -> Result<Outcome, WriteFault>
     requires workers { workers ≤ 16 }
     requires out { O.failure_count out.old < 2 ^ 63 }
-    ensures written { IfOk result (λ outcome. IsWritten script.entry.topo script.entry.text script.entry.boxes outcome (O.contents out.old) (O.contents out.new)) }
+    ensures written { IfOk result (λ outcome. IsWritten script.entry.setting script.entry.text script.entry.boxes outcome (O.contents out.old) (O.contents out.new)) }
     ensures quiet { OnOk result (O.failure_count out.new ≡ O.failure_count out.old) }
     ensures failed { OnErr result ((O.failure_count out.new ≡ O.failure_count out.old + 1)
-        × IsCut script.entry.topo (commands_of script.entry.text) script.entry.boxes (O.contents out.old) (O.contents out.new)) }
+        × IsCut script.entry.setting (commands_of script.entry.text) script.entry.boxes (O.contents out.old) (O.contents out.new)) }
 {
     let log = None;
     let mut last = None;
@@ -361,8 +392,8 @@ impl Gate for NoGate {
 }
 
 /// Runs a script as `run_script` does, and writes the same lines, while so many workers, 0 to 16, read fragments ahead of their
-/// commands and check windows in threads of their own. With 0 workers it does what `run_script` does. A worker whose thread can't be
-/// started is left out. It waits for other threads. Leaves the last report, if there is one.
+/// commands and check windows in threads of their own. With 0 workers it does what `run_script` does, and so it does where the
+/// capture begins in the middle of a run: its reports are not made of windows. A worker whose thread can't be started is left out. It waits for other threads. Leaves the last report, if there is one.
 pub fn run_with<R: Threads + Wait + Sync, M: Monitor + Send, O: ByteOut>(
     rt: &R,
     alloc: Global,
@@ -373,10 +404,10 @@ pub fn run_with<R: Threads + Wait + Sync, M: Monitor + Send, O: ByteOut>(
 ) -> Result<Outcome, WriteFault>
     requires workers { workers ≤ 16 }
     requires out { O.failure_count out.old < 2 ^ 63 }
-    ensures written { IfOk result (λ outcome. IsWritten script.entry.topo script.entry.text script.entry.boxes outcome (O.contents out.old) (O.contents out.new)) }
+    ensures written { IfOk result (λ outcome. IsWritten script.entry.setting script.entry.text script.entry.boxes outcome (O.contents out.old) (O.contents out.new)) }
     ensures quiet { OnOk result (O.failure_count out.new ≡ O.failure_count out.old) }
     ensures failed { OnErr result ((O.failure_count out.new ≡ O.failure_count out.old + 1)
-        × IsCut script.entry.topo (commands_of script.entry.text) script.entry.boxes (O.contents out.old) (O.contents out.new)) }
+        × IsCut script.entry.setting (commands_of script.entry.text) script.entry.boxes (O.contents out.old) (O.contents out.new)) }
 {
     let way = Way {
         workers,
@@ -398,10 +429,10 @@ pub fn show_with<R: Threads + Wait + Sync, M: Monitor + Send, O: ByteOut>(
 ) -> Result<Outcome, WriteFault>
     requires workers { workers ≤ 16 }
     requires out { O.failure_count out.old < 2 ^ 63 }
-    ensures written { IfOk result (λ outcome. IsWrittenAs true script.entry.topo script.entry.text script.entry.boxes outcome (O.contents out.old) (O.contents out.new)) }
+    ensures written { IfOk result (λ outcome. IsWrittenAs true script.entry.setting script.entry.text script.entry.boxes outcome (O.contents out.old) (O.contents out.new)) }
     ensures quiet { OnOk result (O.failure_count out.new ≡ O.failure_count out.old) }
     ensures failed { OnErr result ((O.failure_count out.new ≡ O.failure_count out.old + 1)
-        × IsCutAs true script.entry.topo (commands_of script.entry.text) script.entry.boxes (O.contents out.old) (O.contents out.new)) }
+        × IsCutAs true script.entry.setting (commands_of script.entry.text) script.entry.boxes (O.contents out.old) (O.contents out.new)) }
 {
     let Ok(log) = log_on(alloc, script.topo) else {
         return run_nothing(alloc, out);

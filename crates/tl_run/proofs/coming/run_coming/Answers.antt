@@ -9,7 +9,7 @@ use Rattle.tl_run.proofs.coming.run_coming.Goals as goal
 
 pub loop-done-init : goal.loop-done-init
 loop-done-init g c = record {
-  topo = refl;
+  setting = refl;
   none = c.requires.none;
   quiet = refl;
   read = refl;
@@ -70,7 +70,7 @@ returns-in-Err-WriteFault-clause-failed g c h =
     c.loop-done.invariant.came c.in-Ok.ensures.kept in
     let e : command_in c.read_on.new.ahead ≡ Ok (Some (c.in-Some.command, c.in-Some.taken)) = ap command_in (sym c.left-left.ensures) ∙ sym c.read_command.ensures.exact ∙ c.in-Ok-read_command.is ∙ ap (λ r. Ok r) c.in-Some.is in
     let failed = c.run_at_once.ensures.failed (search rules) in
-    let step = subst (λ t. IsStep t (g.S.Runner.so_far c.loop-done.runner).now (asked c.in-Some.command) failed.1.0 (g.S.Runner.so_far c.run_at_once.new.runner).now) c.loop-done.invariant.topo failed.1.1 in (
+    let step = subst (λ t. IsStep t (g.S.Runner.so_far c.loop-done.runner).now (asked c.in-Some.command) failed.1.0 (g.S.Runner.so_far c.run_at_once.new.runner).now) c.loop-done.invariant.setting failed.1.1 in (
       failed.0 ∙ ap (λ n. n + 1) c.loop-done.invariant.quiet,
       came_cut g.S.Runner.noted _ (g.I.ByteIn.remaining c.args.input.now) c.read_on.new.ahead (g.I.ByteIn.remaining c.read_on.new.input) c.loop-done.done _ (g.S.Runner.so_far c.run_at_once.new.runner).now _ _ _ _ c.in-Some.command c.in-Some.taken failed.1.0
           came c.in-Ok.ensures.first e step (failed.1.3 (g.O.ByteOut.contents c.args.out.now)),
@@ -87,9 +87,9 @@ loop-done-preserved g c =
     c.loop-done.invariant.came c.in-Ok.ensures.kept in
     let e : command_in c.read_on.new.ahead ≡ Ok (Some (c.in-Some.command, c.in-Some.taken)) = ap command_in (sym c.left-left.ensures) ∙ sym c.read_command.ensures.exact ∙ c.in-Ok-read_command.is ∙ ap (λ r. Ok r) c.in-Some.is in
     let went = c.in-Ok-run_at_once.ensures.step in
-    let step = subst (λ t. IsStep t (g.S.Runner.so_far c.loop-done.runner).now (asked c.in-Some.command) went.0 (g.S.Runner.so_far c.run_at_once.new.runner).now) c.loop-done.invariant.topo went.1 in
+    let step = subst (λ t. IsStep t (g.S.Runner.so_far c.loop-done.runner).now (asked c.in-Some.command) went.0 (g.S.Runner.so_far c.run_at_once.new.runner).now) c.loop-done.invariant.setting went.1 in
     record {
-      topo = c.in-Ok-run_at_once.ensures.topo ∙ c.loop-done.invariant.topo;
+      setting = c.in-Ok-run_at_once.ensures.setting ∙ c.loop-done.invariant.setting;
       none = c.in-Ok-run_at_once.ensures.none;
       quiet = c.in-Ok-run_at_once.ensures.quiet ∙ c.loop-done.invariant.quiet;
       read = c.in-Ok.ensures.quiet ∙ c.loop-done.invariant.read;

@@ -10,11 +10,11 @@ use Rattle.tl_run.proofs.run.run_command.Goals as goal
 pub returns-clause-step : goal.returns-clause-step
 returns-clause-step g c =
     let old = g.S.Runner.so_far c.args.runner.now in
-    let line = text_of old.topo c.in_ok-answer.answer in
+    let line = text_of old.setting.topo c.in_ok-answer.answer in
     let text = string_bytes c.in_ok-lines.lines in
-    let step = subst (λ a. IsStep old.topo old.now a line (g.S.Runner.so_far c.answer.new.self).now) c.in_ok-asked.ensures c.in_ok-answer.ensures.step in
+    let step = subst (λ a. IsStep old.setting old.now a line (g.S.Runner.so_far c.answer.new.self).now) c.in_ok-asked.ensures c.in_ok-answer.ensures.step in
     let boxes = subst (λ a. TakesBox old.boxes a (g.S.Runner.so_far c.answer.new.self).boxes) c.in_ok-asked.ensures c.in_ok-answer.ensures.boxes in
-    let tells = subst (λ t. Tells g.S.Runner.noted (text_of t c.in_ok-answer.answer) text) c.in_ok-answer.ensures.topo c.in_ok-lines.ensures in
+    let tells = subst (λ t. Tells g.S.Runner.noted (text_of t.topo c.in_ok-answer.answer) text) c.in_ok-answer.ensures.setting c.in_ok-lines.ensures in
     when_done c.put_lines.result (λ said. (
       line,
       step,
@@ -29,11 +29,11 @@ returns-clause-step g c =
 pub returns-clause-failed : goal.returns-clause-failed
 returns-clause-failed g c h =
     let old = g.S.Runner.so_far c.args.runner.now in
-    let line = text_of old.topo c.in_ok-answer.answer in
+    let line = text_of old.setting.topo c.in_ok-answer.answer in
     let text = string_bytes c.in_ok-lines.lines in
-    let step = subst (λ a. IsStep old.topo old.now a line (g.S.Runner.so_far c.answer.new.self).now) c.in_ok-asked.ensures c.in_ok-answer.ensures.step in
+    let step = subst (λ a. IsStep old.setting old.now a line (g.S.Runner.so_far c.answer.new.self).now) c.in_ok-asked.ensures c.in_ok-answer.ensures.step in
     let boxes = subst (λ a. TakesBox old.boxes a (g.S.Runner.so_far c.answer.new.self).boxes) c.in_ok-asked.ensures c.in_ok-answer.ensures.boxes in
-    let tells = subst (λ t. Tells g.S.Runner.noted (text_of t c.in_ok-answer.answer) text) c.in_ok-answer.ensures.topo c.in_ok-lines.ensures in
+    let tells = subst (λ t. Tells g.S.Runner.noted (text_of t.topo c.in_ok-answer.answer) text) c.in_ok-answer.ensures.setting c.in_ok-lines.ensures in
     let failed = c.put_lines.ensures.failed h in (
       failed.0,
       (

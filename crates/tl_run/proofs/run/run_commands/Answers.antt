@@ -6,7 +6,7 @@ use Rattle.tl_run.proofs.RunLaws.{ran_none, ran_more, came_to_fault, came_to_end
 use Rattle.tl_run.proofs.run.run_commands.Goals as goal
 
 pub loop-read-init : goal.loop-read-init
-loop-read-init g c = record { topo = refl; quiet = refl; ran = ran_none g.S.Runner.noted _ c.args.script.now _ _ _ _ c.requires.new c.requires.empty }
+loop-read-init g c = record { setting = refl; quiet = refl; ran = ran_none g.S.Runner.noted _ c.args.script.now _ _ _ _ c.requires.new c.requires.empty }
 
 pub returns-in-Err-clause-come : goal.returns-in-Err-clause-come
 returns-in-Err-clause-come g c =
@@ -40,7 +40,7 @@ pub returns-in-Err-WriteFault-clause-failed : goal.returns-in-Err-WriteFault-cla
 returns-in-Err-WriteFault-clause-failed g c =
     let e : command_in c.loop-read.rest.now ≡ Ok (Some (c.in-Some.command, c.in-Some.taken)) = sym c.read_command.ensures.exact ∙ c.in-Ok.is ∙ ap (λ r. Ok r) c.in-Some.is in
     let failed = c.run_command.ensures.failed (search rules) in
-    let step = subst (λ t. IsStep t (g.S.Runner.so_far c.loop-read.runner).now (asked c.in-Some.command) failed.1.0 (g.S.Runner.so_far c.run_command.new.runner).now) c.loop-read.invariant.topo failed.1.1 in (
+    let step = subst (λ t. IsStep t (g.S.Runner.so_far c.loop-read.runner).now (asked c.in-Some.command) failed.1.0 (g.S.Runner.so_far c.run_command.new.runner).now) c.loop-read.invariant.setting failed.1.1 in (
       failed.0 ∙ ap (λ n. n + 1) c.loop-read.invariant.quiet,
       cut_there _ _ c.args.script.now c.loop-read.rest.now c.loop-read.done _ _ _ _ _ _ c.loop-read.invariant.ran c.in-Some.command c.in-Some.taken failed.1.0 (g.S.Runner.so_far c.run_command.new.runner).now _ _ e step failed.1.2
           (failed.1.3 (g.O.ByteOut.contents c.args.out.now)),
@@ -50,9 +50,9 @@ pub loop-read-preserved : goal.loop-read-preserved
 loop-read-preserved g c =
     let e : command_in c.loop-read.rest.now ≡ Ok (Some (c.in-Some.command, c.in-Some.taken)) = sym c.read_command.ensures.exact ∙ c.in-Ok.is ∙ ap (λ r. Ok r) c.in-Some.is in
     let went = c.in-Ok-run_command.ensures.step in
-    let step = subst (λ t. IsStep t (g.S.Runner.so_far c.loop-read.runner).now (asked c.in-Some.command) went.0 (g.S.Runner.so_far c.run_command.new.runner).now) c.loop-read.invariant.topo went.1 in
+    let step = subst (λ t. IsStep t (g.S.Runner.so_far c.loop-read.runner).now (asked c.in-Some.command) went.0 (g.S.Runner.so_far c.run_command.new.runner).now) c.loop-read.invariant.setting went.1 in
     record {
-      topo = c.in-Ok-run_command.ensures.topo ∙ c.loop-read.invariant.topo;
+      setting = c.in-Ok-run_command.ensures.setting ∙ c.loop-read.invariant.setting;
       quiet = c.in-Ok-run_command.ensures.quiet ∙ c.loop-read.invariant.quiet;
       ran = rw (c.behind-rest.ensures) (ran_more _ _ c.args.script.now c.loop-read.rest.now c.loop-read.done _ _ _ _ _ _ _ _ _ _ c.in-Some.command c.in-Some.taken went.0 c.loop-read.invariant.ran e step went.2
           (went.3 (g.O.ByteOut.contents c.args.out.now)));

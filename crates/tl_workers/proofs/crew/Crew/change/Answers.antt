@@ -16,4 +16,4 @@ returns-clause-step g c =
     c.of_edit.ensures
 
 pub returns-clause-links : goal.returns-clause-links
-returns-clause-links g c = if_ok (IsAnswerTo c.submit-pass.result.1) _ c.of_edit.result (λ found said. edits_linked c.args.self.now.topo c.submit-pass.result.1 found said) c.of_edit.ensures
+returns-clause-links g c = if_ok (IsAnswerTo c.submit-pass.result.1) _ c.of_edit.result (λ found said. edits_linked c.args.self.now.setting.topo c.submit-pass.result.1 found said) c.of_edit.ensures

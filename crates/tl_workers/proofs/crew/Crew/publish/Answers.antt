@@ -33,7 +33,7 @@ returns-in_ok-copy-in-Ok-Some-clause-links g c =
     let found : c.read-pass.result.1 ≡ Ok (Some c.in-Ok-Some.report) = search rules in
     let look = subst (λ x. IfOk x (λ r. Looked q (IsLatest r) c.read-pass.result.0)) found c.read-pass.ensures.ok in
     let topo = has.2.same.1 ∙ (has.1.same.1 ∙ run_topo s.hall.now s.topo.now s.pass (rows_in s.last) s.boxes c.args.self.now c.self.view_is c.self.invariant p is) in
-    let view : s.topo.now ≡ c.args.self.now.topo = ap (λ (r : RunData). r.topo) c.self.view_is in
+    let view : s.topo.now ≡ c.args.self.now.setting.topo = ap (λ (r : RunData). r.setting.topo) c.self.view_is in
     subst (λ (t : Topology). AreLinked t c.in-Ok-Some.report.rows) (topo ∙ view) (linked q c.read-pass.result.0 c.in-Ok-Some.report look)
 
 pub returns-in_ok-copy-in-Ok-Some-clause-step : goal.returns-in_ok-copy-in-Ok-Some-clause-step
@@ -43,16 +43,16 @@ returns-in_ok-copy-in-Ok-Some-clause-step g c =
     let is : s.pass ≡ Some p = search rules in
     let q = c.published-pass.result.0 in
     let report = c.in-Ok-Some.report in
-    let line = report_bytes c.args.self.now.topo report in
+    let line = report_bytes c.args.self.now.setting.topo report in
     let has = subst (λ x. IfOk x (λ version. HasPublished p version q)) c.in-Ok.is c.published-pass.ensures.ok in
     let found : c.read-pass.result.1 ≡ Ok (Some report) = search rules in
     let look = subst (λ x. IfOk x (λ r. Looked q (IsLatest r) c.read-pass.result.0)) found c.read-pass.ensures.ok in
     let topo = run_topo s.hall.now s.topo.now s.pass (rows_in s.last) s.boxes c.args.self.now c.self.view_is c.self.invariant p is in
     let sole = run_sole s.hall.now s.topo.now s.pass (rows_in s.last) s.boxes c.args.self.now c.self.view_is c.self.invariant p is in
-    let view : s.topo.now ≡ c.args.self.now.topo = ap (λ (r : RunData). r.topo) c.self.view_is in
+    let view : s.topo.now ≡ c.args.self.now.setting.topo = ap (λ (r : RunData). r.setting.topo) c.self.view_is in
     let said : line ≡ report_bytes p.topo report = ap (λ t. report_bytes t report) (sym view ∙ sym topo) in
     let same = c.in_ok-copy-in-Ok-Some.ensures in
-    subst (λ (r : ReportData). IsStep c.args.self.now.topo c.args.self.now.now a_report line (progress_in c.read-pass.result.0.seen r.rows)) (sym same)
+    subst (λ (r : ReportData). IsStep c.args.self.now.setting c.args.self.now.now a_report line (progress_in c.read-pass.result.0.seen r.rows)) (sym same)
     (run_step s.hall.now s.topo.now s.pass (rows_in s.last) s.boxes c.args.self.now c.self.view_is c.self.invariant p is a_report line (progress_in c.read-pass.result.0.seen report.rows)
     (publish_made p q c.read-pass.result.0 (rows_in s.last) c.in-Ok.field-0 report line sole has look said))
 

@@ -1,6 +1,7 @@
 pub mod BeatLines
 pub mod BeatTexts
 pub mod FragmentTexts
+pub mod FrontAgain
 pub mod FrontLines
 pub mod Fronts
 pub mod Growing

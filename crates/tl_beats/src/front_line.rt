@@ -1,13 +1,13 @@
 //! One beat line at the front of a text.
 
 ghost use Rattle.std.specs.Prelude.{◌≡◌, ◌≤◌, [], ◌∷◌, ◌++◌, Some, IfSome};
-ghost use Rattle.tl_text.specs.Words.{◌␣◌};
+ghost use Rattle.tl_text.specs.Words.{◌␣◌, ended};
 ghost use Rattle.tl_text.specs.Names.{bit};
 ghost use Rattle.tl_text.specs.Numbers.{numeral};
 ghost use Rattle.tl_tables.specs.declared.Chan.TheVariants.{A, C, D, E};
 ghost use Rattle.tl_beats.specs.Beats.{IsWellFormed, HasMask};
 ghost use Rattle.tl_beats.specs.Text.{chan_text, fields_text, beat_text};
-ghost use Rattle.tl_beats.specs.Fronts.{beat_line_at};
+ghost use Rattle.tl_beats.specs.Fronts.{after_cycle, beat_line_at, IsFrontLine};
 
 use crate::Beat;
 use crate::front_number::{decimal_digit, decimal_front, hexadecimal_front};
@@ -17,6 +17,9 @@ use tl_tables::Chan;
 const LAST_CODE: u8 = 7;
 
 const LAST_SOURCE: u64 = 65_535;
+
+/// A message of at most 2 to this power bytes has one beat on links of 8 bytes, so the next line is not compared with its.
+const ONE_BEAT: u8 = 3;
 
 /// What a beat of channels A to D begins with.
 #[derive(Clone, Copy)]
@@ -217,16 +220,84 @@ fn fields_front(name: u8, cycle: u64, words: &[u8]) -> Option<(Beat, &[u8])>
     }
 }
 
-/// The beat that the first line of a text spells, and what stands after the line; None for a line that is passed on.
+/// What stands after a text's front, where it has that front.
 #[inline(always)]
-pub(crate) fn beat_front(text: &[u8]) -> Option<(Beat, &[u8])>
-    ensures formed { IfSome result (λ x. IsWellFormed x.0) }
-    ensures spelled { IfSome result (λ x. text.now ≡ beat_text x.0 ++ 10 ∷ x.1.now) }
-    ensures read { IfSome result (λ x. beat_line_at text.now ≡ Some (x.0, x.1.now)) }
+fn rest_of<'a>(text: &'a [u8], front: &[u8]) -> Option<&'a [u8]>
+    ensures { IfSome result (λ rest. text.now ≡ front.now ++ rest.now) }
 {
-    let (cycle, words) = long_decimal_front(text, b' ')?;
-    let [name, b' ', words @ ..] = words else {
+    text.strip_prefix(front)
+}
+
+/// A line that was read: its beat, and its text after the cycle, with the newline.
+#[derive(Clone, Copy)]
+pub(crate) struct FrontLine<'a> {
+    pub(crate) beat: Beat,
+    after_cycle: &'a [u8],
+}
+
+impl<'a> FrontLine<'a> {
+    /// The line that differs in the cycle alone.
+    #[inline(always)]
+    fn at_cycle(self, cycle: u64) -> FrontLine<'a>
+        requires { IsFrontLine self }
+        ensures line { IsFrontLine result }
+        ensures cycle { result.beat.cycle ≡ cycle }
+        ensures same { result.after_cycle ≡ self.entry.after_cycle }
+    {
+        let beat = Beat { cycle, ..self.beat };
+        let after_cycle = self.after_cycle;
+        FrontLine { beat, after_cycle }
+    }
+}
+
+/// The line of this cycle, with these words after it, and what stands after the line.
+#[inline(always)]
+fn fields_line(cycle: u64, words: &[u8]) -> Option<(FrontLine<'_>, &[u8])>
+    ensures line { IfSome result (λ x. IsFrontLine x.0) }
+    ensures cycle { IfSome result (λ x. x.0.beat.cycle ≡ cycle) }
+    ensures text { IfSome result (λ x. words.now ≡ ended (after_cycle x.0.beat) ++ x.1.now) }
+{
+    let [name, b' ', fields @ ..] = words else {
         return None;
     };
-    fields_front(*name, cycle, words)
+    let (beat, rest) = fields_front(*name, cycle, fields)?;
+    let after_cycle = &words[..words.len() - rest.len()];
+    Some((FrontLine { beat, after_cycle }, rest))
+}
+
+/// The same. Beats of a burst have lines that differ in the cycle alone: one that goes on as the line before is its beat.
+#[inline(always)]
+fn front_line<'a>(
+    cycle: u64,
+    words: &'a [u8],
+    before: Option<FrontLine<'a>>,
+) -> Option<(FrontLine<'a>, &'a [u8])>
+    requires { IfSome before IsFrontLine }
+    ensures line { IfSome result (λ x. IsFrontLine x.0) }
+    ensures cycle { IfSome result (λ x. x.0.beat.cycle ≡ cycle) }
+    ensures text { IfSome result (λ x. words.now ≡ ended (after_cycle x.0.beat) ++ x.1.now) }
+{
+    if let Some(line) = before {
+        if line.beat.size > ONE_BEAT {
+            if let Some(rest) = rest_of(words, line.after_cycle) {
+                return Some((line.at_cycle(cycle), rest));
+            }
+        }
+    }
+    fields_line(cycle, words)
+}
+
+/// The first line of a text, where it spells a beat, and what stands after it; None for a line that is passed on.
+#[inline(always)]
+pub(crate) fn beat_front<'a>(
+    text: &'a [u8],
+    before: Option<FrontLine<'a>>,
+) -> Option<(FrontLine<'a>, &'a [u8])>
+    requires { IfSome before IsFrontLine }
+    ensures line { IfSome result (λ x. IsFrontLine x.0) }
+    ensures spelled { IfSome result (λ x. text.now ≡ beat_text x.0.beat ++ 10 ∷ x.1.now) }
+    ensures read { IfSome result (λ x. beat_line_at text.now ≡ Some (x.0.beat, x.1.now)) }
+{
+    let (cycle, words) = long_decimal_front(text, b' ')?;
+    front_line(cycle, words, before)
 }

@@ -104,9 +104,11 @@ fn beats_of(
     let mut beats = Vec::new(alloc);
     let mut rest = bytes;
     let mut number = 2u32;
+    let mut before = None;
     loop {
-        if let Some((beat, after)) = beat_front(rest) {
-            beats.push(placed(number, first, last, &beats, beat)?)?;
+        if let Some((front, after)) = beat_front(rest, before) {
+            beats.push(placed(number, first, last, &beats, front.beat)?)?;
+            before = Some(front);
             rest = after;
             number += 1;
             continue;

@@ -1,5 +1,5 @@
 -- What a state shows, at its opening and after a head.
-use Rattle.std.specs.Prelude.{filter, ◌||◌}
+use Rattle.std.specs.Prelude.{filter, ◌||◌, Result, Ok, Err, OnErr}
 use Rattle.std.proofs.Common.{◌≡◌, ℕ, ◌+◌, ◌==◌, ◌<◌, ◌++◌, Bool, true, false, cond, zero, suc, List, [], ◌∷◌, length, take, set, get_or, Option, Some, None, refl, sym, ap, subst, ◌∙◌, arith}
 use Rattle.std.specs.List.{AllByRecursion, list_any, slice_get}
 use Rattle.std.proofs.lemmas.List.Folds.{list_any_at, list_any_more}
@@ -141,6 +141,32 @@ beside state link place n next at differ =
       | None ↦ λ e. refl
       | Some there ↦ λ e. ap (λ x. option_map_or client_state.shown x (opening_view state.exponent)) (set_apart state.states.items place there next (apart state.clients link place n there at e differ))
     ] refl
+
+-- a client that shows the same in the place of one
+same_there : (xs : List ClientState) (place there : ℕ) (own next : ClientState) (d : ClientView) → own ≡ get_or xs place own → client_state.shown next ≡ client_state.shown own
+    → option_map_or client_state.shown (slice_get (set xs place next) there) d ≡ option_map_or client_state.shown (slice_get xs there) d
+same_there [] place there own next d is same = refl
+same_there (x ∷ xs) zero zero own next d is same = same ∙ ap client_state.shown is
+same_there (x ∷ xs) zero (suc there) own next d is same = refl
+same_there (x ∷ xs) (suc place) zero own next d is same = refl
+same_there (x ∷ xs) (suc place) (suc there) own next d is same = same_there xs place there own next d is same
+
+set_length : {X : Type 0} (xs : List X) (i : ℕ) (x : X) → length (set xs i x) ≡ length xs
+set_length [] i x = refl
+set_length (y ∷ xs) zero x = refl
+set_length (y ∷ xs) (suc i) x = ap (λ n. suc n) (set_length xs i x)
+
+pub left_alone : (state new : ManagerState) (place : ℕ) (own next : ClientState) → new.exponent ≡ state.exponent → new.clients ≡ state.clients → new.states.items ≡ set state.states.items place next
+    → own ≡ get_or state.states.items place own → client_state.shown next ≡ client_state.shown own → shown new ≡ shown state
+left_alone state new place own next exponent clients states is same =
+    let each : (there : ℕ) → client_there new there ≡ client_there state there =
+    λ there. (λ i. option_map_or client_state.shown (slice_get (states i) there) (opening_view (exponent i))) ∙ same_there state.states.items place there own next (opening_view state.exponent) is same in
+    let count : length new.states.items ≡ length state.states.items = ap length states ∙ set_length state.states.items place next in
+    λ i. record { clients = clients i; exponent = exponent i; count = count i; client = λ there. each there i }
+
+pub on_err : {A E P : Type 0} (r : Result A E) → P → OnErr r P
+on_err (Ok x) p = tt
+on_err (Err e) p = p
 
 pub next_law : (numbers : List ℕ) (power : ℕ) (state new : ManagerState) (next : ClientState) (pasts : ℕ → LinkPast) (link place : ℕ) (head : Beat) (found : Option Op)
     → place_of link state.clients ≡ Some place → place < length state.states.items → new.exponent ≡ state.exponent → new.clients ≡ state.clients

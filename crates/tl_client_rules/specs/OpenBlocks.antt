@@ -1,13 +1,12 @@
 -- What is open by key, and on each block.
 use Rattle.std.specs.Prelude.{ℕ, ◌≡◌, Option}
-use Rattle.std.specs.Ordering.{nat_cmp}
-use Rattle.tl_client_rules.specs.Entries.{entry_of}
+use Rattle.tl_state.specs.Slots.{slot_of}
 use Rattle.tl_client_rules.specs.Counts.{count_at}
 use Rattle.tl_client_rules.specs.declared.open_blocks.OpenBlocks.{OpenBlocks}
 
 -- The block of what is open on a key, if that is known.
 abbrev pub block_at : OpenBlocks → ℕ → Option (Option ℕ)
-block_at state key = entry_of nat_cmp state.blocks key
+block_at state key = slot_of state.blocks key
 
 -- How many are open on a block.
 abbrev pub open_on : OpenBlocks → ℕ → ℕ

@@ -6,15 +6,15 @@ ghost use Rattle.tl_definitions.specs.OpenTables.{one_if, passes};
 ghost use Rattle.tl_definitions.specs.Past.{grants_block};
 
 use crate::counts::Counts;
-use crate::entries::Entries;
 use std::alloc::{AllocError, Global};
+use tl_state::Slots;
 
 /// What is open by key, as a source or a sink, with its block; and how many are open on each block, so that none is ever
 /// looked for among all.
 #[derive(Drop)]
 pub struct OpenBlocks {
     /// The block of what is open on a key; None where the block is not known, or what is open has none.
-    blocks: Entries<u16, Option<u64>>,
+    blocks: Slots<Option<u64>>,
     counts: Counts,
 }
 
@@ -38,7 +38,7 @@ impl OpenBlocks {
         ensures counts { (block : ℕ) → open_on result block ≡ 0 }
     {
         OpenBlocks {
-            blocks: Entries::new(alloc),
+            blocks: Slots::new(alloc),
             counts: Counts::new(alloc),
         }
     }
@@ -101,6 +101,6 @@ impl OpenBlocks {
     pub fn same_blocks(&self, other: &Self) -> bool
         ensures { Decides result (SameBlocks self.now other.now) }
     {
-        self.blocks.same_entries(&other.blocks) && self.counts.same_counts(&other.counts)
+        self.blocks.same_slots(&other.blocks) && self.counts.same_counts(&other.counts)
     }
 }

@@ -3,7 +3,6 @@ pub mod SameBurstLaws
 pub mod Lanes
 pub mod Picks
 mod Clean
-pub mod Tables
 pub mod FlowLaws
 pub mod SameLaws
 pub mod OpenLaws

@@ -1,7 +1,6 @@
 -- What the state of a link shows, and what it stands for.
 use Rattle.std.specs.Prelude.{◌≡◌, ℕ, ◌&&◌, ◌||◌, not, Bool, List, [], Option, filter, is_some}
 use Rattle.std.specs.Option.{option_and_then, option_map_or}
-use Rattle.std.specs.Ordering.{nat_cmp}
 use Rattle.tl_tables.specs.declared.Chan.{Chan}
 use Rattle.tl_tables.specs.declared.Chan.TheVariants as chan
 use Rattle.tl_tables.specs.declared.Op.{Op}
@@ -15,18 +14,18 @@ use Rattle.tl_definitions.specs.Messages.{Links, Message, request_of, message_at
 use Rattle.tl_definitions.specs.Past.{FlowPast, flow_past}
 use Rattle.tl_definitions.specs.Rules.{breaks_flow, flow_order}
 use Rattle.tl_definitions.specs.Judging.{request_in, message_in, flow_after}
-use Rattle.tl_link_rules.specs.Entries.{entry_of}
+use Rattle.tl_state.specs.Slots.{slot_of}
 use Rattle.tl_link_rules.specs.declared.flow.FlowState.{FlowState}
 
 -- What a state shows: the request in flight on a source, the Release in flight on a source, whether a Grant is open on a sink.
 abbrev pub source_at : FlowState → ℕ → Option Request
-source_at state source = entry_of nat_cmp state.sources source
+source_at state source = slot_of state.sources source
 
 abbrev pub release_at : FlowState → ℕ → Option Request
-release_at state source = entry_of nat_cmp state.releases source
+release_at state source = slot_of state.releases source
 
 abbrev pub has_sink : FlowState → ℕ → Bool
-has_sink state sink = is_some (entry_of nat_cmp state.sinks sink)
+has_sink state sink = is_some (slot_of state.sinks sink)
 
 abbrev pub shown : FlowState → FlowPast
 shown state = record { source = source_at state; release = release_at state; sink = has_sink state }

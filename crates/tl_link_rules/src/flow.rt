@@ -11,10 +11,9 @@ ghost use Rattle.tl_definitions.specs.Judging.{request_in, message_in, flow_afte
 ghost use Rattle.tl_link_rules.specs.Flow.{SameFlow};
 
 use crate::RuleList;
-use crate::open_table::OpenTable;
 use std::alloc::{AllocError, Global};
 use tl_beats::{Beat, Request};
-use tl_state::Same;
+use tl_state::{Same, Slots};
 use tl_tables::{
     Chan, Op, Rule, is_grant, is_grant_ack, is_release, is_release_ack, op_of, replies,
 };
@@ -24,11 +23,11 @@ use tl_topology::LinkDecl;
 #[derive(Drop)]
 pub struct FlowState {
     /// The requests of channel A, by source.
-    sources: OpenTable<u16, Request>,
+    sources: Slots<Request>,
     /// The Releases, by source: these are other sources than those of channel A.
-    releases: OpenTable<u16, Request>,
+    releases: Slots<Request>,
     /// The Grants without their GrantAck, by sink.
-    sinks: OpenTable<u16, ()>,
+    sinks: Slots<()>,
 }
 
 /// What a head breaks, and the request that it answers.
@@ -62,9 +61,9 @@ impl FlowState {
         ensures { StandsFor result [] }
     {
         FlowState {
-            sources: OpenTable::new(alloc),
-            releases: OpenTable::new(alloc),
-            sinks: OpenTable::new(alloc),
+            sources: Slots::new(alloc),
+            releases: Slots::new(alloc),
+            sinks: Slots::new(alloc),
         }
     }
 
@@ -140,9 +139,9 @@ impl FlowState {
         if head.chan != Chan::D {
             None
         } else if is_release_ack(op) {
-            self.releases.get(&head.source).copied()
+            self.releases.get(head.source)
         } else {
-            self.sources.get(&head.source).copied()
+            self.sources.get(head.source)
         }
     }
 
@@ -152,15 +151,15 @@ impl FlowState {
     {
         let is_reply = head.chan == Chan::D && !is_release_ack(op);
         match rule {
-            Rule::S1 => head.chan == Chan::A && self.sources.get(&head.source).is_some(),
+            Rule::S1 => head.chan == Chan::A && self.sources.get(head.source).is_some(),
             Rule::S2 => is_reply && request.is_none(),
             Rule::S3 => is_reply && is_unlike(request, op),
             Rule::S4 => is_reply && has_other_size(request, head),
             Rule::S5 => is_release_ack(op) && request.is_none(),
-            Rule::S6 => is_release(op) && self.releases.get(&head.source).is_some(),
+            Rule::S6 => is_release(op) && self.releases.get(head.source).is_some(),
             Rule::S7 => is_release_ack(op) && has_other_size(request, head),
-            Rule::S8 => is_grant(op) && self.sinks.get(&head.sink).is_some(),
-            Rule::S9 => is_grant_ack(op) && self.sinks.get(&head.sink).is_none(),
+            Rule::S8 => is_grant(op) && self.sinks.get(head.sink).is_some(),
+            Rule::S9 => is_grant_ack(op) && self.sinks.get(head.sink).is_none(),
             _ => false,
         }
     }
@@ -199,22 +198,23 @@ impl FlowState {
     {
         match head.chan {
             Chan::A => {
-                self.sources.open(head.source, request_from(op, head))?;
+                self.sources.set(head.source, Some(request_from(op, head)))?;
             }
             Chan::C if is_release(op) => {
-                self.releases.open(head.source, request_from(op, head))?;
+                self.releases
+                    .set(head.source, Some(request_from(op, head)))?;
             }
             Chan::D if is_release_ack(op) => {
-                self.releases.close(&head.source);
+                self.releases.take(head.source);
             }
             Chan::D => {
                 if is_grant(op) {
-                    self.sinks.open(head.sink, ())?;
+                    self.sinks.set(head.sink, Some(()))?;
                 }
-                self.sources.close(&head.source);
+                self.sources.take(head.source);
             }
             Chan::E => {
-                self.sinks.close(&head.sink);
+                self.sinks.take(head.sink);
             }
             _ => {}
         }

@@ -54,7 +54,7 @@ impl<K: Ord + Drop, V: Drop> OpenTable<K, V> {
     }
 
     /// A table with the same entries. AllocError where memory is refused.
-    #[tactic(auto, using(crate::proofs::Tables::copied))]
+    #[tactic(auto, using(tl_state::proofs::Tables::copied))]
     pub fn copy(&self) -> Result<Self, AllocError>
     where
         K: Faithful,

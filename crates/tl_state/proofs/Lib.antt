@@ -4,4 +4,6 @@ pub mod LeafLemmas
 pub mod MapLemmas
 pub mod OrderLemmas
 pub mod SameLemmas
+pub mod Tables
+pub mod SlotLaws
 pub mod SpotLemmas

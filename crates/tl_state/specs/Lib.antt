@@ -4,5 +4,6 @@ pub mod Faithful
 pub mod KeyOrder
 pub mod Leaves
 pub mod Map
+pub mod Slots
 pub mod Spots
 pub mod Walk

@@ -8,10 +8,12 @@ mod leaves;
 mod same;
 mod search;
 mod share_map;
+mod slots;
 mod walk;
 
 pub use exact::Exact;
 pub use faithful::Faithful;
 pub use same::{Same, are_same};
 pub use share_map::ShareMap;
+pub use slots::Slots;
 pub use walk::Entries;

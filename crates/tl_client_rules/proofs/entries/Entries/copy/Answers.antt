@@ -1,4 +1,4 @@
-use Rattle.tl_link_rules.proofs.Tables.{copied}
+use Rattle.tl_state.proofs.Tables.{copied}
 use Rattle.tl_client_rules.proofs.entries.Entries.copy.Goals as goal
 
 pub returns : goal.returns

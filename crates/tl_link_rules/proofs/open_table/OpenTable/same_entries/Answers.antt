@@ -1,4 +1,4 @@
-use Rattle.tl_link_rules.proofs.Tables.{tables_decide}
+use Rattle.tl_state.proofs.Tables.{tables_decide}
 use Rattle.tl_link_rules.proofs.open_table.OpenTable.same_entries.Goals as goal
 
 pub returns : goal.returns

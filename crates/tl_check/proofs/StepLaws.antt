@@ -1,5 +1,5 @@
 -- One beat judged: its rules, and the rows of these.
-use Rattle.std.proofs.Common.{◌≡◌, ℕ, ◌<◌, List, [], ◌∷◌, ◌++◌, length, Option, Some, None, sym, ap, subst, ◌∙◌, append_assoc, get_or}
+use Rattle.std.proofs.Common.{◌≡◌, ℕ, ◌<◌, List, [], ◌∷◌, ◌++◌, length, Option, Some, None, sym, ap, subst, ◌∙◌, append_assoc, append-nil, get_or}
 use Rattle.std.specs.Prelude.{Result, Ok, Err, OnOk, map, filter, slice_get}
 use Rattle.std.proofs.lemmas.List.{map-append}
 use Rattle.std.specs.Option.{option_and_then, option_map_or}
@@ -25,7 +25,7 @@ use Rattle.tl_client_rules.specs.Manager as managers
 use Rattle.tl_check.specs.declared.links.LinkState.{LinkState}
 use Rattle.tl_check.specs.declared.state.SpanState.{SpanState}
 use Rattle.tl_client_rules.specs.Clients.{place_of}
-use Rattle.tl_check.specs.States.{link_of, burst_at, flow_at, shown, HasLink, Serves}
+use Rattle.tl_check.specs.States.{link_of, burst_at, flow_at, past_at, shown, HasLink, Serves}
 
 -- The place of a link and its state there, as the code finds them.
 pub at_place : (state : SpanState) (n place : ℕ) (link : LinkState) (found : Option ℕ) → found ≡ place_of n (managers.shown state.clients).clients → found ≡ Some place
@@ -94,3 +94,14 @@ pub later_rows : (m : Manager) (state : SpanState) (p : Placed) (decl : LinkDecl
 later_rows m state p decl head burst rules r0 r1 declared taken is known one =
     one ∙ ap (λ rs. r0 ++ map (row_of p) rs)
     (known ∙ ap (later_rules decl p.beat) (sym is) ∙ ap (λ d. later_rules d p.beat burst.head) (sym declared) ∙ sym (ap (judged_place m (shown state) p) taken))
+
+-- A head that breaks no rule of any kind.
+pub clean_rules : (m : Manager) (state : SpanState) (p : Placed) → burst_at state p.link p.beat.chan ≡ None → [] ≡ format_rules m.exponent m.regions (m.links p.link) p.beat (message_of (m.links p.link) p.beat)
+    → [] ≡ flow.rules_in (flow_at state p.link) p.beat (message_of (m.links p.link) p.beat)
+    → [] ≡ managers.rules_in m.clients m.exponent (m.links p.link).strict (past_at state) p.link p.beat (message_of (m.links p.link) p.beat) → judged_rules m (shown state) p ≡ []
+clean_rules m state p free format flows clients =
+    ap (judged_place m (shown state) p) free ∙ sym (head_is_judged m (shown state) p (message_of (m.links p.link) p.beat) [] [] [] format flows clients)
+
+-- No row is put after others for no rule.
+pub no_rows : (p : Placed) (rules : List Rule) (rows : List Row) → rules ≡ [] → rows ≡ rows ++ map (row_of p) rules
+no_rows p rules rows none = sym (ap (λ rs. rows ++ map (row_of p) rs) none ∙ append-nil rows)

@@ -1,9 +1,10 @@
 //! One link of a manager, between two of its beats.
 
-ghost use Rattle.std.specs.Prelude.{◌≡◌, IfOk, OnOk, None, is_none, false};
+ghost use Rattle.std.specs.Prelude.{◌≡◌, IfOk, OnOk, None, Some, is_none, false};
 ghost use Rattle.std.specs.Bool.{Decides};
 ghost use Rattle.tl_topology.specs.Topology.{IsSound};
 ghost use Rattle.tl_beats.specs.Beats.{IsWellFormed};
+ghost use Rattle.tl_definitions.specs.Heads.{message_of};
 ghost use Rattle.tl_link_rules.specs.Bursts.{slot_at};
 ghost use Rattle.tl_check.specs.Links.{IsAnswer, IsNext, IsOpening, SameLink};
 
@@ -11,6 +12,7 @@ use std::alloc::{AllocError, Global};
 use tl_beats::Beat;
 use tl_link_rules::{BurstState, FlowAnswer, FlowState};
 use tl_state::Same;
+use tl_tables::Op;
 use tl_topology::LinkDecl;
 
 /// What the beats of one link leave: the bursts that miss beats, and what is in flight.
@@ -47,6 +49,18 @@ impl LinkState {
     {
         self.bursts.pass(decl, head);
         self.flow.step(alloc, decl, head)
+    }
+
+    /// The state with the first beat of this message. AllocError where memory is refused: then the state may have part of it.
+    pub fn pass(&mut self, decl: &LinkDecl, op: Op, first: &Beat) -> Result<(), AllocError>
+        requires decl { IsSound decl.now }
+        requires beat { IsWellFormed first.now }
+        requires head { slot_at self.old.bursts first.now.chan ≡ None }
+        requires message { message_of decl.now first.now ≡ Some op }
+        ensures { OnOk result (IsNext decl.now first.now self.old self.new) }
+    {
+        self.bursts.pass(decl, first);
+        self.flow.pass(decl, op, first)
     }
 
     /// The state with a later beat.

@@ -7,8 +7,18 @@ use std::alloc::AllocError;
 use tl_beats::{Placed, Row};
 use tl_link_rules::RuleList;
 
-/// Puts the rows of one beat at the end.
+/// Puts the rows of one beat at the end. Most beats have none.
 pub fn add_rows(rows: &mut Vec<Row>, at: &Placed, rules: &RuleList) -> Result<(), AllocError>
+    ensures { OnOk result (rows.new.items ≡ rows.old.items ++ map (row_of at.now) rules.now) }
+{
+    if rules.as_slice().is_empty() {
+        return Ok(());
+    }
+    put_rows(rows, at, rules)
+}
+
+/// Puts a row of each rule at the end.
+fn put_rows(rows: &mut Vec<Row>, at: &Placed, rules: &RuleList) -> Result<(), AllocError>
     ensures { OnOk result (rows.new.items ≡ rows.old.items ++ map (row_of at.now) rules.now) }
 {
     for rule in rules.as_slice() {

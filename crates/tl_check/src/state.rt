@@ -1,25 +1,30 @@
 //! What the beats of a manager leave for those that come.
 
-ghost use Rattle.std.specs.Prelude.{◌≡◌, ◌<◌, ◌++◌, List, [], length, IfOk, OnOk};
+ghost use Rattle.std.specs.Prelude.{◌≡◌, ◌<◌, ◌++◌, List, [], None, Some, length, IfSome, IfOk, OnOk};
 ghost use Rattle.std.specs.Bool.{Decides};
 ghost use Rattle.tl_topology.specs.Regions.{Area, areas_of};
 ghost use Rattle.tl_topology.specs.Topology.{IsSound};
 ghost use Rattle.tl_beats.specs.Beats.{IsWellFormed};
-ghost use Rattle.tl_definitions.specs.Judging.{judged_next};
+ghost use Rattle.tl_definitions.specs.Heads.{message_of};
+ghost use Rattle.tl_definitions.specs.Judging.{judged_next, judged_rules};
 ghost use Rattle.tl_definitions.specs.Managers.{manager_at};
 ghost use Rattle.tl_definitions.specs.Rules.{Manager};
+ghost use Rattle.tl_client_rules.specs.Clients.{place_of};
+ghost use Rattle.tl_client_rules.specs.Manager as managers;
 ghost use Rattle.tl_client_rules.specs.Manager.{AreSettled};
 ghost use Rattle.tl_state.specs.SameItems.{SameItems};
 ghost use Rattle.tl_check.specs.Links.{SameLink, AreOpening};
-ghost use Rattle.tl_check.specs.States.{shown, rows_at, HasLink, IsOf, StandsFor, SameSpan, AreFormed, Serves};
+ghost use Rattle.tl_link_rules.specs.Flow.{answered_in};
+ghost use Rattle.tl_check.specs.States.{shown, rows_at, burst_at, flow_at, HasLink, IsOf, StandsFor, SameSpan, AreFormed, Serves};
 
 use crate::links::LinkState;
 use crate::rows::add_rows;
 use std::alloc::{AllocError, Global};
-use tl_beats::{Placed, Row};
+use tl_beats::{Placed, Request, Row};
 use tl_client_rules::ManagerState;
-use tl_link_rules::{check_head, check_later};
+use tl_link_rules::{check_head, check_later, keeps_format};
 use tl_state::Same;
+use tl_tables::{Op, op_of};
 use tl_topology::{LinkDecl, RegionMap, Topo};
 
 /// All that the beats of a manager so far leave for those that come: for each link what is unfinished and in flight, for each
@@ -30,6 +35,13 @@ pub struct SpanState {
     /// One for each link of the manager, in the order of their numbers.
     links: Vec<LinkState>,
     clients: ManagerState,
+}
+
+/// A head that is seen to break no rule: its message, and the request that it answers.
+#[derive(Clone, Copy, Debug, PartialEq, Eq)]
+struct CleanHead {
+    op: Op,
+    request: Option<Request>,
 }
 
 /// The states of so many links without beats.
@@ -68,6 +80,15 @@ impl SpanState {
         Ok(SpanState { links, clients })
     }
 
+    /// The place of a link of the manager.
+    fn place(&self, link: u16) -> usize
+        requires { HasLink self.now link }
+        ensures at { place_of link (managers.shown self.now.clients).clients ≡ Some result }
+        ensures within { result < length self.now.links.items }
+    {
+        self.clients.place(link).unwrap()
+    }
+
     /// Judges the manager's next beat by what the state shows: puts the rows of what it breaks at the end, and the state then
     /// shows what is left with it. AllocError where memory is refused: then state and rows may have part of the beat, and are
     /// for nothing more.
@@ -89,24 +110,123 @@ impl SpanState {
         ensures next { (m : Manager) → IsOf m self.old → Serves m at.now.link decl.now exponent (areas_of regions.now)
             → OnOk result (IsOf m self.new × (shown self.new ≡ judged_next m (shown self.old) at.now)) }
     {
-        let place = self.clients.place(at.link).unwrap();
-        let link = &mut self.links[place];
-        match link.bursts.head(at.beat.chan) {
+        let place = self.place(at.link);
+        match self.links[place].bursts.head(at.beat.chan) {
             Some(head) => {
                 let later = check_later(alloc, decl, head, &at.beat);
-                link.go_on(decl, &at.beat);
+                self.links[place].go_on(decl, &at.beat);
                 add_rows(rows, at, &later)
             }
-            None => {
-                let answer = link.begin(alloc, decl, &at.beat)?;
-                let format = check_head(alloc, decl, exponent, regions, &at.beat);
-                let request = answer.request.as_ref();
-                let clients = self.clients.step(alloc, at.link, decl, &at.beat, request)?;
-                add_rows(rows, at, &format)?;
-                add_rows(rows, at, &answer.rules)?;
-                add_rows(rows, at, &clients)
-            }
+            None => self.step_head(alloc, decl, exponent, regions, at, rows),
         }
+    }
+
+    /// The same where the beat is a head. Most heads are seen to break no rule, and then no list of rules is made.
+    fn step_head(
+        &mut self,
+        alloc: Global,
+        decl: &LinkDecl,
+        exponent: u8,
+        regions: &RegionMap,
+        at: &Placed,
+        rows: &mut Vec<Row>,
+    ) -> Result<(), AllocError>
+        requires decl { IsSound decl.now }
+        requires beat { IsWellFormed at.now.beat }
+        requires link { HasLink self.old at.now.link }
+        requires head { burst_at self.old at.now.link at.now.beat.chan ≡ None }
+        ensures rows { (m : Manager) → IsOf m self.old → Serves m at.now.link decl.now exponent (areas_of regions.now)
+            → OnOk result (rows.new.items ≡ rows.old.items ++ rows_at m self.old at.now) }
+        ensures next { (m : Manager) → IsOf m self.old → Serves m at.now.link decl.now exponent (areas_of regions.now)
+            → OnOk result (IsOf m self.new × (shown self.new ≡ judged_next m (shown self.old) at.now)) }
+    {
+        match self.clean_head(decl, exponent, regions, at) {
+            Some(clean) => self.pass(decl, at, &clean),
+            None => self.judge_head(alloc, decl, exponent, regions, at, rows),
+        }
+    }
+
+    /// What a head is that is seen to break no rule. None says nothing.
+    fn clean_head(
+        &self,
+        decl: &LinkDecl,
+        exponent: u8,
+        regions: &RegionMap,
+        at: &Placed,
+    ) -> Option<CleanHead>
+        requires decl { IsSound decl.now }
+        requires beat { IsWellFormed at.now.beat }
+        requires link { HasLink self.now at.now.link }
+        requires head { burst_at self.now at.now.link at.now.beat.chan ≡ None }
+        ensures message { IfSome result (λ clean. message_of decl.now at.now.beat ≡ Some clean.op) }
+        ensures request { IfSome result (λ clean. clean.request ≡ answered_in (flow_at self.now at.now.link) at.now.beat (message_of decl.now at.now.beat)) }
+        ensures rules { (m : Manager) → IsOf m self.now → Serves m at.now.link decl.now exponent (areas_of regions.now)
+            → IfSome result (λ _. judged_rules m (shown self.now) at.now ≡ []) }
+    {
+        let op = op_of(decl.level, at.beat.chan, at.beat.opcode)?;
+        if !keeps_format(decl, exponent, regions, op, &at.beat) {
+            return None;
+        }
+        let place = self.place(at.link);
+        let flow = &self.links[place].flow;
+        let request = flow.request_of(op, &at.beat);
+        if !flow.keeps_flow(op, &at.beat, &request) {
+            return None;
+        }
+        if !self
+            .clients
+            .keeps_rules(at.link, decl, op, &at.beat, request)
+        {
+            return None;
+        }
+        Some(CleanHead { op, request })
+    }
+
+    /// The state with a head of this message, which answers this request. AllocError where memory is refused: then the state may have part
+    /// of the head, and is for nothing more.
+    fn pass(&mut self, decl: &LinkDecl, at: &Placed, clean: &CleanHead) -> Result<(), AllocError>
+        requires decl { IsSound decl.now }
+        requires beat { IsWellFormed at.now.beat }
+        requires link { HasLink self.old at.now.link }
+        requires head { burst_at self.old at.now.link at.now.beat.chan ≡ None }
+        requires message { message_of decl.now at.now.beat ≡ Some clean.now.op }
+        requires request { clean.now.request ≡ answered_in (flow_at self.old at.now.link) at.now.beat (message_of decl.now at.now.beat) }
+        ensures { (m : Manager) → IsOf m self.old → m.links at.now.link ≡ decl.now
+            → OnOk result (IsOf m self.new × (shown self.new ≡ judged_next m (shown self.old) at.now)) }
+    {
+        let place = self.place(at.link);
+        self.links[place].pass(decl, clean.op, &at.beat)?;
+        self.clients
+            .pass(at.link, decl, clean.op, &at.beat, clean.request)
+    }
+
+    /// Judges a head as `step_head` does, with a list of the rules of each kind.
+    fn judge_head(
+        &mut self,
+        alloc: Global,
+        decl: &LinkDecl,
+        exponent: u8,
+        regions: &RegionMap,
+        at: &Placed,
+        rows: &mut Vec<Row>,
+    ) -> Result<(), AllocError>
+        requires decl { IsSound decl.now }
+        requires beat { IsWellFormed at.now.beat }
+        requires link { HasLink self.old at.now.link }
+        requires head { burst_at self.old at.now.link at.now.beat.chan ≡ None }
+        ensures rows { (m : Manager) → IsOf m self.old → Serves m at.now.link decl.now exponent (areas_of regions.now)
+            → OnOk result (rows.new.items ≡ rows.old.items ++ rows_at m self.old at.now) }
+        ensures next { (m : Manager) → IsOf m self.old → Serves m at.now.link decl.now exponent (areas_of regions.now)
+            → OnOk result (IsOf m self.new × (shown self.new ≡ judged_next m (shown self.old) at.now)) }
+    {
+        let place = self.place(at.link);
+        let answer = self.links[place].begin(alloc, decl, &at.beat)?;
+        let format = check_head(alloc, decl, exponent, regions, &at.beat);
+        let request = answer.request.as_ref();
+        let clients = self.clients.step(alloc, at.link, decl, &at.beat, request)?;
+        add_rows(rows, at, &format)?;
+        add_rows(rows, at, &answer.rules)?;
+        add_rows(rows, at, &clients)
     }
 
     /// A state that shows the same, and so is one for the same manager. AllocError where memory is refused.

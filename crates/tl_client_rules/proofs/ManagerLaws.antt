@@ -1,5 +1,5 @@
 -- What a state shows, at its opening and after a head.
-use Rattle.std.specs.Prelude.{filter, ◌||◌, Result, Ok, Err, OnErr}
+use Rattle.std.specs.Prelude.{filter, ◌||◌, Result, Ok, Err, OnOk, OnErr}
 use Rattle.std.proofs.Common.{◌≡◌, ℕ, ◌+◌, ◌==◌, ◌<◌, ◌++◌, Bool, true, false, cond, zero, suc, List, [], ◌∷◌, length, take, set, get_or, Option, Some, None, refl, sym, ap, subst, ◌∙◌, arith}
 use Rattle.std.specs.List.{AllByRecursion, list_any, slice_get}
 use Rattle.std.proofs.lemmas.List.Folds.{list_any_at, list_any_more}
@@ -22,8 +22,9 @@ use Rattle.tl_client_rules.specs.Client as client_state
 use Rattle.tl_client_rules.specs.Client.{ClientView, client_view, answered_in, head_with, SameClient}
 use Rattle.tl_client_rules.specs.declared.manager.ManagerState.{ManagerState}
 use Rattle.tl_client_rules.specs.Clients.{place_of}
+use Rattle.tl_client_rules.proofs.ClientLaws.{shown_rules}
 use Rattle.tl_client_rules.proofs.ClientsLaws.{placed_at, same_link}
-use Rattle.tl_client_rules.specs.Manager.{ManagerView, opening_view, client_there, client_at, shown, Shows, HasPlace, rules_in, manager_rules, pasts_with}
+use Rattle.tl_client_rules.specs.Manager.{ManagerView, opening_view, client_there, client_at, past_at, shown, Shows, HasPlace, rules_in, manager_rules, pasts_with}
 
 -- ---- the opening
 
@@ -224,3 +225,23 @@ parts_of_same one two h =
             ∙ ap (λ o. option_map_or client_state.shown o (client_view two.exponent (past_of two.exponent []))) (slice_get-get_or two.states.items n d (omega (arith, count, within)));
       },
     )
+
+-- A head whose client and whose manager find nothing breaks none of their rules.
+pub clean_law : (strict : Bool) (numbers : List ℕ) (power : ℕ) (state : ManagerState) (pasts : ℕ → LinkPast) (link : ℕ) (own : ClientState) (head : Beat) (request : Option Request) (found : Option Op) (o : Op)
+    → found ≡ Some o → Shows numbers power state pasts → client_state.Shows power own (pasts link) → request ≡ answered_in (pasts link) head found
+    → filter (breaks_permission strict own.exponent (client_state.shown own).past (head_with head None o)) permission_order ≡ []
+    → filter (breaks_manager state.clients state.exponent (past_at state) link (head_with head request o)) manager_order ≡ [] → rules_in numbers power strict pasts link head found ≡ []
+clean_law strict numbers power state pasts link own head request found o message is shows answer permissions coherence =
+    sym (judged_law strict numbers power state pasts link head request found is answer)
+    ∙ ap (λ rules. rules ++ manager_rules state link head request found)
+    (sym (shown_rules strict power own (pasts link) head found shows) ∙ ap (client_state.view_rules strict (client_state.shown own) head) message ∙ permissions)
+    ∙ ap (manager_rules state link head request) message ∙ coherence
+
+-- What a state shows after a head that its client took.
+pub passed_law : {X E : Type 0} (made : Result X E) (numbers : List ℕ) (power : ℕ) (state new : ManagerState) (next : ClientState) (pasts : ℕ → LinkPast) (link place : ℕ) (head : Beat) (found : Option Op)
+    → place_of link state.clients ≡ Some place → place < length state.states.items → new.exponent ≡ state.exponent → new.clients ≡ state.clients
+    → new.states.items ≡ set state.states.items place next → Shows numbers power state pasts → OnOk made (client_state.Shows power next (past_with power (pasts link) head found))
+    → OnOk made (Shows numbers power new (pasts_with power link pasts head found))
+passed_law (Ok x) numbers power state new next pasts link place head found at within exponent clients states is own =
+    next_law numbers power state new next pasts link place head found at within exponent clients states is own
+passed_law (Err e) numbers power state new next pasts link place head found at within exponent clients states is own = tt

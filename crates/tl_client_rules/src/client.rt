@@ -1,6 +1,6 @@
 //! What a client may hold of each block, and the permission rules of the heads of its link.
 
-ghost use Rattle.std.specs.Prelude.{◌≡◌, ◌≤◌, ℕ, List, [], None, filter, length, nat_lt, is_some, true, false, IfOk, OnOk, OnErr};
+ghost use Rattle.std.specs.Prelude.{◌≡◌, ◌≤◌, ℕ, List, [], None, Some, filter, length, nat_lt, is_some, true, false, IfOk, OnOk, OnErr};
 ghost use Rattle.std.specs.Bool.{Decides};
 ghost use Rattle.std.specs.Option.{option_copied, option_map_or};
 ghost use Rattle.tl_definitions.specs.Heads.{message_of};
@@ -149,6 +149,50 @@ impl ClientState {
         rules.push_if(self.breaks(strict, op, head, Rule::P7), Rule::P7);
         rules.push_if(self.breaks(strict, op, head, Rule::P8), Rule::P8);
         rules
+    }
+
+    /// Whether a head with this message is seen to break no permission rule; false says nothing.
+    pub fn keeps_permissions(&self, strict: bool, op: Op, head: &Beat) -> bool
+        ensures { result ≡ true → filter (breaks_permission strict self.now.exponent (shown self.now).past (head_with head.now None op)) permission_order ≡ [] }
+    {
+        let block = block_of(self.exponent, head.address);
+        match op {
+            Op::AcquireBlock | Op::AcquirePerm => {
+                !self.claims_wrongly(strict, op, head)
+                    && !self.acquires.is_open(block)
+                    && !self.releases.is_open(block)
+            }
+            Op::ProbeBlock | Op::ProbePerm => self.probes.get(&block).is_none(),
+            Op::ProbeAck | Op::ProbeAckData => {
+                self.probes.get(&block).is_some()
+                    && !self.claims_wrongly(strict, op, head)
+                    && !self.keeps_above(op, head)
+                    && !self.releases.is_open(block)
+            }
+            Op::Release | Op::ReleaseData => {
+                !self.claims_wrongly(strict, op, head)
+                    && !self.acquires.is_open(block)
+                    && !self.releases.is_open(block)
+            }
+            _ => true,
+        }
+    }
+
+    /// The state with a head of this message, which answers this request. AllocError where memory is refused: then nothing has changed.
+    #[tactic(auto, using(crate::proofs::Carried::carried, crate::proofs::ClientLaws::seen))]
+    pub fn pass(
+        &mut self,
+        link: &LinkDecl,
+        op: Op,
+        head: &Beat,
+        request: Option<Request>,
+    ) -> Result<(), AllocError>
+        requires { message_of link.now head.now ≡ Some op }
+        ensures next { ForShown self.old link.now head.now request
+            (λ exponent past. OnOk result (Shows exponent self.new (past_with_head exponent past link.now head.now))) }
+        ensures err { OnErr result (shown self.new ≡ shown self.old) }
+    {
+        self.change(op, head, request)
     }
 
     /// A state that shows the same. AllocError where memory is refused.

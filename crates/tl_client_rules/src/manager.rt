@@ -1,6 +1,6 @@
 //! What all clients of a manager can hold, and the rules of a head over all of them.
 
-ghost use Rattle.std.specs.Prelude.{◌≡◌, ◌<◌, ◌≤◌, ◌+◌, ◌++◌, ◌∷◌, ℕ, List, [], true, false, filter, length, nat_lt, is_some, slice_index_or, IfOk, OnOk, OnErr};
+ghost use Rattle.std.specs.Prelude.{◌≡◌, ◌<◌, ◌≤◌, ◌+◌, ◌++◌, ◌∷◌, ℕ, List, [], Some, true, false, filter, length, nat_lt, is_some, slice_index_or, IfOk, OnOk, OnErr};
 ghost use Rattle.std.specs.Bool.{Decides};
 ghost use Rattle.std.specs.Option.{option_copied};
 ghost use Rattle.std.specs.List.{AllByRecursion, list_any};
@@ -245,6 +245,63 @@ impl ManagerState {
             Some(op) => self.broken_rules(alloc, link, op, head, request),
             None => RuleList::new(alloc),
         }
+    }
+
+    /// Whether a head with this message is seen to break no manager rule; false says nothing.
+    fn keeps_coherence(&self, link: u16, op: Op, head: &Beat, request: Option<Request>) -> bool
+        ensures { result ≡ true → filter (breaks_manager self.now.clients self.now.exponent (past_at self.now) link (head_with head.now request op)) manager_order ≡ [] }
+    {
+        match op {
+            Op::Grant | Op::GrantData => {
+                !self.breaks(link, op, head, request, Rule::M1)
+                    && !self.breaks(link, op, head, request, Rule::M2)
+            }
+            Op::ProbeBlock | Op::ProbePerm => {
+                !self.any_grant_open(block_of(self.exponent, head.address))
+            }
+            _ => true,
+        }
+    }
+
+    /// Whether a head of a link with this message, which answers this request, is seen to break no permission or manager rule; false
+    /// says nothing.
+    pub fn keeps_rules(
+        &self,
+        link: u16,
+        decl: &LinkDecl,
+        op: Op,
+        head: &Beat,
+        request: Option<Request>,
+    ) -> bool
+        requires link { HasPlace (shown self.now) link }
+        requires message { message_of decl.now head.now ≡ Some op }
+        ensures { ForShown self.now link decl.now head.now request
+            (λ clients exponent pasts. result ≡ true → head_rules_in clients exponent pasts link decl.now head.now ≡ []) }
+    {
+        let place = self.clients.place(link).unwrap();
+        self.states[place].keeps_permissions(decl.strict, op, head)
+            && self.keeps_coherence(link, op, head, request)
+    }
+
+    /// The state with a head of a link with this message, which answers this request. AllocError where memory is refused: then
+    /// nothing has changed.
+    pub fn pass(
+        &mut self,
+        link: u16,
+        decl: &LinkDecl,
+        op: Op,
+        head: &Beat,
+        request: Option<Request>,
+    ) -> Result<(), AllocError>
+        requires link { HasPlace (shown self.old) link }
+        requires message { message_of decl.now head.now ≡ Some op }
+        ensures next { ForShown self.old link decl.now head.now request
+            (λ clients exponent pasts. OnOk result (Shows clients exponent self.new (pasts_after exponent pasts link decl.now head.now))) }
+        ensures count { (shown self.new).count ≡ (shown self.old).count }
+        ensures err { OnErr result (shown self.new ≡ shown self.old) }
+    {
+        let place = self.clients.place(link).unwrap();
+        self.states[place].pass(decl, op, head, request)
     }
 
     /// A state that shows the same. AllocError where memory is refused.

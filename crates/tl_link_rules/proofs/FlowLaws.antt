@@ -11,7 +11,7 @@ use Rattle.tl_tables.specs.Messages.{codes, least_level, level_le, op_at}
 use Rattle.tl_beats.specs.declared.Beat.{Beat}
 use Rattle.tl_definitions.specs.Messages.{Message, message_at, with_message}
 use Rattle.tl_definitions.specs.Past.{flow_past}
-use Rattle.tl_definitions.specs.Judging.{flow_after}
+use Rattle.tl_definitions.specs.Judging.{message_in, flow_after}
 use Rattle.tl_definitions.proofs.JudgingLaws.{flow_next}
 use Rattle.tl_link_rules.specs.declared.flow.FlowState.{FlowState}
 use Rattle.tl_link_rules.specs.Flow.{source_at, release_at, has_sink, shown, StandsFor, flow_rules, answered, rules_in, answered_in, flow_with, can_carry}
@@ -75,3 +75,13 @@ pub stands_ok : {X E : Type 0} (made : Result X E) (old new : FlowState) (before
     → OnOk made (shown new ≡ flow_with (shown old) head found) → OnOk made (StandsFor new (with_message head found before))
 stands_ok (Ok x) old new before head found stands next = stands_law old new before head found stands next
 stands_ok (Err e) old new before head found stands next = tt
+
+-- What a state shows after a head, where its three tables are what they are then.
+pub passed : {X E : Type 0} (made : Result X E) (old new : FlowState) (head : Beat) (found : Option Op) (o : Op) → found ≡ Some o
+    → OnOk made ((key : ℕ) → source_at new key ≡ (flow_after (shown old) (message_in (shown old) head o)).source key)
+    → OnOk made ((key : ℕ) → release_at new key ≡ (flow_after (shown old) (message_in (shown old) head o)).release key)
+    → OnOk made ((key : ℕ) → has_sink new key ≡ (flow_after (shown old) (message_in (shown old) head o)).sink key)
+    → OnOk made (shown new ≡ flow_with (shown old) head found)
+passed (Ok x) old new head found o is sources releases sinks =
+    shown_after old new (message_in (shown old) head o) sources releases sinks ∙ ap (flow_with (shown old) head) (sym is)
+passed (Err e) old new head found o is sources releases sinks = tt

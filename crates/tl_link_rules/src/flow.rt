@@ -1,6 +1,6 @@
 //! What is in flight on a link, and the flow rules of its heads.
 
-ghost use Rattle.std.specs.Prelude.{◌≡◌, ◌==◌, ℕ, List, [], filter, not, false, true, IfOk, OnOk, OnErr};
+ghost use Rattle.std.specs.Prelude.{◌≡◌, ◌==◌, ℕ, List, [], Some, filter, not, false, true, IfOk, OnOk, OnErr};
 ghost use Rattle.std.specs.Bool.{Decides};
 ghost use Rattle.std.specs.Option.{option_map_or};
 ghost use Rattle.tl_tables.specs.Messages.{replies_to};
@@ -133,7 +133,7 @@ impl FlowState {
     }
 
     /// The request that a head with this message answers.
-    fn request_of(&self, op: Op, head: &Beat) -> Option<Request>
+    pub fn request_of(&self, op: Op, head: &Beat) -> Option<Request>
         ensures { result ≡ request_in (shown self.now) op head.now }
     {
         if head.chan != Chan::D {
@@ -185,6 +185,37 @@ impl FlowState {
         rules.push_if(self.breaks(op, head, request, Rule::S8), Rule::S8);
         rules.push_if(self.breaks(op, head, request, Rule::S9), Rule::S9);
         rules
+    }
+
+    /// Whether a head with this message, which answers this request, is seen to break no flow rule; false says nothing.
+    pub fn keeps_flow(&self, op: Op, head: &Beat, request: &Option<Request>) -> bool
+        requires { can_carry head.now.chan op ≡ true }
+        ensures { result ≡ true → filter (breaks_flow (shown self.now) (record { op = op; beat = head.now; request = request.now })) flow_order ≡ [] }
+    {
+        match head.chan {
+            Chan::A => self.sources.get(head.source).is_none(),
+            Chan::B => true,
+            Chan::C => !is_release(op) || self.releases.get(head.source).is_none(),
+            Chan::D => {
+                let is_answer = match request {
+                    Some(request) => {
+                        request.size == head.size && (is_release_ack(op) || replies(request.op, op))
+                    }
+                    None => false,
+                };
+                is_answer && (!is_grant(op) || self.sinks.get(head.sink).is_none())
+            }
+            Chan::E => self.sinks.get(head.sink).is_some(),
+        }
+    }
+
+    /// The state with a head of this message. AllocError where memory is refused: then nothing has changed.
+    #[tactic(auto, using(crate::proofs::FlowLaws::carried))]
+    pub fn pass(&mut self, link: &LinkDecl, op: Op, head: &Beat) -> Result<(), AllocError>
+        requires { message_of link.now head.now ≡ Some op }
+        ensures { OnOk result (shown self.new ≡ flow_with (shown self.old) head.now (message_of link.now head.now)) }
+    {
+        self.change(op, head)
     }
 
     /// Opens and closes what a head with this message does. Each opens at most one entry, so that at want of memory nothing

@@ -1,11 +1,11 @@
 //! The format rules of heads.
 
-ghost use Rattle.std.specs.Prelude.{◌≡◌, ◌≤◌};
+ghost use Rattle.std.specs.Prelude.{◌≡◌, ◌≤◌, true, [], filter};
 ghost use Rattle.tl_topology.specs.Regions.{areas_of};
 ghost use Rattle.tl_topology.specs.Topology.{IsSound};
 ghost use Rattle.tl_beats.specs.Beats.{IsWellFormed};
 ghost use Rattle.tl_definitions.specs.Heads.{message_of};
-ghost use Rattle.tl_definitions.specs.Rules.{breaks_format, format_rules, is_in_region};
+ghost use Rattle.tl_definitions.specs.Rules.{breaks_format, format_order, format_rules, is_in_region};
 
 use crate::fields::{is_denied_data, is_off_lanes};
 use crate::rule_list::RuleList;
@@ -52,6 +52,24 @@ fn breaks(
         Rule::F10 => beat.chan == Chan::A && !is_in_region(regions, op, beat),
         _ => false,
     }
+}
+
+/// Whether a head with this message is seen to break no format rule of its manager, whose blocks have `2^exponent` bytes; false says
+/// nothing.
+pub fn keeps_format(link: &LinkDecl, exponent: u8, regions: &RegionMap, op: Op, beat: &Beat) -> bool
+    requires link { IsSound link.now }
+    requires beat { IsWellFormed beat.now }
+    ensures { result ≡ true → filter (breaks_format exponent (areas_of regions.now) link.now op beat.now) format_order ≡ [] }
+{
+    !breaks(link, exponent, regions, op, beat, Rule::F2)
+        && !breaks(link, exponent, regions, op, beat, Rule::F3)
+        && !breaks(link, exponent, regions, op, beat, Rule::F4)
+        && !breaks(link, exponent, regions, op, beat, Rule::F5)
+        && !breaks(link, exponent, regions, op, beat, Rule::F6)
+        && !breaks(link, exponent, regions, op, beat, Rule::F7)
+        && !breaks(link, exponent, regions, op, beat, Rule::F8)
+        && !breaks(link, exponent, regions, op, beat, Rule::F9)
+        && !breaks(link, exponent, regions, op, beat, Rule::F10)
 }
 
 /// The format rules F1 to F10 that a head breaks, in the order of reports, each once. `exponent` is that of the manager's

@@ -13,7 +13,7 @@ mod rule_list;
 pub use bursts::{BurstState, Place, beat_count};
 pub use fields::active_lanes;
 pub use flow::{FlowAnswer, FlowState, has_other_size, is_unlike, request_from};
-pub use heads::check_head;
+pub use heads::{check_head, keeps_format};
 pub use later::{breaks as breaks_later, check_later, is_alike};
 pub use open_table::OpenTable;
 pub use rule_list::RuleList;

@@ -8,6 +8,7 @@ use tl_beats::{Placed, Row};
 use tl_link_rules::RuleList;
 
 /// Puts the rows of one beat at the end. Most beats have none.
+#[inline]
 pub fn add_rows(rows: &mut Vec<Row>, at: &Placed, rules: &RuleList) -> Result<(), AllocError>
     ensures { OnOk result (rows.new.items ≡ rows.old.items ++ map (row_of at.now) rules.now) }
 {
@@ -18,6 +19,8 @@ pub fn add_rows(rows: &mut Vec<Row>, at: &Placed, rules: &RuleList) -> Result<()
 }
 
 /// Puts a row of each rule at the end.
+#[cold]
+#[inline(never)]
 fn put_rows(rows: &mut Vec<Row>, at: &Placed, rules: &RuleList) -> Result<(), AllocError>
     ensures { OnOk result (rows.new.items ≡ rows.old.items ++ map (row_of at.now) rules.now) }
 {

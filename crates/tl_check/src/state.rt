@@ -22,7 +22,7 @@ use crate::rows::add_rows;
 use std::alloc::{AllocError, Global};
 use tl_beats::{Placed, Request, Row};
 use tl_client_rules::ManagerState;
-use tl_link_rules::{check_head, check_later, keeps_format};
+use tl_link_rules::{check_head, check_later, keeps_burst, keeps_format};
 use tl_state::Same;
 use tl_tables::{Op, op_of};
 use tl_topology::{LinkDecl, RegionMap, Topo};
@@ -113,6 +113,10 @@ impl SpanState {
         let place = self.place(at.link);
         match self.links[place].bursts.head(at.beat.chan) {
             Some(head) => {
+                if keeps_burst(head, &at.beat) {
+                    self.links[place].go_on(decl, &at.beat);
+                    return Ok(());
+                }
                 let later = check_later(alloc, decl, head, &at.beat);
                 self.links[place].go_on(decl, &at.beat);
                 add_rows(rows, at, &later)
@@ -201,6 +205,8 @@ impl SpanState {
     }
 
     /// Judges a head as `step_head` does, with a list of the rules of each kind.
+    #[cold]
+    #[inline(never)]
     fn judge_head(
         &mut self,
         alloc: Global,

@@ -1,6 +1,6 @@
 -- What a state shows after one more head.
 use Rattle.std.specs.Prelude.{OnOk, filter}
-use Rattle.std.proofs.Common.{Result, Ok, Err, ◌≡◌, ℕ, ◌+◌, ◌-◌, ◌==◌, ◌≤◌, ◌&&◌, Bool, true, false, cond, List, [], ◌∷◌, length, Option, Some, None, refl, sym, ap, ◌∙◌, arith}
+use Rattle.std.proofs.Common.{Result, Ok, Err, ◌≡◌, ℕ, ◌+◌, ◌-◌, ◌==◌, ◌≤◌, ◌&&◌, Bool, true, false, cond, List, [], ◌∷◌, length, Option, Some, None, refl, ap, ◌∙◌, arith}
 use Rattle.std.specs.Option.{option_map}
 use Rattle.tl_tables.specs.declared.Op.{Op}
 use Rattle.tl_tables.specs.declared.Perm.TheVariants as perm
@@ -171,13 +171,3 @@ few_of test (x ∷ rules) = elim (test x) as (λ b. length (cond b (x ∷ filter
 pub few_rules : (strict : Bool) (view : ClientView) (head : Beat) (found : Option Op) → length (view_rules strict view head found) ≤ 8
 few_rules strict view head None = omega arith
 few_rules strict view head (Some o) = few_of (breaks_permission strict view.exponent view.past (head_with head None o)) permission_order
-
--- What a state shows after a head that is a message.
-pub passed : {X E : Type 0} (made : Result X E) (exponent : ℕ) (old new : ClientState) (past : LinkPast) (head : Beat) (request : Option Request) (found : Option Op) (o : Op) → found ≡ Some o
-    → Shows exponent old past → request ≡ answered_in past head found → OnOk made (IsView new (view_after (shown old) (head_with head request o)))
-    → OnOk made (Shows exponent new (past_with exponent past head found))
-passed (Ok x) exponent old new past head request found o message is answer next = record {
-  shows = seen new (view_after (shown old) (head_with head request o)) next ∙ ap (view_with (shown old) head request) (sym message)
-      ∙ ap (λ view. view_with view head request found) is.shows ∙ with_view exponent past head request found answer;
-}
-passed (Err e) exponent old new past head request found o message is answer next = tt

@@ -188,8 +188,7 @@ impl ClientState {
         request: Option<Request>,
     ) -> Result<(), AllocError>
         requires { message_of link.now head.now ≡ Some op }
-        ensures next { ForShown self.old link.now head.now request
-            (λ exponent past. OnOk result (Shows exponent self.new (past_with_head exponent past link.now head.now))) }
+        ensures next { OnOk result (shown self.new ≡ view_with (shown self.old) head.now request (message_of link.now head.now)) }
         ensures err { OnErr result (shown self.new ≡ shown self.old) }
     {
         self.change(op, head, request)
@@ -251,7 +250,6 @@ impl ClientState {
     }
 
     /// The same on what the state shows.
-    #[tactic(auto, using(crate::proofs::Carried::carried, crate::proofs::ClientLaws::seen))]
     fn advance(
         &mut self,
         alloc: Global,
@@ -267,7 +265,7 @@ impl ClientState {
             return Ok(RuleList::new(alloc));
         };
         let rules = self.broken_rules(alloc, link.strict, op, head);
-        self.change(op, head, request)?;
+        self.pass(link, op, head, request)?;
         Ok(rules)
     }
 

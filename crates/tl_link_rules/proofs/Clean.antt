@@ -1,5 +1,5 @@
 -- Later beats that break no rule, whatever the message is.
-use Rattle.std.proofs.Common.{◌≡◌, Bool, true, false, [], refl}
+use Rattle.std.proofs.Common.{◌≡◌, Bool, true, false, [], Some, None, refl}
 use Rattle.std.specs.Prelude.{◌&&◌, not, filter}
 use Rattle.tl_tables.specs.declared.Chan.TheVariants as chan
 use Rattle.tl_tables.specs.declared.Op.{Op}
@@ -9,7 +9,9 @@ use Rattle.tl_tables.specs.Messages.{same_chan, carries_data_of}
 use Rattle.tl_topology.specs.declared.LinkDecl.{LinkDecl}
 use Rattle.tl_beats.specs.declared.Beat.{Beat}
 use Rattle.tl_definitions.specs.Rules.{has_mask, is_mask_ok, active_lanes}
-use Rattle.tl_definitions.specs.Breaks.{is_alike, breaks_later, later_order}
+use Rattle.std.specs.Option.{option_map_or}
+use Rattle.tl_definitions.specs.Heads.{message_of}
+use Rattle.tl_definitions.specs.Breaks.{is_alike, breaks_later, later_order, later_rules}
 
 undenied : (d c e n : Bool) → (d && e && n) ≡ false → (d && c && e && n) ≡ false
 undenied false c e n h = refl
@@ -28,3 +30,9 @@ clean link o head beat mask denied alike =
     none_of (breaks_later link o head beat) (unmasked (has_mask head.chan) (not (is_mask_ok o beat.mask (active_lanes link.width head.size head.address))) mask)
     (undenied (same_chan head.chan chan.D) (carries_data_of o) beat.denied (not beat.corrupt) denied)
     (rw alike refl)
+
+pub none_later : (link : LinkDecl) (head beat : Beat) → ((l : LinkDecl) (o : Op) → filter (breaks_later l o head beat) later_order ≡ []) → later_rules link beat head ≡ []
+none_later link head beat none = elim (message_of link head) as (λ found. option_map_or (λ o. filter (breaks_later link o head beat) later_order) found [] ≡ []) [
+  | None ↦ refl
+  | Some o ↦ none link o
+]

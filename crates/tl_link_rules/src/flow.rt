@@ -108,7 +108,6 @@ impl FlowState {
     }
 
     /// The same on what the state shows.
-    #[tactic(auto, using(crate::proofs::FlowLaws::carried))]
     fn advance(
         &mut self,
         alloc: Global,
@@ -128,7 +127,7 @@ impl FlowState {
         };
         let request = self.request_of(op, head);
         let rules = self.broken_rules(alloc, op, head, &request);
-        self.change(op, head)?;
+        self.pass(link, op, head)?;
         Ok(FlowAnswer { rules, request })
     }
 
@@ -213,7 +212,8 @@ impl FlowState {
     #[tactic(auto, using(crate::proofs::FlowLaws::carried))]
     pub fn pass(&mut self, link: &LinkDecl, op: Op, head: &Beat) -> Result<(), AllocError>
         requires { message_of link.now head.now ≡ Some op }
-        ensures { OnOk result (shown self.new ≡ flow_with (shown self.old) head.now (message_of link.now head.now)) }
+        ensures next { OnOk result (shown self.new ≡ flow_with (shown self.old) head.now (message_of link.now head.now)) }
+        ensures err { OnErr result (shown self.new ≡ shown self.old) }
     {
         self.change(op, head)
     }

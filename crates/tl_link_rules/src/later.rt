@@ -54,6 +54,14 @@ fn is_clean(head: &Beat, beat: &Beat) -> bool
     !has_mask && !is_denied && is_alike(head, beat)
 }
 
+/// Whether a later beat of a burst with this head is seen to break no rule, on whatever link; false says nothing.
+#[tactic(auto, using(crate::proofs::Clean::none_later))]
+pub fn keeps_burst(head: &Beat, beat: &Beat) -> bool
+    ensures { result ≡ true → (link : AnyLink) → later_rules link beat.now head.now ≡ [] }
+{
+    is_clean(head, beat)
+}
+
 /// The rules that a later beat breaks, by the head of its burst, in the order of reports, each once: F5 by the head's
 /// lanes and the beat's mask, F7 by the beat's own bits, U1 where it differs from the head in a field that all beats of a
 /// burst share. [TileLink 1.8: serialization, byte lanes, denied and corrupt]

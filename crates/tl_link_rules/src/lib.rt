@@ -14,6 +14,6 @@ pub use bursts::{BurstState, Place, beat_count};
 pub use fields::active_lanes;
 pub use flow::{FlowAnswer, FlowState, has_other_size, is_unlike, request_from};
 pub use heads::{check_head, keeps_format};
-pub use later::{breaks as breaks_later, check_later, is_alike};
+pub use later::{breaks as breaks_later, check_later, is_alike, keeps_burst};
 pub use open_table::OpenTable;
 pub use rule_list::RuleList;

@@ -9,6 +9,7 @@ pub mod Lacking
 pub mod Lines
 pub mod OneAnswer
 pub mod PartsTexts
+pub mod SameTexts
 pub mod TextParts
-pub mod WordDigits
 pub mod Whole
+pub mod WordDigits

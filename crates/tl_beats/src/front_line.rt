@@ -11,7 +11,7 @@ ghost use Rattle.tl_beats.specs.Fronts.{after_cycle, beat_line_at, IsFrontLine};
 
 use crate::Beat;
 use crate::front_number::{decimal_digit, decimal_front, hexadecimal_front};
-use crate::front_words::long_decimal_front;
+use crate::front_words::{long_decimal_front, rest_of};
 use tl_tables::Chan;
 
 const LAST_CODE: u8 = 7;
@@ -218,14 +218,6 @@ fn fields_front(name: u8, cycle: u64, words: &[u8]) -> Option<(Beat, &[u8])>
         b'E' => grant_ack_front(cycle, words),
         _ => None,
     }
-}
-
-/// What stands after a text's front, where it has that front.
-#[inline(always)]
-fn rest_of<'a>(text: &'a [u8], front: &[u8]) -> Option<&'a [u8]>
-    ensures { IfSome result (λ rest. text.now ≡ front.now ++ rest.now) }
-{
-    text.strip_prefix(front)
 }
 
 /// A line that was read: its beat, and its text after the cycle, with the newline.

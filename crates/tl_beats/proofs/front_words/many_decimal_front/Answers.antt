@@ -2,8 +2,8 @@ use Rattle.std.proofs.Common.{◌≡◌, ◌-◌, length, take, drop, arith, get
 use Rattle.std.proofs.lemmas.Grind.{common_steps}
 use Rattle.std.proofs.lemmas.List.{take_all}
 use Rattle.tl_beats.proofs.WordDigits.{found}
-use Rattle.tl_beats.proofs.front_words.long_decimal_front.Goals.{then-end-gt1, else-end-gt1}
-use Rattle.tl_beats.proofs.front_words.long_decimal_front.Goals as goal
+use Rattle.tl_beats.proofs.front_words.many_decimal_front.Goals.{then-end-gt1, else-end-gt1}
+use Rattle.tl_beats.proofs.front_words.many_decimal_front.Goals as goal
 
 pub returns-in-len1-up : goal.returns-in-len1-up
 returns-in-len1-up c =

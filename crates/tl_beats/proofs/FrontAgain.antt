@@ -13,7 +13,7 @@ use Rattle.tl_beats.specs.Fronts.{after_cycle, IsFrontLine}
 use Rattle.tl_beats.specs.declared.front_line.FrontLine.{FrontLine}
 
 -- what stands after the cycle is the line's, and then the rest
-spells : (b : Beat) (n : ℕ) (text words rest : List ℕ) → b.cycle ≡ n → text ≡ numeral 10 n ++ 32 ∷ words → words ≡ ended (after_cycle b) ++ rest → text ≡ beat_text b ++ 10 ∷ rest
+pub spells : (b : Beat) (n : ℕ) (text words rest : List ℕ) → b.cycle ≡ n → text ≡ numeral 10 n ++ 32 ∷ words → words ≡ ended (after_cycle b) ++ rest → text ≡ beat_text b ++ 10 ∷ rest
 unfolding beat_text
 spells b n text words rest n_is is w_is =
     let tail : words ≡ after_cycle b ++ 10 ∷ rest = w_is ∙ append_assoc (after_cycle b) (10 ∷ []) rest in

@@ -220,31 +220,45 @@ fn fields_front(name: u8, cycle: u64, words: &[u8]) -> Option<(Beat, &[u8])>
     }
 }
 
-/// A line that was read: its beat, and its text after the cycle, with the newline.
+/// A line that was read: its beat, its bytes before the channel, and its text from the channel on, with the newline.
 #[derive(Clone, Copy)]
 pub(crate) struct FrontLine<'a> {
     pub(crate) beat: Beat,
+    cycle_bytes: usize,
     after_cycle: &'a [u8],
 }
 
-impl<'a> FrontLine<'a> {
-    /// The line that differs in the cycle alone.
+impl FrontLine<'_> {
+    /// Whether a burst may go on with this text: its first line has the channel at the same place. It only saves time.
     #[inline(always)]
-    fn at_cycle(self, cycle: u64) -> FrontLine<'a>
-        requires { IsFrontLine self }
-        ensures line { IsFrontLine result }
-        ensures cycle { result.beat.cycle ≡ cycle }
-        ensures same { result.after_cycle ≡ self.entry.after_cycle }
+    fn is_like(&self, text: &[u8]) -> bool {
+        match (text.get(self.cycle_bytes), self.after_cycle.first()) {
+            (Some(found), Some(channel)) => *found == *channel,
+            _ => false,
+        }
+    }
+
+    /// The beat of the line that differs in the cycle alone.
+    #[inline(always)]
+    fn beat_at(&self, cycle: u64) -> Beat
+        requires { IsFrontLine self.now }
+        ensures formed { IsWellFormed result }
+        ensures cycle { result.cycle ≡ cycle }
+        ensures same { after_cycle result ≡ after_cycle self.now.beat }
     {
-        let beat = Beat { cycle, ..self.beat };
-        let after_cycle = self.after_cycle;
-        FrontLine { beat, after_cycle }
+        Beat { cycle, ..self.beat }
+    }
+
+    /// Whether a later beat of its burst may be on the next line.
+    #[inline(always)]
+    pub(crate) fn may_go_on(&self, text: &[u8]) -> bool {
+        self.beat.size > ONE_BEAT && self.is_like(text)
     }
 }
 
 /// The line of this cycle, with these words after it, and what stands after the line.
 #[inline(always)]
-fn fields_line(cycle: u64, words: &[u8]) -> Option<(FrontLine<'_>, &[u8])>
+fn fields_line(cycle: u64, cycle_bytes: usize, words: &[u8]) -> Option<(FrontLine<'_>, &[u8])>
     ensures line { IfSome result (λ x. IsFrontLine x.0) }
     ensures cycle { IfSome result (λ x. x.0.beat.cycle ≡ cycle) }
     ensures text { IfSome result (λ x. words.now ≡ ended (after_cycle x.0.beat) ++ x.1.now) }
@@ -253,43 +267,36 @@ fn fields_line(cycle: u64, words: &[u8]) -> Option<(FrontLine<'_>, &[u8])>
         return None;
     };
     let (beat, rest) = fields_front(*name, cycle, fields)?;
-    let after_cycle = &words[..words.len() - rest.len()];
-    Some((FrontLine { beat, after_cycle }, rest))
-}
-
-/// The same. Beats of a burst have lines that differ in the cycle alone: one that goes on as the line before is its beat.
-#[inline(always)]
-fn front_line<'a>(
-    cycle: u64,
-    words: &'a [u8],
-    before: Option<FrontLine<'a>>,
-) -> Option<(FrontLine<'a>, &'a [u8])>
-    requires { IfSome before IsFrontLine }
-    ensures line { IfSome result (λ x. IsFrontLine x.0) }
-    ensures cycle { IfSome result (λ x. x.0.beat.cycle ≡ cycle) }
-    ensures text { IfSome result (λ x. words.now ≡ ended (after_cycle x.0.beat) ++ x.1.now) }
-{
-    if let Some(line) = before {
-        if line.beat.size > ONE_BEAT {
-            if let Some(rest) = rest_of(words, line.after_cycle) {
-                return Some((line.at_cycle(cycle), rest));
-            }
-        }
-    }
-    fields_line(cycle, words)
+    let line = FrontLine {
+        beat,
+        cycle_bytes,
+        after_cycle: &words[..words.len() - rest.len()],
+    };
+    Some((line, rest))
 }
 
 /// The first line of a text, where it spells a beat, and what stands after it; None for a line that is passed on.
 #[inline(always)]
-pub(crate) fn beat_front<'a>(
-    text: &'a [u8],
-    before: Option<FrontLine<'a>>,
-) -> Option<(FrontLine<'a>, &'a [u8])>
-    requires { IfSome before IsFrontLine }
+pub(crate) fn beat_front(text: &[u8]) -> Option<(FrontLine<'_>, &[u8])>
     ensures line { IfSome result (λ x. IsFrontLine x.0) }
     ensures spelled { IfSome result (λ x. text.now ≡ beat_text x.0.beat ++ 10 ∷ x.1.now) }
     ensures read { IfSome result (λ x. beat_line_at text.now ≡ Some (x.0.beat, x.1.now)) }
 {
     let (cycle, words) = long_decimal_front(text, b' ')?;
-    front_line(cycle, words, before)
+    fields_line(cycle, text.len() - words.len(), words)
+}
+
+/// The beat of a text's first line, where the line differs from this one in the cycle alone, and what stands after it.
+#[inline(always)]
+pub(crate) fn later_front<'a>(text: &'a [u8], line: &FrontLine<'_>) -> Option<(Beat, &'a [u8])>
+    requires { IsFrontLine line.now }
+    ensures formed { IfSome result (λ x. IsWellFormed x.0) }
+    ensures spelled { IfSome result (λ x. text.now ≡ beat_text x.0 ++ 10 ∷ x.1.now) }
+{
+    if !line.is_like(text) {
+        return None;
+    }
+    let (cycle, words) = long_decimal_front(text, b' ')?;
+    let rest = rest_of(words, line.after_cycle)?;
+    Some((line.beat_at(cycle), rest))
 }

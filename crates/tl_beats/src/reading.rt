@@ -3,10 +3,11 @@
 ghost use Rattle.std.specs.Prelude.{◌≡◌, ◌↔◌, ◌+◌, ◌<◌, ◌≤◌, ◌^◌, ◌++◌, ℕ, List, [], drop, take, length, option_map, Ok, IfErr, IfOk, IfSome, OnOk, true};
 ghost use Rattle.std.specs.Result.{IsErrOf, IsErrAnd};
 ghost use Rattle.tl_text.specs.Words.{lines_of, IsBehind};
-ghost use Rattle.tl_text.specs.Readings.{Gives};
+ghost use Rattle.tl_text.specs.Readings.{Fails, Gives};
 ghost use Rattle.tl_beats.specs.Beats.{IsWellFormed};
 ghost use Rattle.tl_beats.specs.Faults.{is_memory, is_outside};
 ghost use Rattle.tl_beats.specs.Fragments.{AreBeats, Frag, IsFragment};
+ghost use Rattle.tl_beats.specs.Fronts.{IsFrontLine};
 ghost use Rattle.tl_beats.specs.Text.{fragment_text};
 ghost use Rattle.tl_beats.specs.Reading.{range_at, header_at, next_at, beats_from, fragment_behind, fragment_in, whole_fragment_in};
 
@@ -14,7 +15,7 @@ use crate::Beat;
 use crate::beat_line::beat_of;
 use crate::fault::FragmentFault;
 use crate::fragment::Fragment;
-use crate::front_line::beat_front;
+use crate::front_line::{FrontLine, beat_front, later_front};
 use crate::places::placed;
 use std::alloc::Global;
 use tl_text::{ByteIn, decimal, line, read_text, word};
@@ -89,6 +90,58 @@ fn next_of(
     }
 }
 
+/// Takes the later beats of a line's burst, whose lines differ from it in the cycle alone, and gives what stands after them.
+#[inline(never)]
+fn burst_of<'a>(
+    beats: &mut Vec<Beat>,
+    first: u64,
+    last: u64,
+    line: &FrontLine<'_>,
+    text: &'a [u8],
+) -> Result<&'a [u8], FragmentFault>
+    requires line { IsFrontLine line.now }
+    requires kept { AreBeats first last beats.old.items }
+    ensures read { IfOk result (λ rest. beats_from first last (length beats.new.items + 2) beats.new.items (lines_of rest.now) ≡ beats_from first last (length beats.old.items + 2) beats.old.items (lines_of text.now)) }
+    ensures kept { IfOk result (λ rest. AreBeats first last beats.new.items) }
+    ensures behind { IfOk result (λ rest. IsBehind text.now rest.now) }
+    ensures fault { IfErr result (λ e. Fails is_memory e (beats_from first last (length beats.old.items + 2) beats.old.items (lines_of text.now))) }
+    ensures inside { IfErr result (λ e. is_outside e ≡ is_memory e) }
+{
+    let mut rest = text;
+    loop {
+        let Some((beat, after)) = later_front(rest, line) else {
+            return Ok(rest);
+        };
+        let number = beats.len() as u32 + 2;
+        beats.push(placed(number, first, last, beats, beat)?)?;
+        rest = after;
+    }
+}
+
+/// The same, after a look whether there are such beats.
+#[inline(always)]
+fn later_beats<'a>(
+    beats: &mut Vec<Beat>,
+    first: u64,
+    last: u64,
+    line: &FrontLine<'_>,
+    text: &'a [u8],
+) -> Result<&'a [u8], FragmentFault>
+    requires line { IsFrontLine line.now }
+    requires kept { AreBeats first last beats.old.items }
+    ensures read { IfOk result (λ rest. beats_from first last (length beats.new.items + 2) beats.new.items (lines_of rest.now) ≡ beats_from first last (length beats.old.items + 2) beats.old.items (lines_of text.now)) }
+    ensures kept { IfOk result (λ rest. AreBeats first last beats.new.items) }
+    ensures behind { IfOk result (λ rest. IsBehind text.now rest.now) }
+    ensures fault { IfErr result (λ e. Fails is_memory e (beats_from first last (length beats.old.items + 2) beats.old.items (lines_of text.now))) }
+    ensures inside { IfErr result (λ e. is_outside e ≡ is_memory e) }
+{
+    if line.may_go_on(text) {
+        burst_of(beats, first, last, line, text)
+    } else {
+        Ok(text)
+    }
+}
+
 /// The beats up to the line `end`, and what stands after it.
 fn beats_of(
     alloc: Global,
@@ -103,14 +156,11 @@ fn beats_of(
 {
     let mut beats = Vec::new(alloc);
     let mut rest = bytes;
-    let mut number = 2u32;
-    let mut before = None;
     loop {
-        if let Some((front, after)) = beat_front(rest, before) {
+        let number = beats.len() as u32 + 2;
+        if let Some((front, after)) = beat_front(rest) {
             beats.push(placed(number, first, last, &beats, front.beat)?)?;
-            before = Some(front);
-            rest = after;
-            number += 1;
+            rest = later_beats(&mut beats, first, last, &front, after)?;
             continue;
         }
         let Some((next, after)) = line(rest) else {
@@ -121,7 +171,6 @@ fn beats_of(
             return Ok((beats, rest));
         }
         beats.push(next_of(next, number, first, last, &beats)?)?;
-        number += 1;
     }
 }
 

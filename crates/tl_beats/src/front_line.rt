@@ -10,7 +10,7 @@ ghost use Rattle.tl_beats.specs.Text.{chan_text, fields_text, beat_text};
 ghost use Rattle.tl_beats.specs.Fronts.{after_cycle, beat_line_at, IsFrontLine};
 
 use crate::Beat;
-use crate::front_number::{decimal_digit, decimal_front, hexadecimal_front};
+use crate::front_number::{decimal_digit, decimal_front, hexadecimal_front, mask_front};
 use crate::front_words::{long_decimal_front, rest_of};
 use tl_tables::Chan;
 
@@ -63,8 +63,9 @@ fn bit_front(words: &[u8], stop: u8) -> Option<(bool, &[u8])>
     ensures { IfSome result (λ x. words.now ≡ bit x.0 ++ stop ∷ x.1.now) }
 {
     match words {
-        [b'0', end, rest @ ..] if *end == stop => Some((false, rest)),
-        [b'1', end, rest @ ..] if *end == stop => Some((true, rest)),
+        [digit, end, rest @ ..] if *end == stop && *digit & !1 == b'0' => {
+            Some((*digit == b'1', rest))
+        }
         _ => None,
     }
 }
@@ -104,7 +105,7 @@ fn access_front(chan: Chan, cycle: u64, words: &[u8]) -> Option<(Beat, &[u8])>
 {
     let (opening, words) = opening_front(words)?;
     let (address, words) = hexadecimal_front(words)?;
-    let (mask, words) = hexadecimal_front(words)?;
+    let (mask, words) = mask_front(words)?;
     let (corrupt, rest) = bit_front(words, b'\n')?;
     let beat = Beat {
         cycle,

@@ -46,10 +46,29 @@ fn behind(text: &[u8], stop: u8) -> Option<&[u8]>
     }
 }
 
+/// The decimal number of one or two digits at the front and what stands after the stop that ends it; None for any other.
+#[inline(always)]
+fn short_decimal_front(text: &[u8], stop: u8) -> Option<(u64, &[u8])>
+    ensures { IfSome result (λ x. text.now ≡ numeral 10 x.0 ++ stop ∷ x.1.now) }
+{
+    match text {
+        [ones, end, rest @ ..] if *end == stop => Some((u64::from(decimal_digit(*ones)?), rest)),
+        [tens, ones, end, rest @ ..] if *end == stop => {
+            let tens = decimal_digit(*tens)?;
+            let ones = decimal_digit(*ones)?;
+            if tens == 0 {
+                return None;
+            }
+            Some((u64::from(tens) * 10 + u64::from(ones), rest))
+        }
+        _ => None,
+    }
+}
+
 /// The decimal number at the front and what stands after the stop that ends it; None for some numbers of 60 bits and
 /// more, and where none is spelled.
 #[inline(always)]
-pub(crate) fn decimal_front(text: &[u8], stop: u8) -> Option<(u64, &[u8])>
+fn any_decimal_front(text: &[u8], stop: u8) -> Option<(u64, &[u8])>
     ensures { IfSome result (λ x. text.now ≡ numeral 10 x.0 ++ stop ∷ x.1.now) }
 {
     let [first, rest @ ..] = text else {
@@ -75,6 +94,17 @@ pub(crate) fn decimal_front(text: &[u8], stop: u8) -> Option<(u64, &[u8])>
         rest = after;
     }
     None
+}
+
+/// The same. Most sources and sinks have one digit or two, so these are tried first.
+#[inline(always)]
+pub(crate) fn decimal_front(text: &[u8], stop: u8) -> Option<(u64, &[u8])>
+    ensures { IfSome result (λ x. text.now ≡ numeral 10 x.0 ++ stop ∷ x.1.now) }
+{
+    match short_decimal_front(text, stop) {
+        Some(found) => Some(found),
+        None => any_decimal_front(text, stop),
+    }
 }
 
 /// The hexadecimal number at the front and what stands after the space that ends it; None where none is spelled.
@@ -105,4 +135,15 @@ pub(crate) fn hexadecimal_front(text: &[u8]) -> Option<(u64, &[u8])>
         rest = after;
     }
     None
+}
+
+/// The same of a mask. That of all lanes of a link of 8 bytes is by far the most common one.
+#[inline(always)]
+pub(crate) fn mask_front(text: &[u8]) -> Option<(u64, &[u8])>
+    ensures { IfSome result (λ x. text.now ≡ numeral 16 x.0 ++ 32 ∷ x.1.now) }
+{
+    match text {
+        [b'f', b'f', b' ', rest @ ..] => Some((0xff, rest)),
+        _ => hexadecimal_front(text),
+    }
 }

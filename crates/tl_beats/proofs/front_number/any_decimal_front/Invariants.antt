@@ -1,6 +1,6 @@
 use Rattle.std.proofs.Common.{◌≡◌, ◌≤◌, ◌++◌, length}
 use Rattle.tl_text.specs.Numbers.{numeral}
-use Rattle.tl_beats.proofs.front_number.decimal_front.Given as goal
+use Rattle.tl_beats.proofs.front_number.any_decimal_front.Given as goal
 
 abbrev pub invariant-loop-rest : goal.invariant-loop-rest
 invariant-loop-rest l = record {

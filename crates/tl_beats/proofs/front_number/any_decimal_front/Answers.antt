@@ -1,6 +1,6 @@
 use Rattle.std.proofs.Common.{arith, rules}
 use Rattle.tl_beats.proofs.Fronts.{goes_on}
-use Rattle.tl_beats.proofs.front_number.decimal_front.Goals as goal
+use Rattle.tl_beats.proofs.front_number.any_decimal_front.Goals as goal
 
 pub loop-rest-preserved : goal.loop-rest-preserved
 loop-rest-preserved c = rw c.from.ensures (record {

@@ -16,6 +16,9 @@ use tl_tables::Chan;
 
 const LAST_CODE: u8 = 7;
 
+/// A size of two digits is passed on.
+const LAST_DIGIT: u8 = 9;
+
 const LAST_SOURCE: u64 = 65_535;
 
 /// A message of at most 2 to this power bytes has one beat on links of 8 bytes, so the next line is not compared with its.
@@ -28,20 +31,6 @@ struct Opening {
     param: u8,
     size: u8,
     source: u16,
-}
-
-/// A code of 0 to 7.
-#[inline(always)]
-fn code(byte: u8) -> Option<u8>
-    ensures low { IfSome result (λ d. d ≤ 7) }
-    ensures spelled { IfSome result (λ d. numeral 10 d ≡ byte ∷ []) }
-{
-    let digit = decimal_digit(byte)?;
-    if digit <= LAST_CODE {
-        Some(digit)
-    } else {
-        None
-    }
 }
 
 /// A source or a sink, and what stands after the stop.
@@ -81,9 +70,12 @@ fn opening_front(words: &[u8]) -> Option<(Opening, &[u8])>
     let [opcode, b' ', param, b' ', size, b' ', words @ ..] = words else {
         return None;
     };
-    let opcode = code(*opcode)?;
-    let param = code(*param)?;
-    let size = decimal_digit(*size)?;
+    let opcode = decimal_digit(*opcode);
+    let param = decimal_digit(*param);
+    let size = decimal_digit(*size);
+    if opcode > LAST_CODE || param > LAST_CODE || size > LAST_DIGIT {
+        return None;
+    }
     let (source, words) = number_front(words, b' ')?;
     let opening = Opening {
         opcode,

@@ -6,33 +6,39 @@ ghost use Rattle.tl_text.specs.Numbers.{numeral};
 /// Where a number is this or more, one more digit might not fit.
 const LAST_ROOM: u64 = 1 << 60;
 
-/// The value of a decimal digit.
+/// The value of a decimal digit; above 9 for any other byte.
 #[tactic(auto, using(crate::proofs::Fronts::decimal_glyph))]
 #[inline(always)]
-pub(crate) fn decimal_digit(byte: u8) -> Option<u8>
-    ensures low { IfSome result (λ d. d ≤ 9) }
-    ensures spelled { IfSome result (λ d. numeral 10 d ≡ byte ∷ []) }
+pub(crate) fn decimal_digit(byte: u8) -> u8
+    ensures { result ≤ 9 → numeral 10 result ≡ byte ∷ [] }
 {
-    let digit = byte.wrapping_sub(b'0');
-    if digit <= 9 { Some(digit) } else { None }
+    byte.wrapping_sub(b'0')
 }
 
-/// The value of a hexadecimal digit.
-#[tactic(auto, using(crate::proofs::Fronts::decimal_glyph, crate::proofs::Fronts::letter_glyph))]
+/// The values of hexadecimal digits by their bytes, and 255 for any other byte.
+static HEXADECIMAL: [u8; 256] = [
+    255, 255, 255, 255, 255, 255, 255, 255, 255, 255, 255, 255, 255, 255, 255, 255, 255, 255, 255,
+    255, 255, 255, 255, 255, 255, 255, 255, 255, 255, 255, 255, 255, 255, 255, 255, 255, 255, 255,
+    255, 255, 255, 255, 255, 255, 255, 255, 255, 255, 0, 1, 2, 3, 4, 5, 6, 7, 8, 9, 255, 255, 255,
+    255, 255, 255, 255, 255, 255, 255, 255, 255, 255, 255, 255, 255, 255, 255, 255, 255, 255, 255,
+    255, 255, 255, 255, 255, 255, 255, 255, 255, 255, 255, 255, 255, 255, 255, 255, 255, 10, 11,
+    12, 13, 14, 15, 255, 255, 255, 255, 255, 255, 255, 255, 255, 255, 255, 255, 255, 255, 255, 255,
+    255, 255, 255, 255, 255, 255, 255, 255, 255, 255, 255, 255, 255, 255, 255, 255, 255, 255, 255,
+    255, 255, 255, 255, 255, 255, 255, 255, 255, 255, 255, 255, 255, 255, 255, 255, 255, 255, 255,
+    255, 255, 255, 255, 255, 255, 255, 255, 255, 255, 255, 255, 255, 255, 255, 255, 255, 255, 255,
+    255, 255, 255, 255, 255, 255, 255, 255, 255, 255, 255, 255, 255, 255, 255, 255, 255, 255, 255,
+    255, 255, 255, 255, 255, 255, 255, 255, 255, 255, 255, 255, 255, 255, 255, 255, 255, 255, 255,
+    255, 255, 255, 255, 255, 255, 255, 255, 255, 255, 255, 255, 255, 255, 255, 255, 255, 255, 255,
+    255, 255, 255, 255, 255, 255, 255, 255, 255, 255, 255, 255, 255, 255, 255, 255, 255, 255, 255,
+    255, 255, 255, 255,
+];
+
+/// The value of a hexadecimal digit; above 15 for any other byte. A table costs fewer instructions than two ranges.
 #[inline(always)]
-fn hexadecimal_digit(byte: u8) -> Option<u8>
-    ensures low { IfSome result (λ d. d ≤ 15) }
-    ensures spelled { IfSome result (λ d. numeral 16 d ≡ byte ∷ []) }
+fn hexadecimal_digit(byte: u8) -> u8
+    ensures { result ≤ 15 → numeral 16 result ≡ byte ∷ [] }
 {
-    let decimal = byte.wrapping_sub(b'0');
-    let letter = byte.wrapping_sub(b'a');
-    if decimal <= 9 {
-        Some(decimal)
-    } else if letter <= 5 {
-        Some(letter + 10)
-    } else {
-        None
-    }
+    HEXADECIMAL[byte as usize]
 }
 
 /// What stands after the stop, where the text begins with it.
@@ -52,11 +58,17 @@ fn short_decimal_front(text: &[u8], stop: u8) -> Option<(u64, &[u8])>
     ensures { IfSome result (λ x. text.now ≡ numeral 10 x.0 ++ stop ∷ x.1.now) }
 {
     match text {
-        [ones, end, rest @ ..] if *end == stop => Some((u64::from(decimal_digit(*ones)?), rest)),
+        [ones, end, rest @ ..] if *end == stop => {
+            let ones = decimal_digit(*ones);
+            if ones > 9 {
+                return None;
+            }
+            Some((u64::from(ones), rest))
+        }
         [tens, ones, end, rest @ ..] if *end == stop => {
-            let tens = decimal_digit(*tens)?;
-            let ones = decimal_digit(*ones)?;
-            if tens == 0 {
+            let tens = decimal_digit(*tens);
+            let ones = decimal_digit(*ones);
+            if tens == 0 || tens > 9 || ones > 9 {
                 return None;
             }
             Some((u64::from(tens) * 10 + u64::from(ones), rest))
@@ -74,18 +86,22 @@ fn any_decimal_front(text: &[u8], stop: u8) -> Option<(u64, &[u8])>
     let [first, rest @ ..] = text else {
         return None;
     };
-    let mut value = u64::from(decimal_digit(*first)?);
+    let mut value = u64::from(decimal_digit(*first));
+    if value > 9 {
+        return None;
+    }
     if value == 0 {
         return Some((0, behind(rest, stop)?));
     }
     let mut rest = rest;
     while let [byte, after @ ..] = rest {
-        let Some(digit) = decimal_digit(*byte) else {
+        let digit = decimal_digit(*byte);
+        if digit > 9 {
             return if *byte == stop {
                 Some((value, after))
             } else {
                 None
-            };
+            }
         };
         if value >= LAST_ROOM {
             return None;
@@ -115,18 +131,22 @@ pub(crate) fn hexadecimal_front(text: &[u8]) -> Option<(u64, &[u8])>
     let [first, rest @ ..] = text else {
         return None;
     };
-    let mut value = u64::from(hexadecimal_digit(*first)?);
+    let mut value = u64::from(hexadecimal_digit(*first));
+    if value > 15 {
+        return None;
+    }
     if value == 0 {
         return Some((0, behind(rest, b' ')?));
     }
     let mut rest = rest;
     while let [byte, after @ ..] = rest {
-        let Some(digit) = hexadecimal_digit(*byte) else {
+        let digit = hexadecimal_digit(*byte);
+        if digit > 15 {
             return if *byte == b' ' {
                 Some((value, after))
             } else {
                 None
-            };
+            }
         };
         if value >= LAST_ROOM {
             return None;

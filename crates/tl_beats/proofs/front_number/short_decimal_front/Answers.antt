@@ -1,4 +1,4 @@
-use Rattle.std.proofs.Common.{arith, rules}
+use Rattle.std.proofs.Common.{arith}
 use Rattle.tl_beats.proofs.Fronts.{two_digits}
 use Rattle.tl_beats.proofs.front_number.short_decimal_front.Goals as goal
 

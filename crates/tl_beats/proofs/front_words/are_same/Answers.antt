@@ -1,4 +1,4 @@
-use Rattle.std.proofs.Common.{◌≡◌, ◌-◌, arith, rules, refl, length, take, drop}
+use Rattle.std.proofs.Common.{◌-◌, arith, refl, length, take, drop}
 use Rattle.tl_beats.proofs.SameTexts.{same_word, same_front, same_texts}
 use Rattle.tl_beats.proofs.front_words.are_same.Goals as goal
 

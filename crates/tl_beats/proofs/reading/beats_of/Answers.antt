@@ -3,7 +3,6 @@ use Rattle.std.proofs.lemmas.Result.{err_from_is_err_and}
 use Rattle.tl_text.specs.Words.{lines_of}
 use Rattle.tl_text.specs.Readings.{Fails}
 use Rattle.tl_text.proofs.Cuts.{behind_line, behind_on}
-use Rattle.tl_beats.specs.Fragments.{AreBeats}
 use Rattle.tl_beats.specs.Faults.{is_memory}
 use Rattle.tl_beats.specs.Reading.{next_at, beats_from}
 use Rattle.tl_beats.specs.Text.{beat_text}

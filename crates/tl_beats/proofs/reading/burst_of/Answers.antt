@@ -1,4 +1,4 @@
-use Rattle.std.proofs.Common.{◌≡◌, ◌+◌, rules, arith, refl, sym, length, ◌∙◌}
+use Rattle.std.proofs.Common.{◌≡◌, ◌+◌, arith, refl, sym, length, ◌∙◌}
 use Rattle.std.proofs.lemmas.Result.{err_from_is_err_and}
 use Rattle.tl_text.specs.Words.{lines_of}
 use Rattle.tl_text.proofs.Cuts.{behind_all, behind_line}

@@ -88,6 +88,5 @@ same_on f g one two here there past block = elim (is_among block one) as (λ t. 
 pub same_by_blocks : {V : Type 0} (one two : BlockMap V) → AgreeOn one two (blocks_of one) → AgreeOn two one (blocks_of two) → SameValues one two
 same_by_blocks one two here there = same_on (value_at one) (value_at two) (blocks_of one) (blocks_of two) here there (λ block not_one not_two. has_none one block not_one ∙ sym (has_none two block not_two))
 
-pub same_copy : {V : Type 0} (one two : BlockMap V) → two.near.items ≡ one.near.items → ((block : ℕ) → get nat_cmp one.far block ≡ get nat_cmp two.far block) → SameValues one two
-unfolding value_at
-same_copy one two near far block = rw near (ap (own_or block (held_at one.near.items (home_of (length one.near.items) block))) (far block))
+pub none_are_same : {V : Type 0} (one two : BlockMap V) → ((block : ℕ) → value_at one block ≡ None) → ((block : ℕ) → value_at two block ≡ None) → SameValues one two
+none_are_same one two here there block = here block ∙ sym (there block)

@@ -8,7 +8,6 @@ ghost use Rattle.tl_state.specs.BlockMap.{home_of, held_at};
 
 use crate::block_walk::Blocks;
 use crate::exact::Exact;
-use crate::faithful::Faithful;
 use crate::same::Same;
 use std::alloc::{AllocError, Global};
 use std::collections::BTreeMap;
@@ -18,13 +17,13 @@ use std::mem;
 const FIRST_PLACES: usize = 16;
 
 /// How many times as many it has next.
-const MORE: usize = 4;
+const MORE: usize = 8;
 
 /// The most places that a map has.
-const MOST_PLACES: usize = 1 << 16;
+const MOST_PLACES: usize = 1 << 13;
 
-/// A map has more places once more than one in so many have a second block behind them.
-const CROWDED: usize = 8;
+/// A map gets more places once there is a block without one for each so many.
+const CROWDED: usize = 64;
 
 /// An odd number near 2 ^ 64 divided by the golden ratio: its multiples lie apart, those of neighbours too.
 const SPREAD: u64 = 0x9E37_79B9_7F4A_7C15;
@@ -218,23 +217,22 @@ impl<V: Copy + Drop> BlockMap<V> {
     fn widen(&mut self)
         ensures { SameValues self.old self.new }
     {
-        if let Ok(wide) = self.widened() {
+        let places = FIRST_PLACES.max(self.near.len().saturating_mul(MORE));
+        if let Ok(wide) = self.rebuilt(places) {
             *self = wide;
         }
     }
 
-    /// The same values, with more places. AllocError where memory is refused.
+    /// The same values, with so many places. AllocError where memory is refused.
     #[tactic(auto, using(crate::proofs::BlockMapLaws::has_none))]
-    fn widened(&self) -> Result<Self, AllocError>
-        ensures { IfOk result (λ wide. SameValues wide self.now) }
+    fn rebuilt(&self, places: usize) -> Result<Self, AllocError>
+        ensures { IfOk result (λ other. SameValues self.now other) }
     {
-        let alloc = *self.near.allocator();
-        let places = FIRST_PLACES.max(self.near.len().saturating_mul(MORE));
-        let mut wide = BlockMap::with_places(alloc, places)?;
+        let mut other = BlockMap::with_places(*self.near.allocator(), places)?;
         for block in self.blocks() {
-            wide.assign(block, self.get(block))?;
+            other.assign(block, self.get(block))?;
         }
-        Ok(wide)
+        Ok(other)
     }
 
     /// The blocks that may have a value, each that has one among them.
@@ -260,20 +258,15 @@ impl<V: Copy + Drop> BlockMap<V> {
         *self = BlockMap::new(*self.near.allocator());
     }
 
-    /// The same values. AllocError where memory is refused.
+    /// The same values, with few places. AllocError where memory is refused.
+    #[tactic(auto, using(crate::proofs::BlockMapLaws::none_are_same))]
     pub fn copy(&self) -> Result<Self, AllocError>
-    where
-        V: Faithful,
         ensures { IfOk result (λ copy. SameValues self.now copy) }
     {
-        let alloc = *self.near.allocator();
         if self.is_empty() {
-            return Ok(BlockMap::new(alloc));
+            return Ok(BlockMap::new(*self.near.allocator()));
         }
-        Ok(BlockMap {
-            near: Vec::from_slice(alloc, &self.near)?,
-            far: self.far.clone()?,
-        })
+        self.rebuilt(FIRST_PLACES)
     }
 
     /// Whether both have the same value of a block.

@@ -1,4 +1,4 @@
-//! States: what it means to compare and to copy them, and ordered maps that copies share.
+//! States: what it means to compare and to copy them, and the maps that they keep values in.
 #![tactic(auto)]
 
 mod block_map;

@@ -1,4 +1,4 @@
--- Bounds are the same where they agree on the entries of both.
+-- Bounds are the same where they agree on the blocks of both.
 use Rattle.std.proofs.Common.{◌≡◌, ℕ, true, false, cond, List, [], ◌∷◌, Some, None, unwrap_or, IsSome, refl, sym, ap, ◌∙◌, subst}
 use Rattle.std.specs.BTreeMap.{is_at}
 use Rattle.std.specs.Cmp.{Equal-is}
@@ -7,9 +7,13 @@ use Rattle.std.specs.List.{AllByRecursion}
 use Rattle.std.specs.Map.{lookup}
 use Rattle.std.specs.Ordering.{nat_cmp}
 use Rattle.tl_tables.specs.declared.Perm.{Perm}
+use Rattle.tl_state.specs.BlockMap.{blocks_of, is_among}
 use Rattle.tl_state.specs.Map.{value_at}
-use Rattle.tl_client_rules.specs.Bounds.{bound_at, settled_at, recent_at, SameBounds, AgreeOn}
+use Rattle.tl_state.proofs.BlockMapLaws.{has_none, all_agree, same_on}
+use Rattle.tl_client_rules.specs.Bounds.{bound_by, bound_at, settled_at, SameBounds, AgreeOn, AgreeOnBlocks}
 use Rattle.tl_client_rules.specs.Holds.{perm_of}
+use Rattle.tl_state.specs.declared.block_map.BlockMap.{BlockMap}
+use Rattle.tl_client_rules.specs.declared.bounds.Hold.{Hold}
 use Rattle.tl_client_rules.specs.declared.bounds.Bounds.{Bounds}
 
 agree_at : {V : Type 0} (f g : ℕ → Perm) (entries : List (ℕ × V)) (block : ℕ) → AllByRecursion (λ e. f e.0 ≡ g e.0) entries
@@ -26,20 +30,24 @@ pub agreeing : {V : Type 0} (one two : Bounds) (entries : List (ℕ × V)) → S
 agreeing one two [] same = tt
 agreeing one two (e ∷ entries) same = (same e.0, agreeing one two entries same)
 
-module _ (one two : Bounds) (here : AgreeOn one two one.recent.entries.entries) (here_settled : AgreeOn one two one.base)
-    (there : AgreeOn two one two.recent.entries.entries) (there_settled : AgreeOn two one two.base) where
+pub agreeing_blocks : (one two : Bounds) (blocks : List ℕ) → SameBounds one two → AgreeOnBlocks one two blocks
+agreeing_blocks one two blocks same = all_agree (λ block. bound_at one block ≡ bound_at two block) blocks same
+
+-- Where nothing was set, the bound is the settled one.
+pub settled_first : (recent : BlockMap Perm) (base : List (ℕ × Hold)) (block : ℕ) → is_among block (blocks_of recent) ≡ false → perm_of (value_at nat_cmp base block) ≡ bound_by recent base block
+settled_first recent base block not = sym (ap (λ o. unwrap_or o (perm_of (value_at nat_cmp base block))) (has_none recent block not))
+
+module _ (one two : Bounds) (here : AgreeOnBlocks one two (blocks_of one.recent)) (here_settled : AgreeOn one two one.base)
+    (there : AgreeOnBlocks two one (blocks_of two.recent)) (there_settled : AgreeOn two one two.base) where
+  settled_agree : (block : ℕ) → settled_at one block ≡ bound_at one block → settled_at two block ≡ bound_at two block → bound_at one block ≡ bound_at two block
+  settled_agree block first second = elim (value_at nat_cmp one.base block) as (λ o. value_at nat_cmp one.base block ≡ o → bound_at one block ≡ bound_at two block) [
+    | Some p ↦ λ g. agree_at (bound_at one) (bound_at two) one.base block here_settled (subst IsSome (sym g) refl)
+    | None ↦ λ g. elim (value_at nat_cmp two.base block) as (λ o. value_at nat_cmp two.base block ≡ o → bound_at one block ≡ bound_at two block) [
+      | Some p ↦ λ h. sym (agree_at (bound_at two) (bound_at one) two.base block there_settled (subst IsSome (sym h) refl))
+      | None ↦ λ h. sym first ∙ ap perm_of g ∙ sym (ap perm_of h) ∙ second
+    ] refl
+  ] refl
+
   pub same_by_entries : SameBounds one two
-  same_by_entries block =
-      elim (recent_at one block) as (λ o. recent_at one block ≡ o → bound_at one block ≡ bound_at two block) [
-        | Some p ↦ λ e. agree_at (bound_at one) (bound_at two) one.recent.entries.entries block here (subst IsSome (sym e) refl)
-        | None ↦ λ e. elim (value_at nat_cmp one.base block) as (λ o. value_at nat_cmp one.base block ≡ o → bound_at one block ≡ bound_at two block) [
-          | Some p ↦ λ g. agree_at (bound_at one) (bound_at two) one.base block here_settled (subst IsSome (sym g) refl)
-          | None ↦ λ g. elim (recent_at two block) as (λ o. recent_at two block ≡ o → bound_at one block ≡ bound_at two block) [
-            | Some p ↦ λ f. sym (agree_at (bound_at two) (bound_at one) two.recent.entries.entries block there (subst IsSome (sym f) refl))
-            | None ↦ λ f. elim (value_at nat_cmp two.base block) as (λ o. value_at nat_cmp two.base block ≡ o → bound_at one block ≡ bound_at two block) [
-              | Some p ↦ λ h. sym (agree_at (bound_at two) (bound_at one) two.base block there_settled (subst IsSome (sym h) refl))
-              | None ↦ λ h. ap (λ x. unwrap_or x (settled_at one block)) e ∙ ap perm_of g ∙ sym (ap perm_of h) ∙ sym (ap (λ x. unwrap_or x (settled_at two block)) f)
-            ] refl
-          ] refl
-        ] refl
-      ] refl
+  same_by_entries = same_on (bound_at one) (bound_at two) (blocks_of one.recent) (blocks_of two.recent) here there
+      (λ block not_one not_two. settled_agree block (settled_first one.recent one.base block not_one) (settled_first two.recent two.base block not_two))

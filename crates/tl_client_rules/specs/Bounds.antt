@@ -3,10 +3,16 @@ use Rattle.std.specs.Prelude.{ℕ, ◌≡◌, List, Option, None, unwrap_or}
 use Rattle.std.specs.List.{AllByRecursion}
 use Rattle.std.specs.Ordering.{nat_cmp}
 use Rattle.tl_tables.specs.declared.Perm.{Perm}
+use Rattle.tl_state.specs.BlockMap as set
 use Rattle.tl_state.specs.Map.{value_at}
-use Rattle.tl_client_rules.specs.Entries.{entry_of}
 use Rattle.tl_client_rules.specs.Holds.{perm_of}
+use Rattle.tl_state.specs.declared.block_map.BlockMap.{BlockMap}
+use Rattle.tl_client_rules.specs.declared.bounds.Hold.{Hold}
 use Rattle.tl_client_rules.specs.declared.bounds.Bounds.{Bounds}
+
+-- The bound of a block by what was set of it and what is settled: what was set comes first.
+abbrev pub bound_by : BlockMap Perm → List (ℕ × Hold) → ℕ → Perm
+bound_by recent base block = unwrap_or (set.value_at recent block) (perm_of (value_at nat_cmp base block))
 
 -- The bound of a block as it was last settled.
 abbrev pub settled_at : Bounds → ℕ → Perm
@@ -14,7 +20,7 @@ settled_at bounds block = perm_of (value_at nat_cmp bounds.base block)
 
 -- The bound that was set since then, if one was.
 abbrev pub recent_at : Bounds → ℕ → Option Perm
-recent_at bounds block = entry_of nat_cmp bounds.recent block
+recent_at bounds block = set.value_at bounds.recent block
 
 -- The bound of a block: what was set since the settling comes first.
 abbrev pub bound_at : Bounds → ℕ → Perm
@@ -27,6 +33,10 @@ SameBounds one two = (block : ℕ) → bound_at one block ≡ bound_at two block
 -- All bounds are settled.
 abbrev pub IsSettled : Bounds → Type 0
 IsSettled bounds = (block : ℕ) → recent_at bounds block ≡ None
+
+-- Both have the same bound of each of these blocks.
+abbrev pub AgreeOnBlocks : Bounds → Bounds → List ℕ → Type 0
+AgreeOnBlocks one two blocks = AllByRecursion (λ block. bound_at one block ≡ bound_at two block) blocks
 
 -- Both have the same bound of the block of each of these entries.
 abbrev pub AgreeOn : Bounds → Bounds → {V : Type 0} → List (ℕ × V) → Type 0

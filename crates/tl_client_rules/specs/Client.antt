@@ -1,7 +1,6 @@
 -- What the state of a client shows, and what it stands for.
 use Rattle.std.specs.Prelude.{ℕ, ◌≡◌, ◌||◌, ◌&&◌, not, Bool, List, [], Option, Some, None, filter, if◌then◌else◌}
 use Rattle.std.specs.Option.{option_map, option_map_or, option_and_then}
-use Rattle.std.specs.Ordering.{nat_cmp}
 use Rattle.tl_tables.specs.declared.Chan.{Chan}
 use Rattle.tl_tables.specs.declared.Chan.TheVariants as chan
 use Rattle.tl_tables.specs.declared.Op.{Op}
@@ -19,7 +18,7 @@ use Rattle.tl_definitions.specs.Messages.{Message, Links, as_request, sources, r
 use Rattle.tl_definitions.specs.Past.{ClientPast, LinkPast, past_of, client_past, grants_block}
 use Rattle.tl_definitions.specs.Rules.{breaks_permission, permission_order}
 use Rattle.tl_definitions.specs.Judging.{request_in, message_in, past_with}
-use Rattle.tl_link_rules.specs.Entries.{entry_of}
+use Rattle.tl_state.specs.BlockMap.{value_at}
 use Rattle.tl_link_rules.specs.Flow.{answered}
 use Rattle.tl_client_rules.specs.OpenBlocks.{block_at, open_on}
 use Rattle.tl_client_rules.specs.Bounds.{bound_at}
@@ -34,7 +33,7 @@ pub record ClientView : Type 0 where
   pub released : ℕ → Option (Option ℕ)
 
 abbrev pub probe_at : ClientState → ℕ → Option (Option Perm)
-probe_at state block = entry_of nat_cmp state.probes block
+probe_at state block = value_at state.probes block
 
 abbrev pub shown : ClientState → ClientView
 shown state = record {

@@ -1,4 +1,3 @@
-pub mod Entries
 pub mod Counts
 pub mod OpenBlocks
 pub mod Holds

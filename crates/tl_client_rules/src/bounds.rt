@@ -1,15 +1,18 @@
 //! The most that a client can hold of each block.
 
-ghost use Rattle.std.specs.Prelude.{◌≡◌, ◌<◌, ℕ, ◌==◌, true, Some, None, IsSome, IfOk, OnOk, OnErr, if◌then◌else◌};
+ghost use Rattle.std.specs.Prelude.{◌≡◌, ℕ, ◌==◌, true, None, unwrap_or, IsSome, IfOk, OnOk, OnErr, if◌then◌else◌};
 ghost use Rattle.std.specs.Bool.{Decides};
-ghost use Rattle.std.specs.BTreeMap.{btree_map_len};
 ghost use Rattle.std.proofs.Common.{rules};
 ghost use Rattle.tl_tables.specs.declared.Perm.TheVariants.{Nothing};
+ghost use Rattle.std.specs.Ordering.{nat_cmp};
+ghost use Rattle.tl_state.specs.BlockMap as set;
+ghost use Rattle.tl_state.specs.BlockMap.{blocks_of};
+ghost use Rattle.tl_state.specs.Map.{value_at};
+ghost use Rattle.tl_client_rules.specs.Bounds.{bound_by};
 ghost use Rattle.tl_client_rules.specs.Holds.{perm_of};
 
-use crate::entries::Entries;
 use std::alloc::{AllocError, Global};
-use tl_state::{Exact, Faithful, Same, ShareMap};
+use tl_state::{BlockMap, Exact, Faithful, Same, ShareMap};
 use tl_tables::Perm;
 
 /// What a client can hold of a block at most, where that is something.
@@ -53,11 +56,46 @@ pub struct Bounds {
     /// The bounds that were last settled, which copies share. A block without an entry has the bound Nothing.
     base: ShareMap<u64, Hold>,
     /// The bounds that were set since then. They come first, Nothing too.
-    recent: Entries<u64, Perm>,
+    recent: BlockMap<Perm>,
+}
+
+/// The bound of a block, of which what was set comes first.
+fn bound_in(recent: &BlockMap<Perm>, base: &ShareMap<u64, Hold>, block: u64) -> Perm
+    ensures { result ≡ bound_by recent.now base.now block }
+{
+    match recent.get(block) {
+        Some(perm) => perm,
+        None => perm_of(base.get(&block)),
+    }
+}
+
+/// Settles the bound of a block. At want of memory nothing has changed.
+fn settle_block(base: &mut ShareMap<u64, Hold>, block: u64, perm: Perm) -> Result<(), AllocError>
+    ensures ok { OnOk result ((other : ℕ) → perm_of (value_at nat_cmp base.new other) ≡ (if block == other then perm else perm_of (value_at nat_cmp base.old other))) }
+    ensures err { OnErr result ((other : ℕ) → value_at nat_cmp base.new other ≡ value_at nat_cmp base.old other) }
+{
+    match hold_of(perm) {
+        Some(hold) => base.set(block, hold)?,
+        None => base.remove(&block)?,
+    };
+    Ok(())
+}
+
+/// Settles the bounds of all blocks that were set. They stay the same, at want of memory too.
+#[tactic(auto, using(crate::proofs::BoundLaws::settled_first))]
+fn settle_base(base: &mut ShareMap<u64, Hold>, recent: &BlockMap<Perm>) -> Result<(), AllocError>
+    ensures same { (block : ℕ) → bound_by recent.now base.new block ≡ bound_by recent.now base.old block }
+    ensures settled { OnOk result ((block : ℕ) → perm_of (value_at nat_cmp base.new block) ≡ bound_by recent.now base.new block) }
+{
+    for block in recent.blocks() {
+        let perm = bound_in(recent, base, block);
+        settle_block(base, block, perm)?;
+    }
+    Ok(())
 }
 
 impl Bounds {
-    ghost use Rattle.tl_client_rules.specs.Bounds.{bound_at, settled_at, recent_at, SameBounds, IsSettled, AgreeOn};
+    ghost use Rattle.tl_client_rules.specs.Bounds.{bound_at, settled_at, recent_at, SameBounds, IsSettled, AgreeOn, AgreeOnBlocks};
 
     /// No block can be held.
     pub fn new(alloc: Global) -> Bounds
@@ -65,7 +103,7 @@ impl Bounds {
     {
         Bounds {
             base: ShareMap::new(alloc),
-            recent: Entries::new(alloc),
+            recent: BlockMap::new(alloc),
         }
     }
 
@@ -73,10 +111,7 @@ impl Bounds {
     pub fn get(&self, block: u64) -> Perm
         ensures { result ≡ bound_at self.now block }
     {
-        match self.recent.get(&block) {
-            Some(perm) => *perm,
-            None => perm_of(self.base.get(&block)),
-        }
+        bound_in(&self.recent, &self.base, block)
     }
 
     /// Whether to forget what was set of the block leaves it this bound.
@@ -90,7 +125,7 @@ impl Bounds {
     pub fn forget(&mut self, block: u64)
         ensures { (other : ℕ) → bound_at self.new other ≡ (if block == other then settled_at self.old block else bound_at self.old other) }
     {
-        let _ = self.recent.remove(&block);
+        let _ = self.recent.take(block);
     }
 
     /// Sets the bound of the block, and answers the bound that it had. At want of memory nothing has changed.
@@ -119,24 +154,8 @@ impl Bounds {
         ensures same { SameBounds self.old self.new }
         ensures settled { OnOk result (IsSettled self.new) }
     {
-        while let Some((block, perm)) = self.recent.first() {
-            let (block, perm) = (*block, *perm);
-            self.settle_one(block, perm)?;
-        }
-        Ok(())
-    }
-
-    /// Settles the bound of a block that was set. At want of memory the bounds are the same too.
-    fn settle_one(&mut self, block: u64, perm: Perm) -> Result<(), AllocError>
-        requires set { recent_at self.old block ≡ Some perm }
-        ensures same { SameBounds self.old self.new }
-        ensures fewer { OnOk result (btree_map_len self.new.recent.entries < btree_map_len self.old.recent.entries) }
-    {
-        match hold_of(perm) {
-            Some(hold) => self.base.set(block, hold)?,
-            None => self.base.remove(&block)?,
-        };
-        let _ = self.recent.remove(&block);
+        settle_base(&mut self.base, &self.recent)?;
+        self.recent.clear();
         Ok(())
     }
 
@@ -163,16 +182,16 @@ impl Bounds {
 
     /// Whether both have the same bound of each block that has an entry here.
     fn agrees(&self, other: &Self) -> bool
-        ensures { Decides result (AgreeOn self.now other.now self.now.recent.entries.entries × AgreeOn self.now other.now self.now.base) }
+        ensures { Decides result (AgreeOnBlocks self.now other.now (blocks_of self.now.recent) × AgreeOn self.now other.now self.now.base) }
     {
         self.agrees_on_recent(other) && self.agrees_on_base(other)
     }
 
     fn agrees_on_recent(&self, other: &Self) -> bool
-        ensures { Decides result (AgreeOn self.now other.now self.now.recent.entries.entries) }
+        ensures { Decides result (AgreeOnBlocks self.now other.now (blocks_of self.now.recent)) }
     {
-        for (block, _) in self.recent.iter() {
-            if self.get(*block) != other.get(*block) {
+        for block in self.recent.blocks() {
+            if self.get(block) != other.get(block) {
                 return false;
             }
         }

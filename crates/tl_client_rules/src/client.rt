@@ -14,8 +14,8 @@ use crate::claims::{acquired_block, block_of, claim, granted_block};
 use crate::open_blocks::OpenBlocks;
 use std::alloc::{AllocError, Global};
 use tl_beats::{Beat, Request};
-use tl_link_rules::{OpenTable, RuleList};
-use tl_state::Same;
+use tl_link_rules::RuleList;
+use tl_state::{BlockMap, Same};
 use tl_tables::{
     Chan, Op, Perm, Rule, cap_of, from_of, is_above, is_acquire, is_grant, is_probe, is_probe_ack,
     is_release, is_release_ack, op_of, to_of,
@@ -28,7 +28,7 @@ pub struct ClientState {
     /// A block has 2 to this power bytes.
     exponent: u8,
     /// The caps of the Probes without their ProbeAck, by block; None where the param named no cap.
-    probes: OpenTable<u64, Option<Perm>>,
+    probes: BlockMap<Option<Perm>>,
     bounds: Bounds,
     /// The requests of channel A by source: of an Acquire its block, of another None.
     acquires: OpenBlocks,
@@ -56,7 +56,7 @@ impl ClientState {
     {
         ClientState {
             exponent,
-            probes: OpenTable::new(alloc),
+            probes: BlockMap::new(alloc),
             bounds: Bounds::new(alloc),
             acquires: OpenBlocks::new(alloc),
             releases: OpenBlocks::new(alloc),
@@ -79,7 +79,7 @@ impl ClientState {
         ensures stands { (exponent : ℕ) (before : List Message) → StandsFor exponent self.now before → result ≡ is_some ((client_past exponent before).probe block) }
         ensures shown { result ≡ is_some ((shown self.now).past.probe block) }
     {
-        self.probes.get(&block).is_some()
+        self.probes.get(block).is_some()
     }
 
     /// Whether a Grant of the block that begins at this address awaits its GrantAck; never where no block begins there.
@@ -106,10 +106,7 @@ impl ClientState {
     fn keeps_above(&self, op: Op, head: &Beat) -> bool
         ensures { result ≡ keeps_above self.now.exponent (shown self.now).past (head_with head.now None op) }
     {
-        let cap = self
-            .probes
-            .get(&block_of(self.exponent, head.address))
-            .copied();
+        let cap = self.probes.get(block_of(self.exponent, head.address));
         match (to_of(op, head.param), cap) {
             (Some(to), Some(Some(cap))) => is_above(to, cap),
             _ => false,
@@ -125,9 +122,9 @@ impl ClientState {
         match rule {
             Rule::P1 => is_acquire(op) && self.claims_wrongly(strict, op, head),
             Rule::P2 => shrinks && self.claims_wrongly(strict, op, head),
-            Rule::P3 => is_probe_ack(op) && self.probes.get(&block).is_none(),
+            Rule::P3 => is_probe_ack(op) && self.probes.get(block).is_none(),
             Rule::P4 => is_probe_ack(op) && self.keeps_above(op, head),
-            Rule::P5 => is_probe(op) && self.probes.get(&block).is_some(),
+            Rule::P5 => is_probe(op) && self.probes.get(block).is_some(),
             Rule::P6 => is_acquire(op) && self.acquires.is_open(block),
             Rule::P7 => is_release(op) && self.acquires.is_open(block),
             Rule::P8 => (is_acquire(op) || shrinks) && self.releases.is_open(block),
@@ -162,9 +159,9 @@ impl ClientState {
                     && !self.acquires.is_open(block)
                     && !self.releases.is_open(block)
             }
-            Op::ProbeBlock | Op::ProbePerm => self.probes.get(&block).is_none(),
+            Op::ProbeBlock | Op::ProbePerm => self.probes.get(block).is_none(),
             Op::ProbeAck | Op::ProbeAckData => {
-                self.probes.get(&block).is_some()
+                self.probes.get(block).is_some()
                     && !self.claims_wrongly(strict, op, head)
                     && !self.keeps_above(op, head)
                     && !self.releases.is_open(block)
@@ -313,11 +310,11 @@ impl ClientState {
             }
             Chan::B if is_probe(op) => {
                 let block = block_of(self.exponent, head.address);
-                self.probes.open(block, cap_of(op, head.param))?;
+                self.probes.set(block, Some(cap_of(op, head.param)))?;
             }
             Chan::C if is_probe_ack(op) => {
                 let block = block_of(self.exponent, head.address);
-                self.probes.close(&block);
+                self.probes.take(block);
             }
             Chan::C if is_release(op) => {
                 let block = block_of(self.exponent, head.address);

@@ -7,14 +7,14 @@ ghost use Rattle.tl_definitions.specs.OpenTables.{one_if};
 ghost use Rattle.tl_definitions.specs.Past.{grants_block};
 ghost use Rattle.tl_client_rules.specs.Counts.{count_of};
 
-use crate::entries::Entries;
 use std::alloc::{AllocError, Global};
+use tl_state::BlockMap;
 
 /// How many are open on each block.
 #[derive(Drop)]
 pub struct Counts {
     /// Of a block with something open, how many more than one are: so a block with nothing open has no entry.
-    others: Entries<u64, u64>,
+    others: BlockMap<u64>,
 }
 
 /// A count with one less.
@@ -35,7 +35,7 @@ impl Counts {
         ensures { (block : ℕ) → count_at result block ≡ 0 }
     {
         Counts {
-            others: Entries::new(alloc),
+            others: BlockMap::new(alloc),
         }
     }
 
@@ -43,7 +43,7 @@ impl Counts {
     pub fn is_open(&self, block: u64) -> bool
         ensures { result ≡ nat_lt 0 (count_at self.now block) }
     {
-        self.others.get(&block).is_some()
+        self.others.get(block).is_some()
     }
 
     /// One more is open on the block. At want of memory nothing has changed.
@@ -67,7 +67,7 @@ impl Counts {
     fn take(&mut self, block: u64)
         ensures { (other : ℕ) → count_at self.new other ≡ count_at self.old other - one_if (block == other) }
     {
-        let less = one_less(self.others.get(&block).copied());
+        let less = one_less(self.others.get(block));
         let _ = self.others.set(block, less);
     }
 
@@ -76,7 +76,7 @@ impl Counts {
         ensures ok { OnOk result ((other : ℕ) → count_at self.new other ≡ one_if (block == other) + (count_at self.old other - one_if (block == other))) }
         ensures err { OnErr result ((other : ℕ) → count_at self.new other ≡ count_at self.old other) }
     {
-        let others = self.others.get(&block).copied().unwrap_or(0);
+        let others = self.others.get(block).unwrap_or(0);
         self.others.set(block, Some(others))?;
         Ok(())
     }
@@ -119,6 +119,6 @@ impl Counts {
     pub fn same_counts(&self, other: &Self) -> bool
         ensures { Decides result (SameCounts self.now other.now) }
     {
-        self.others.same_entries(&other.others)
+        self.others.same_values(&other.others)
     }
 }

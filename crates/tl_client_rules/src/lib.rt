@@ -7,7 +7,6 @@ mod client;
 pub mod client_laws;
 mod clients;
 mod counts;
-mod entries;
 mod manager;
 pub mod manager_laws;
 mod open_blocks;

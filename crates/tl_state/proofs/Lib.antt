@@ -1,3 +1,4 @@
+pub mod BlockMapLaws
 pub mod CopyLemmas
 pub mod EntryLemmas
 pub mod LeafLemmas

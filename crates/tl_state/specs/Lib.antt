@@ -1,3 +1,5 @@
+pub mod BlockMap
+pub mod BlockWalk
 pub mod Exact
 pub mod SameItems
 pub mod Faithful

@@ -1,4 +1,4 @@
-use Rattle.std.proofs.Common.{◌≡◌, rules}
+use Rattle.std.proofs.Common.{rules}
 use Rattle.std.proofs.lemmas.Cmp.{nat_cmp_total}
 use Rattle.tl_state.specs.Exact.{nats_exact}
 use Rattle.tl_state.specs.Slots.{AgreeOn}

@@ -1,12 +1,14 @@
 //! Captures that begin in the middle of a run: what the next beat of a channel may be, and what is known of a link's past.
 #![tactic(auto)]
 
+mod asks;
 mod counted;
 mod known;
 mod known_bounds;
 mod known_link;
 mod known_pasts;
 mod known_rules;
+pub mod laws;
 mod lead_ins;
 mod link_readings;
 mod manager_readings;

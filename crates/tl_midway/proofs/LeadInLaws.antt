@@ -20,27 +20,52 @@ use Rattle.tl_midway.specs.Readings as channel
 use Rattle.tl_midway.specs.Readings.{shown_readings}
 use Rattle.tl_midway.specs.declared.link_readings.LinkReadings.{LinkReadings}
 use Rattle.tl_midway.specs.declared.manager_readings.ManagerReadings.{ManagerReadings}
+use Rattle.tl_midway.specs.declared.readings.Readings.{Readings}
 use Rattle.tl_midway.proofs.PlaceLaws.{inside, own_number}
 use Rattle.tl_midway.proofs.ReadingLaws.{lead_same}
 
 abbrev number : LinkReadings → ℕ
 number link = link.number
 
+abbrev NextOn : Manager → Beginning → List Placed → Placed → Readings → Type 0
+NextOn m start before p readings =
+    channel.StandsFor (m.links p.link) (start.most p.link p.beat.chan) start.by_fields readings (before_on p.link p.beat.chan before)
+
+link_channel : (m : Manager) (start : Beginning) (before : List Placed) (p : Placed) (own : LinkReadings) → own.number ≡ p.link → link_readings.StandsFor m start own before
+    → NextOn m start before p (channel_of own p.beat.chan)
+link_channel m start before p own owns each =
+    subst (λ n. channel.StandsFor (m.links n) (start.most n p.beat.chan) start.by_fields (channel_of own p.beat.chan) (before_on n p.beat.chan before)) owns (each p.beat.chan)
+
 link_leads_in : (m : Manager) (start : Beginning) (before : List Placed) (p : Placed) (own : LinkReadings) → own.number ≡ p.link → link_readings.StandsFor m start own before
     → in_lead_in (shown_readings (channel_of own p.beat.chan)) ≡ leads_in m start before p
 link_leads_in m start before p own owns each =
-    let known : channel.StandsFor (m.links p.link) (start.most p.link p.beat.chan) start.by_fields (channel_of own p.beat.chan) (before_on p.link p.beat.chan before) =
-    subst (λ n. channel.StandsFor (m.links n) (start.most n p.beat.chan) start.by_fields (channel_of own p.beat.chan) (before_on n p.beat.chan before)) owns (each p.beat.chan) in
-    lead_same (shown_readings (channel_of own p.beat.chan)) (readings_after (m.links p.link) (start.most p.link p.beat.chan) start.by_fields (before_on p.link p.beat.chan before)) known.members
+    lead_same (shown_readings (channel_of own p.beat.chan)) (readings_after (m.links p.link) (start.most p.link p.beat.chan) start.by_fields (before_on p.link p.beat.chan before))
+    (link_channel m start before p own owns each).members
+
+module _ (m : Manager) (start : Beginning) (before : List Placed) (p : Placed) (state : ManagerReadings) (place : ℕ) (own : LinkReadings) (at : place_of p.link (numbers_of state) ≡ Some place)
+    (has : HasPlace (numbers_of state) p.link) (here : own ≡ get_or state.links.items place own) (stands : StandsFor m start state before) where
+  owns : own.number ≡ p.link
+  owns = own_number number state.links.items p.link place own at (inside number state.links.items p.link place has at) here
+
+  each : link_readings.StandsFor m start own before
+  each = subst (λ s. link_readings.StandsFor m start s before) (sym here) (stands.each place own (inside number state.links.items p.link place has at))
+
+  pub own_leads : (result : Bool) → result ≡ in_lead_in (shown_readings (channel_of own p.beat.chan)) → result ≡ leads_in m start before p
+  own_leads result is = is ∙ link_leads_in m start before p own owns each
+
+  pub own_next : (result : Readings) → result ≡ channel_of own p.beat.chan → NextOn m start before p result
+  own_next result is = subst (NextOn m start before p) (sym is) (link_channel m start before p own owns each)
 
 pub own_leads_in : (m : Manager) (start : Beginning) (before : List Placed) (p : Placed) (state : ManagerReadings) (place : ℕ) (own : LinkReadings) (result : Bool)
     → place_of p.link (numbers_of state) ≡ Some place → HasPlace (numbers_of state) p.link → own ≡ get_or state.links.items place own
     → result ≡ in_lead_in (shown_readings (channel_of own p.beat.chan)) → StandsFor m start state before → result ≡ leads_in m start before p
-own_leads_in m start before p state place own result at has here is stands =
-    let within = inside number state.links.items p.link place has at in
-    let owns : own.number ≡ p.link = own_number number state.links.items p.link place own at within here in
-    let each : link_readings.StandsFor m start own before = subst (λ s. link_readings.StandsFor m start s before) (sym here) (stands.each place own within) in
-    is ∙ link_leads_in m start before p own owns each
+own_leads_in m start before p state place own result at has here is stands = own_leads m start before p state place own at has here stands result is
+
+pub own_channel : (m : Manager) (start : Beginning) (before : List Placed) (p : Placed) (state : ManagerReadings) (place : ℕ) (own : LinkReadings) (result : Readings)
+    → place_of p.link (numbers_of state) ≡ Some place → HasPlace (numbers_of state) p.link → own ≡ get_or state.links.items place own
+    → result ≡ channel_of own p.beat.chan → StandsFor m start state before
+    → channel.StandsFor (m.links p.link) (start.most p.link p.beat.chan) start.by_fields result (before_on p.link p.beat.chan before)
+own_channel m start before p state place own result at has here is stands = own_next m start before p state place own at has here stands result is
 
 -- ---- counts
 

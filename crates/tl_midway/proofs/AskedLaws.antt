@@ -7,6 +7,9 @@ use Rattle.tl_tables.specs.declared.Perm.{Perm}
 use Rattle.tl_tables.specs.declared.Rule.{Rule}
 use Rattle.tl_tables.specs.declared.Rule.TheVariants as rule
 use Rattle.tl_tables.specs.Kinds.{conflicts, is_grant, is_probe}
+use Rattle.tl_tables.specs.declared.Op.{Op}
+use Rattle.tl_topology.specs.declared.LinkDecl.{LinkDecl}
+use Rattle.tl_definitions.specs.Heads.{message_of}
 use Rattle.tl_beats.specs.declared.Placed.{Placed}
 use Rattle.tl_beats.specs.declared.Request.{Request}
 use Rattle.tl_definitions.specs.Messages.{Message, claim, granted_block}
@@ -98,3 +101,13 @@ module _ (m : Manager) (start : Beginning) (before : List Placed) (state : Known
     manager_breaks asked e =
         across_stands m start before state stands link asked message r
         ∙ ap (λ q. breaks_manager_surely m.clients m.exponent pasts (grant_open (front m start before)) link q message r) (e ∙ ap (λ (past : KnownPast). known_request past.flow message) stood.shows)
+
+-- ---- a head, by its message
+
+module _ (m : Manager) (start : Beginning) (before : List Placed) (p : Placed) (link : LinkDecl) (declared : m.links p.link ≡ link) (r : Rule) (at : Op → Bool) where
+  -- What is answered of each message is answered of the beat's.
+  pub of_message : (found : Option Op) → message_of link p.beat ≡ found → option_map_or at (message_of (m.links p.link) p.beat) false ≡ option_map_or at found false
+  of_message found e = ap (λ d. option_map_or at (message_of d p.beat) false) declared ∙ ap (λ f. option_map_or at f false) e
+
+pub strict_is : (m : Manager) (n : ℕ) (link : LinkDecl) → m.links n ≡ link → (m.links n).strict ≡ link.strict
+strict_is m n link declared = ap (λ (d : LinkDecl). d.strict) declared

@@ -20,3 +20,4 @@ pub mod LeadInLaws
 pub mod MidwayReportLaws
 pub mod UnjudgedLaws
 pub mod AskedLaws
+pub mod UnjudgedStandLaws

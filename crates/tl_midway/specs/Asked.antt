@@ -1,22 +1,25 @@
 -- What rules ask about of a head, by what the states of links show.
-use Rattle.std.specs.Prelude.{ℕ, ◌≡◌, ◌==◌, ◌&&◌, ◌||◌, not, Bool, false, List, Option}
+use Rattle.std.specs.Prelude.{ℕ, ◌≡◌, ◌==◌, ◌&&◌, ◌||◌, not, Bool, true, false, List, Option}
 use Rattle.std.specs.List.{list_any}
 use Rattle.std.specs.Option.{option_and_then, option_map_or}
 use Rattle.tl_tables.specs.declared.Rule.{Rule}
 use Rattle.tl_tables.specs.declared.Rule.TheVariants as rule
 use Rattle.tl_tables.specs.declared.Perm.{Perm}
 use Rattle.tl_tables.specs.Kinds.{conflicts, is_grant, is_probe}
+use Rattle.tl_tables.specs.Rules.{rule_number}
+use Rattle.tl_topology.specs.declared.LinkDecl.{LinkDecl}
 use Rattle.tl_beats.specs.declared.Placed.{Placed}
 use Rattle.tl_beats.specs.declared.Request.{Request}
+use Rattle.tl_definitions.specs.Heads.{message_of}
 use Rattle.tl_definitions.specs.Messages.{Message, claim}
-use Rattle.tl_definitions.specs.Known.{Known, Beginning, answering, known_request, known_pasts}
+use Rattle.tl_definitions.specs.Known.{Known, Beginning, bare, answering, known_request, known_pasts}
 use Rattle.tl_definitions.specs.Printed.{Front, front, grant_open, breaks_flow_surely, breaks_manager_surely}
 use Rattle.tl_definitions.specs.Rules.{Manager}
 use Rattle.tl_client_rules.specs.Client.{acquired_block}
 use Rattle.tl_midway.specs.KnownLink as known_link
 use Rattle.tl_midway.specs.KnownLink.{shown, permission_surely}
 use Rattle.tl_midway.specs.KnownPasts.{StandsFor}
-use Rattle.tl_midway.specs.Unjudged.{is_unknown, some_bound, maybe}
+use Rattle.tl_midway.specs.Unjudged.{is_unknown, some_bound, maybe, asks}
 use Rattle.tl_midway.specs.declared.known_link.KnownLink.{KnownLink}
 use Rattle.tl_midway.specs.declared.known_pasts.LinkPast.{LinkPast}
 use Rattle.tl_midway.specs.declared.known_pasts.KnownPasts.{KnownPasts}
@@ -57,3 +60,29 @@ message_surely m f link message r =
     breaks_flow_surely (f.past link).flow (known_request (f.past link).flow message) message r
     || permission_surely (m.links link).strict m f link message r
     || breaks_manager_surely m.clients m.exponent f.past (grant_open f) link (known_request (f.past link).flow message) message r
+
+-- This holds of whatever manager and beats before that the state stands for, where the link of the beat is declared so.
+abbrev pub OfDeclared : KnownPasts → Placed → LinkDecl → (Manager → Beginning → List Placed → Type 0) → Type 0
+OfDeclared state p link Holds = (m : Manager) (start : Beginning) (before : List Placed) → StandsFor m start state before → m.links p.link ≡ link → Holds m start before
+
+-- As a head the beat may break the rule, and doesn't surely; and it may break the rule; no format rule.
+abbrev pub head_open : Manager → Beginning → List Placed → Placed → Rule → Bool
+head_open m start before p r = option_map_or
+    (λ o. asks m (known_pasts m start before) p.link (bare o p.beat) r && not (message_surely m (front m start before) p.link (bare o p.beat) r))
+    (message_of (m.links p.link) p.beat) false
+
+abbrev pub head_may : Manager → Beginning → List Placed → Placed → Rule → Bool
+head_may m start before p r = option_map_or
+    (λ o. asks m (known_pasts m start before) p.link (bare o p.beat) r || message_surely m (front m start before) p.link (bare o p.beat) r)
+    (message_of (m.links p.link) p.beat) false
+
+-- A rule is one of these.
+abbrev pub is_among : List Rule → Rule → Bool
+is_among rules r = list_any (λ s. rule_number s == rule_number r) rules
+
+-- Later beats can break it.
+abbrev pub is_of_later : Rule → Bool
+is_of_later rule.F5 = true
+is_of_later rule.F7 = true
+is_of_later rule.U1 = true
+is_of_later _ = false

@@ -9,6 +9,7 @@ ghost use Rattle.tl_definitions.specs.Printed.{front};
 ghost use Rattle.tl_midway.specs.Known.{known_of};
 ghost use Rattle.tl_midway.specs.KnownBounds.{possible_of};
 ghost use Rattle.tl_midway.specs.KnownLink.{shown};
+ghost use Rattle.tl_midway.specs.ManagerReadings.{HasPlace};
 ghost use Rattle.tl_midway.specs.Unjudged.{is_unknown, some_bound};
 ghost use Rattle.tl_midway.specs.declared.known_pasts.LinkPast.{LinkPast as AnyLink};
 
@@ -20,8 +21,9 @@ use tl_beats::{Beat, Placed, Request};
 use tl_client_rules::{claim, conflicts, granted_block, is_wrong};
 use tl_tables::{
     Chan, Op, Perm, Rule, from_of, is_acquire, is_grant, is_grant_ack, is_probe, is_probe_ack,
-    is_release, is_release_ack,
+    is_release, is_release_ack, op_of,
 };
+use tl_topology::LinkDecl;
 
 /// Whether a claim to have held this is wrong by a bound that may stand.
 fn may_be_wrong(strict: bool, bound: Possible, from: Perm) -> bool
@@ -139,7 +141,8 @@ fn any_probe_hidden(links: &[LinkPast], block: u64) -> bool
 
 impl KnownPasts {
     ghost use Rattle.tl_midway.specs.Unjudged.{asks};
-    ghost use Rattle.tl_midway.specs.Asked.{may_conflict_shown, may_meet_shown, asks_shown_manager, WhereKnown, message_surely};
+    ghost use Rattle.tl_midway.specs.Asked.{may_conflict_shown, may_meet_shown, asks_shown_manager, WhereKnown, message_surely, OfDeclared, head_open, head_may};
+    ghost use Rattle.tl_midway.specs.KnownPasts.{numbers_of};
 
     /// Whether what a Grant sets may be forbidden by another client's bound. Its request may be of any block where it isn't known.
     fn may_conflict(
@@ -229,5 +232,37 @@ impl KnownPasts {
                 past.request(op, &at.beat),
                 rule,
             )
+    }
+
+    /// Whether the manager's next beat may break the rule as a head, and doesn't surely; false of a format rule.
+    pub fn leaves_open(&self, link: &LinkDecl, at: &Placed, rule: Rule) -> bool
+        requires own { HasPlace (numbers_of self.now) at.now.link }
+        ensures { OfDeclared self.now at.now link.now (λ m start before. result ≡ head_open m start before at.now rule) }
+    {
+        let place = self.place(at.link).unwrap();
+        let past = &self.links[place].past;
+        match op_of(link.level, at.beat.chan, at.beat.opcode) {
+            Some(op) => {
+                self.asks(past, link.strict, op, at, rule)
+                    && !self.surely_breaks(past, link.strict, op, at, rule)
+            }
+            None => false,
+        }
+    }
+
+    /// Whether the manager's next beat may break the rule as a head; false of a format rule.
+    pub fn may_break(&self, link: &LinkDecl, at: &Placed, rule: Rule) -> bool
+        requires own { HasPlace (numbers_of self.now) at.now.link }
+        ensures { OfDeclared self.now at.now link.now (λ m start before. result ≡ head_may m start before at.now rule) }
+    {
+        let place = self.place(at.link).unwrap();
+        let past = &self.links[place].past;
+        match op_of(link.level, at.beat.chan, at.beat.opcode) {
+            Some(op) => {
+                self.asks(past, link.strict, op, at, rule)
+                    || self.surely_breaks(past, link.strict, op, at, rule)
+            }
+            None => false,
+        }
     }
 }

@@ -21,6 +21,7 @@ mod seen;
 mod standing;
 mod state;
 mod table;
+mod unjudged;
 mod walked;
 
 pub use known::Known;

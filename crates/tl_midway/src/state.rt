@@ -22,8 +22,8 @@ use tl_topology::{LinkDecl, RegionMap, Topo};
 /// each channel may be, and what is known of the past of each link.
 #[derive(Drop)]
 pub struct MidwayState {
-    readings: ManagerReadings,
-    pasts: KnownPasts,
+    pub(crate) readings: ManagerReadings,
+    pub(crate) pasts: KnownPasts,
 }
 
 impl MidwayState {

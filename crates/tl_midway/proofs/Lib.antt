@@ -21,3 +21,4 @@ pub mod MidwayReportLaws
 pub mod UnjudgedLaws
 pub mod AskedLaws
 pub mod UnjudgedStandLaws
+pub mod CountsLaws

@@ -19,3 +19,4 @@ pub mod LeadIns
 pub mod Counts
 pub mod Unjudged
 pub mod Asked
+pub mod Counted

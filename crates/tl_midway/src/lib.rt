@@ -3,6 +3,7 @@
 
 mod asks;
 mod counted;
+mod counts;
 mod known;
 mod known_bounds;
 mod known_link;
@@ -24,6 +25,7 @@ mod table;
 mod unjudged;
 mod walked;
 
+pub use counts::{Counts, RuleCount};
 pub use known::Known;
 pub use known_bounds::Possible;
 pub use known_link::KnownLink;

@@ -1,14 +1,20 @@
 -- Counts of beats: one beat more, and all of them.
-use Rattle.std.proofs.Common.{◌≡◌, ℕ, zero, suc, ◌+◌, ◌<◌, Bool, List, [], ◌∷◌, length, map, get_or, Option, Some, None, refl, sym, ap, subst, ◌∙◌, arith}
+use Rattle.std.proofs.Common.{◌≡◌, ℕ, zero, suc, ◌+◌, ◌<◌, Bool, List, [], ◌∷◌, length, map, get_or, Option, Some, None, refl, sym, ap, subst, ◌∙◌, arith, add-one}
 use Rattle.std.specs.Io.Iter.{u64_saturate}
 use Rattle.tl_tables.specs.declared.Rule.{Rule}
 use Rattle.tl_tables.specs.Rules.{all_rules}
 use Rattle.tl_beats.specs.declared.Placed.{Placed}
+use Rattle.tl_topology.specs.Regions.{Area}
+use Rattle.tl_topology.specs.Topology.{Topology}
+use Rattle.tl_definitions.specs.Captures.{manager_beats}
+use Rattle.tl_definitions.specs.Managers.{manager_at}
+use Rattle.tl_definitions.specs.Positions.{Recorded}
+use Rattle.tl_edits.specs.Inputs.{InputData}
 use Rattle.tl_definitions.specs.Known.{Beginning}
 use Rattle.tl_definitions.specs.OpenTables.{one_if}
 use Rattle.tl_definitions.specs.Rules.{Manager}
-use Rattle.tl_midway.specs.Counts.{counted_after}
-use Rattle.tl_midway.specs.Counted.{asked_of, rule_counts, one_beat, HasCounts}
+use Rattle.tl_midway.specs.Counts.{counted_after, counted, managers_counted, beats_counted}
+use Rattle.tl_midway.specs.Counted.{asked_of, rule_counts, one_beat, HasCounts, Adds, AreCounts}
 use Rattle.tl_midway.specs.LeadIns.{leads_in}
 use Rattle.tl_midway.specs.State.{StandsFor}
 use Rattle.tl_midway.specs.Unjudged.{is_unjudged}
@@ -82,3 +88,27 @@ done m start state counts first now all none on =
     let same : on.1 ≡ (λ asked. first asked + counted_after (asked_of asked) m start [] all) =
     λ i asked. (plus_zero (on.1 asked) ∙ sym (ap (λ ps. on.1 asked + counted_after (asked_of asked) m start on.0 ps) none) ∙ on.4 asked) i in
     subst (HasCounts counts) same on.3
+
+-- ---- managers, one after the other
+
+pub none_yet : (counts : Counts) (first : Option Rule → ℕ) → HasCounts counts first → HasCounts counts (λ asked. first asked + 0)
+none_yet counts first has = subst (HasCounts counts) (λ i asked. plus_zero (first asked) i) has
+
+module _ (law : Midway) (topo : Topology) (regions : ℕ → List Area) (fs : List Recorded) (first : Option Rule → ℕ) where
+  abbrev so_far : ℕ → Option Rule → ℕ
+  so_far k asked = first asked + managers_counted (asked_of asked) law topo regions fs k
+
+  pub manager_added : (k : ℕ) (own : List Area) (old new : Counts) → own ≡ regions k → old.law ≡ law → Adds (manager_at topo k own) (manager_beats topo fs k) old new
+      → HasCounts old (so_far k) → HasCounts new (so_far (k + 1))
+  manager_added k own old new is same adds has =
+      let step : (asked : Option Rule) → so_far k asked + counted (asked_of asked) old.law (manager_at topo k own) (manager_beats topo fs k) ≡ so_far (k + 1) asked =
+      λ asked. plus_assoc (first asked) (managers_counted (asked_of asked) law topo regions fs k) (counted (asked_of asked) old.law (manager_at topo k own) (manager_beats topo fs k))
+      ∙ (λ i. first asked + (managers_counted (asked_of asked) law topo regions fs k + counted (asked_of asked) (same i) (manager_at topo k (is i)) (manager_beats topo fs k)))
+      ∙ sym (ap (λ n. so_far n asked) (add-one k)) in
+      subst (HasCounts new) (λ i asked. step asked i) (adds (so_far k) has)
+
+zero_plus : (n : ℕ) → 0 + n ≡ n
+zero_plus n = omega arith
+
+pub all_counted : (now : InputData) (counts : Counts) (law : Midway) → HasCounts counts (λ asked. 0 + beats_counted (asked_of asked) law now) → counts.law ≡ law → AreCounts now counts
+all_counted now counts law has is = subst (HasCounts counts) (λ i asked. (zero_plus (beats_counted (asked_of asked) law now) ∙ ap (λ l. beats_counted (asked_of asked) l now) (sym is)) i) has

@@ -3,6 +3,7 @@
 
 mod asks;
 mod counted;
+mod counting;
 mod counts;
 mod known;
 mod known_bounds;
@@ -25,6 +26,7 @@ mod table;
 mod unjudged;
 mod walked;
 
+pub use counting::{CountedReport, counted_report};
 pub use counts::{Counts, RuleCount};
 pub use known::Known;
 pub use known_bounds::Possible;

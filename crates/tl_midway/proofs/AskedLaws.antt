@@ -1,12 +1,12 @@
 -- What rules ask about of a head: by what the states of links show, it is what the definitions have.
-use Rattle.std.proofs.Common.{◌≡◌, ℕ, ◌==◌, ◌&&◌, ◌||◌, Bool, true, false, List, Option, refl, sym, ap, subst, ◌∙◌}
+use Rattle.std.proofs.Common.{◌≡◌, ℕ, ◌==◌, ◌&&◌, ◌||◌, Bool, true, false, List, Option, refl, sym, ap, ◌∙◌}
 use Rattle.std.specs.Prelude.{not}
 use Rattle.std.specs.List.{list_any}
 use Rattle.std.specs.Option.{option_map_or}
 use Rattle.tl_tables.specs.declared.Perm.{Perm}
 use Rattle.tl_tables.specs.declared.Rule.{Rule}
 use Rattle.tl_tables.specs.declared.Rule.TheVariants as rule
-use Rattle.tl_tables.specs.Kinds.{conflicts, is_grant, is_probe}
+use Rattle.tl_tables.specs.Kinds.{conflicts, is_grant}
 use Rattle.tl_tables.specs.declared.Op.{Op}
 use Rattle.tl_topology.specs.declared.LinkDecl.{LinkDecl}
 use Rattle.tl_definitions.specs.Heads.{message_of}
@@ -14,13 +14,13 @@ use Rattle.tl_beats.specs.declared.Placed.{Placed}
 use Rattle.tl_beats.specs.declared.Request.{Request}
 use Rattle.tl_definitions.specs.Messages.{Message, claim, granted_block}
 use Rattle.tl_definitions.specs.Known.{Known, Beginning, KnownPast, answering, known_request, known_pasts}
-use Rattle.tl_definitions.specs.Printed.{Front, front, grant_open, breaks_flow_surely, breaks_manager_surely}
+use Rattle.tl_definitions.specs.Printed.{front, grant_open, breaks_flow_surely, breaks_manager_surely}
 use Rattle.tl_definitions.specs.Rules.{Manager}
-use Rattle.tl_midway.specs.Asked.{forbidden_shown, hidden_shown, may_conflict_shown, may_meet_shown, asks_shown_manager, message_surely}
+use Rattle.tl_midway.specs.Asked.{forbidden_shown, hidden_shown, asks_shown_manager}
 use Rattle.tl_midway.specs.KnownLink as known_link
 use Rattle.tl_midway.specs.KnownLink.{shown, breaks_shown_flow, breaks_shown_permission, permission_surely}
 use Rattle.tl_midway.specs.KnownPasts.{StandsFor, breaks_shown_manager}
-use Rattle.tl_midway.specs.Unjudged.{is_unknown, some_bound, maybe, asks_flow, asks_permission, may_conflict, asks_manager, asks}
+use Rattle.tl_midway.specs.Unjudged.{is_unknown, some_bound, maybe, asks_flow, asks_permission, may_conflict, asks_manager}
 use Rattle.tl_midway.specs.declared.known_link.KnownLink.{KnownLink}
 use Rattle.tl_midway.specs.declared.known_pasts.KnownPasts.{KnownPasts}
 use Rattle.tl_midway.proofs.HeadRowLaws.{over_clients, across_stands}

@@ -1,5 +1,5 @@
 -- Counts of beats: one beat more, and all of them.
-use Rattle.std.proofs.Common.{◌≡◌, ℕ, zero, suc, ◌+◌, ◌<◌, Bool, List, [], ◌∷◌, length, map, get_or, Option, Some, None, refl, sym, ap, subst, ◌∙◌, arith, add-one}
+use Rattle.std.proofs.Common.{◌≡◌, ℕ, zero, suc, ◌+◌, ◌<◌, Bool, false, List, [], ◌∷◌, length, map, get_or, Option, Some, None, refl, sym, ap, subst, ◌∙◌, arith, add-one}
 use Rattle.std.specs.Io.Iter.{u64_saturate}
 use Rattle.tl_tables.specs.declared.Rule.{Rule}
 use Rattle.tl_tables.specs.Rules.{all_rules}
@@ -14,7 +14,7 @@ use Rattle.tl_definitions.specs.Known.{Beginning}
 use Rattle.tl_definitions.specs.OpenTables.{one_if}
 use Rattle.tl_definitions.specs.Rules.{Manager}
 use Rattle.tl_midway.specs.Counts.{counted_after, counted, managers_counted, beats_counted}
-use Rattle.tl_midway.specs.Counted.{asked_of, rule_counts, one_beat, HasCounts, Adds, AreCounts}
+use Rattle.tl_midway.specs.Counted.{asked_of, one_beat, HasCounts, Adds, AreCounts}
 use Rattle.tl_midway.specs.LeadIns.{leads_in}
 use Rattle.tl_midway.specs.State.{StandsFor}
 use Rattle.tl_midway.specs.Unjudged.{is_unjudged}
@@ -31,6 +31,9 @@ mapped_each f (x ∷ xs) (y ∷ ys) many each =
     let here : y ≡ f x = each zero y (omega arith) in
     let rest : ys ≡ map f xs = mapped_each f xs ys (omega arith) (λ k d h. each (suc k) d (omega arith)) in
     λ i. here i ∷ rest i
+
+plus_zero : (n : ℕ) → n ≡ n + 0
+plus_zero n = omega arith
 
 saturated_more : (count n k : ℕ) → count ≡ u64_saturate n → u64_saturate (count + k) ≡ u64_saturate (n + k)
 saturated_more count n k is = omega (arith, is)
@@ -51,6 +54,17 @@ module _ (m : Manager) (start : Beginning) (before : List Placed) (p : Placed) (
     unjudged = each ∙ ap (map (one_beat m start before p)) has.unjudged ∙ rules_more all_rules;
   }
 
+  -- A beat that no rule leaves unjudged.
+  pub none_counted : (old new : Counts) (leads : Bool) → new.lead_ins ≡ u64_saturate (old.lead_ins + one_if leads) → leads ≡ leads_in m start before p
+      → new.unjudged.items ≡ old.unjudged.items → ((r : Rule) → is_unjudged r m start before p ≡ false) → HasCounts old n → HasCounts new (λ asked. n asked + one_if (asked_of asked m start before p))
+  none_counted old new leads put is same judged has = record {
+    lead_ins = put ∙ ap (λ b. u64_saturate (old.lead_ins + one_if b)) is ∙ saturated_more old.lead_ins (n None) (one_if (leads_in m start before p)) has.lead_ins;
+    unjudged = same ∙ has.unjudged ∙ (λ i. map (λ (r : Rule). let c : RuleCount = record { rule = r; beats = u64_saturate (kept r i) } in c) all_rules);
+  }
+    where
+      kept : (r : Rule) → n (Some r) ≡ n (Some r) + one_if (is_unjudged r m start before p)
+      kept r = plus_zero (n (Some r)) ∙ ap (λ b. n (Some r) + one_if b) (sym (judged r))
+
 -- ---- a walk
 
 -- The state stands for the beats so far; the counts with those of the beats that are left are those of all.
@@ -64,9 +78,6 @@ begun m start state counts first rest all stands has is = ([], first, stands, ha
 
 plus_assoc : (n k l : ℕ) → n + k + l ≡ n + (k + l)
 plus_assoc n k l = omega arith
-
-plus_zero : (n : ℕ) → n ≡ n + 0
-plus_zero n = omega arith
 
 pub one_more : (m : Manager) (start : Beginning) (old new : MidwayState) (counts more : Counts) (first : Option Rule → ℕ) (p : Placed) (now rest all : List Placed) → now ≡ p ∷ rest
     → ((before : List Placed) (n : Option Rule → ℕ) → StandsFor m start old before → HasCounts counts n → HasCounts more (λ asked. n asked + one_if (asked_of asked m start before p)))

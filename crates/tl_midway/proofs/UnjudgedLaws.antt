@@ -1,11 +1,10 @@
 -- A rule that doesn't leave a beat unjudged is printed exactly where the beat breaks it, whatever came before.
-use Rattle.std.proofs.Common.{◌≡◌, ℕ, ◌<◌, ◌⊎◌, inl, inr, ◌==◌, ◌&&◌, ◌||◌, Bool, true, false, cond, List, [], ◌∷◌, ◌++◌, reverse, Option, Some, None, refl, sym, ap, subst, ◌∙◌, arith, eqb-true}
-use Rattle.std.specs.Prelude.{◌↔◌, not, nat_lt, is_some, is_none, filter}
+use Rattle.std.proofs.Common.{◌≡◌, ℕ, ◌<◌, ◌⊎◌, inl, inr, ◌==◌, ◌&&◌, ◌||◌, Bool, true, false, List, [], ◌++◌, reverse, Option, Some, None, refl, sym, ap, subst, ◌∙◌, arith, eqb-true}
+use Rattle.std.specs.Prelude.{not, is_some, is_none, filter}
 use Rattle.std.specs.Option.{option_map_or, option_and_then}
 use Rattle.std.specs.List.{Contains, list_any, list_all}
 use Rattle.std.proofs.lemmas.Bool.Decides.{nat_tests}
 use Rattle.std.proofs.lemmas.List.Elements.{Contains-append_cases}
-use Rattle.tl_tables.specs.declared.Chan.{Chan}
 use Rattle.tl_tables.specs.declared.Chan.TheVariants as chan
 use Rattle.tl_tables.specs.declared.Op.{Op}
 use Rattle.tl_tables.specs.declared.Perm.{Perm}
@@ -29,9 +28,9 @@ use Rattle.tl_definitions.specs.Lawful.{Agrees, AllowsBurst, AllowsFlow, AllowsC
 use Rattle.tl_definitions.specs.Messages.{Message, is_request, is_reply, block_of, granted_block, claim}
 use Rattle.tl_definitions.specs.OpenTables.{passes}
 use Rattle.tl_definitions.specs.Past.{FlowPast, ClientPast}
-use Rattle.tl_definitions.specs.Printed.{every_bound, breaks_flow_surely, breaks_permission_surely, breaks_manager_surely, Front, front, acquire_open, release_open, grant_open, breaks_surely, is_f1, is_of_monitors, breaks_by, beat_rules, printed_of, printed_rules}
-use Rattle.tl_definitions.specs.Readings.{Reading, due, rest, or_all, told, readings_after, is_refuted, in_lead_in}
-use Rattle.tl_definitions.specs.Rules.{Manager, has_mask, is_wrong, breaks_format, breaks_flow, breaks_permission, breaks_manager, conflicts_with_other, rules_of_message, format_order, flow_order, permission_order, manager_order}
+use Rattle.tl_definitions.specs.Printed.{breaks_flow_surely, breaks_permission_surely, breaks_manager_surely, Front, front, acquire_open, release_open, grant_open, breaks_surely, is_f1, is_of_monitors, breaks_by, beat_rules, printed_rules}
+use Rattle.tl_definitions.specs.Readings.{Reading, due, rest, told}
+use Rattle.tl_definitions.specs.Rules.{Manager, has_mask, is_wrong, breaks_format, breaks_flow, breaks_permission, breaks_manager, conflicts_with_other, format_order, flow_order, permission_order, manager_order}
 use Rattle.tl_definitions.proofs.Bursts.{all_pass, some_passes, passing}
 use Rattle.tl_definitions.proofs.Judged.{has_later, printed_sound}
 use Rattle.tl_definitions.proofs.JudgingLaws.{rules_law}
@@ -42,7 +41,7 @@ use Rattle.tl_definitions.proofs.OrderLaws.{one_chan}
 use Rattle.tl_definitions.proofs.ReportLaws.{one_rule}
 use Rattle.tl_definitions.proofs.Steps.{answered_agrees}
 use Rattle.tl_definitions.proofs.Sure.{and_parts, or_cases, or_first, or_second}
-use Rattle.tl_midway.specs.Unjudged.{is_unknown, some_bound, maybe, asks_flow, may_claim_wrongly, asks_permission, may_conflict, asks_manager, asks, may_break_past, may_break, next_readings, is_unjudged, AreJudged, AnyPastIsJudged, PastsOfWholeMessagesAreJudged}
+use Rattle.tl_midway.specs.Unjudged.{is_unknown, some_bound, maybe, asks_flow, asks_permission, may_conflict, asks_manager, asks, may_break_past, may_break, next_readings, is_unjudged, AreJudged, AnyPastIsJudged, PastsOfWholeMessagesAreJudged}
 use Rattle.tl_midway.proofs.MemberLaws.{all_by_each}
 use Rattle.tl_midway.proofs.ReadingLaws.{told_from}
 

@@ -1,7 +1,7 @@
 -- Whether a rule leaves a beat unjudged, by what the beat is.
-use Rattle.std.proofs.Common.{◌≡◌, ℕ, ◌==◌, ◌&&◌, ◌||◌, Bool, true, false, cond, List, [], ◌∷◌, Option, Some, None, refl, sym, ap, subst, ◌∙◌, arith, eqb-true}
+use Rattle.std.proofs.Common.{◌≡◌, ℕ, ◌==◌, ◌&&◌, ◌||◌, Bool, true, false, cond, List, [], ◌∷◌, Option, Some, None, refl, sym, ap, ◌∙◌, eqb-true}
 use Rattle.std.specs.Prelude.{not, filter}
-use Rattle.std.specs.List.{Contains, list_any, list_all}
+use Rattle.std.specs.List.{list_any, list_all}
 use Rattle.std.specs.Option.{option_map_or}
 use Rattle.tl_tables.specs.declared.Op.{Op}
 use Rattle.tl_tables.specs.declared.Rule.{Rule}
@@ -12,7 +12,7 @@ use Rattle.tl_topology.specs.declared.LinkDecl.{LinkDecl}
 use Rattle.tl_beats.specs.declared.Beat.{Beat}
 use Rattle.tl_beats.specs.declared.Placed.{Placed}
 use Rattle.tl_definitions.specs.Heads.{message_of}
-use Rattle.tl_definitions.specs.Known.{Beginning, KnownPast, bare, known_request, known_pasts}
+use Rattle.tl_definitions.specs.Known.{Beginning, bare, known_request}
 use Rattle.tl_definitions.specs.Printed.{Front, front, grant_open, breaks_flow_surely, breaks_manager_surely, breaks_surely, is_f1, breaks_by}
 use Rattle.tl_definitions.specs.Readings.{Reading, due, rest, is_due, may_begin, must_begin}
 use Rattle.tl_definitions.specs.Rules.{Manager, breaks_format, format_order, format_rules}
@@ -256,3 +256,16 @@ format_same m p link areas exponent declared regions power r =
     ap (λ e. is_among (format_rules e areas link p.beat (message_of link p.beat)) r) power
     ∙ ap (λ xs. is_among (format_rules m.exponent xs link p.beat (message_of link p.beat)) r) (sym regions)
     ∙ ap (λ d. is_among (format_rules m.exponent m.regions d p.beat (message_of d p.beat)) r) (sym declared)
+
+-- ---- a later beat of a head of the capture
+
+sole_judged : (b : Bool) → ((b || false) && not (b && true)) ≡ false
+sole_judged true = refl
+sole_judged false = refl
+
+pub settled_judged : (m : Manager) (start : Beginning) (before : List Placed) (p : Placed) (r : Rule) (xs ys : List Reading) (head : Beat) (missing : ℕ) → xs ≡ rest missing (Some head) ∷ [] → SameMembers xs ys
+    → (list_any (may_break m (front m start before) p r) ys && not (list_all (breaks_by m (front m start before) p r) ys)) ≡ false
+settled_judged m start before p r xs ys head missing is same =
+    let may : Reading → Bool = may_break m (front m start before) p r in
+    let by : Reading → Bool = breaks_by m (front m start before) p r in
+    (λ i. sym (any_same may xs ys same) i && not (sym (all_same by xs ys same) i)) ∙ ap (λ zs. list_any may zs && not (list_all by zs)) is ∙ sole_judged (by (rest missing (Some head)))

@@ -1,13 +1,17 @@
 //! What the rules of a head ask about, where nobody recorded the first messages of its manager's links: whether that is known.
 
-ghost use Rattle.std.specs.Prelude.{◌≡◌, ◌==◌, ◌&&◌, ◌||◌, not};
+ghost use Rattle.std.specs.Prelude.{◌≡◌, ◌==◌, ◌&&◌, ◌||◌, not, List};
 ghost use Rattle.std.specs.List.{list_any};
+ghost use Rattle.tl_beats.specs.declared.Placed.{Placed as AnyPlaced};
+ghost use Rattle.tl_definitions.specs.Heads.{message_of};
+ghost use Rattle.tl_definitions.specs.Rules.{Manager};
 ghost use Rattle.tl_tables.specs.Kinds.{conflicts};
 ghost use Rattle.tl_definitions.specs.Rules.{is_wrong};
-ghost use Rattle.tl_definitions.specs.Known.{bare, known_request, known_pasts};
+ghost use Rattle.tl_definitions.specs.Known.{Beginning, bare, known_request, known_pasts};
 ghost use Rattle.tl_definitions.specs.Printed.{front};
 ghost use Rattle.tl_midway.specs.Known.{known_of};
 ghost use Rattle.tl_midway.specs.KnownBounds.{possible_of};
+ghost use Rattle.tl_midway.specs.KnownLink as known_link;
 ghost use Rattle.tl_midway.specs.KnownLink.{shown};
 ghost use Rattle.tl_midway.specs.ManagerReadings.{HasPlace};
 ghost use Rattle.tl_midway.specs.Unjudged.{is_unknown, some_bound};
@@ -51,10 +55,11 @@ impl KnownLink {
     fn asks_flow(&self, op: Op, head: &Beat, rule: Rule) -> bool
         ensures { result ≡ asks_flow (shown self.now).flow (known_request (shown self.now).flow (bare op head.now)) (bare op head.now) rule }
     {
-        let is_reply = head.chan == Chan::D && !is_release_ack(op);
         match rule {
             Rule::S1 => head.chan == Chan::A && is_unknown(self.source(head.source)),
-            Rule::S2 | Rule::S3 | Rule::S4 => is_reply && is_unknown(self.request(op, head)),
+            Rule::S2 | Rule::S3 | Rule::S4 => {
+                head.chan == Chan::D && !is_release_ack(op) && is_unknown(self.request(op, head))
+            }
             Rule::S5 | Rule::S7 => is_release_ack(op) && is_unknown(self.request(op, head)),
             Rule::S6 => is_release(op) && is_unknown(self.release(head.source)),
             Rule::S8 => is_grant(op) && is_unknown(self.sink(head.sink)),
@@ -79,13 +84,15 @@ impl KnownLink {
     fn asks_permission(&self, strict: bool, op: Op, head: &Beat, rule: Rule) -> bool
         ensures { result ≡ asks_permission strict self.now.exponent (shown self.now).client (bare op head.now) rule }
     {
-        let block = self.block(head.address);
-        let shrinks = is_probe_ack(op) || is_release(op);
         match rule {
             Rule::P1 => is_acquire(op) && self.may_claim_wrongly(strict, op, head),
-            Rule::P2 => shrinks && self.may_claim_wrongly(strict, op, head),
-            Rule::P3 | Rule::P4 => is_probe_ack(op) && self.probe_hidden(block),
-            Rule::P5 => is_probe(op) && self.probe_hidden(block),
+            Rule::P2 => {
+                (is_probe_ack(op) || is_release(op)) && self.may_claim_wrongly(strict, op, head)
+            }
+            Rule::P3 | Rule::P4 => {
+                is_probe_ack(op) && self.probe_hidden(self.block(head.address))
+            }
+            Rule::P5 => is_probe(op) && self.probe_hidden(self.block(head.address)),
             Rule::P6 => is_acquire(op),
             Rule::P7 => is_release(op),
             Rule::P8 => is_acquire(op) || is_release(op) || is_probe_ack(op),
@@ -127,9 +134,7 @@ impl KnownLink {
 fn any_may_forbid(links: &[LinkPast], link: u16, block: u64, set: Perm) -> bool
     ensures { result ≡ list_any (λ (own : AnyLink). not (own.number == link) && some_bound (conflicts set) ((shown own.past).client.bound block)) links.now }
 {
-    links
-        .iter()
-        .any(|own| own.number != link && own.past.may_forbid(block, set))
+    links.iter().any(|own| own.number != link && own.past.may_forbid(block, set))
 }
 
 /// Whether it isn't known of some client if a Probe of the block is open.
@@ -142,16 +147,10 @@ fn any_probe_hidden(links: &[LinkPast], block: u64) -> bool
 impl KnownPasts {
     ghost use Rattle.tl_midway.specs.Unjudged.{asks};
     ghost use Rattle.tl_midway.specs.Asked.{may_conflict_shown, may_meet_shown, asks_shown_manager, WhereKnown, message_surely, OfDeclared, head_open, head_may};
-    ghost use Rattle.tl_midway.specs.KnownPasts.{numbers_of};
+    ghost use Rattle.tl_midway.specs.KnownPasts.{numbers_of, StandsFor};
 
     /// Whether what a Grant sets may be forbidden by another client's bound. Its request may be of any block where it isn't known.
-    fn may_conflict(
-        &self,
-        link: u16,
-        op: Op,
-        head: &Beat,
-        request: Known<Option<Request>>,
-    ) -> bool
+    fn may_conflict(&self, link: u16, op: Op, head: &Beat, request: Known<Option<Request>>) -> bool
         ensures { result ≡ may_conflict_shown self.now link (known_of request) (bare op head.now) }
     {
         match request {
@@ -176,20 +175,16 @@ impl KnownPasts {
         }
     }
 
-    /// Whether what the manager rule asks about of a head with this message isn't known; false of a rule of another kind.
-    fn asks_manager(
-        &self,
-        link: u16,
-        op: Op,
-        head: &Beat,
-        request: Known<Option<Request>>,
-        rule: Rule,
-    ) -> bool
-        ensures { result ≡ asks_shown_manager self.now link (known_of request) (bare op head.now) rule }
+    /// Whether what the manager rule asks about of a head with this message isn't known, by what is known of its link; false of a rule of
+    /// another kind.
+    fn asks_manager(&self, past: &KnownLink, op: Op, at: &Placed, rule: Rule) -> bool
+        ensures { result ≡ asks_shown_manager self.now at.now.link (known_request (shown past.now).flow (bare op at.now.beat)) (bare op at.now.beat) rule }
     {
         match rule {
-            Rule::M1 => is_grant(op) && self.may_conflict(link, op, head, request),
-            Rule::M2 => is_grant(op) && self.may_meet_probe(request),
+            Rule::M1 => {
+                is_grant(op) && self.may_conflict(at.link, op, &at.beat, past.request(op, &at.beat))
+            }
+            Rule::M2 => is_grant(op) && self.may_meet_probe(past.request(op, &at.beat)),
             Rule::M3 => is_probe(op),
             _ => false,
         }
@@ -208,8 +203,7 @@ impl KnownPasts {
         ensures { WhereKnown self.now past.now strict at.now.link (λ m start before.
             result ≡ asks m (known_pasts m start before) at.now.link (bare op at.now.beat) rule) }
     {
-        past.asks(strict, op, &at.beat, rule)
-            || self.asks_manager(at.link, op, &at.beat, past.request(op, &at.beat), rule)
+        past.asks(strict, op, &at.beat, rule) || self.asks_manager(past, op, at, rule)
     }
 
     /// Whether such a head surely breaks the rule; no format rule.
@@ -225,29 +219,38 @@ impl KnownPasts {
             result ≡ message_surely m (front m start before) at.now.link (bare op at.now.beat) rule) }
     {
         past.surely_breaks(strict, op, &at.beat, rule)
-            || self.breaks(
-                at.link,
-                op,
-                &at.beat,
-                past.request(op, &at.beat),
-                rule,
-            )
+            || self.breaks(at.link, op, &at.beat, past.request(op, &at.beat), rule)
     }
 
-    /// Whether the manager's next beat may break the rule as a head, and doesn't surely; false of a format rule.
-    pub fn leaves_open(&self, link: &LinkDecl, at: &Placed, rule: Rule) -> bool
-        requires own { HasPlace (numbers_of self.now) at.now.link }
-        ensures { OfDeclared self.now at.now link.now (λ m start before. result ≡ head_open m start before at.now rule) }
+    /// Whether the manager's next beat may break the rule as a head with this message, by what is known of its link, and doesn't surely;
+    /// false of a format rule.
+    pub(crate) fn leaves_open(
+        &self,
+        past: &KnownLink,
+        strict: bool,
+        op: Option<Op>,
+        at: &Placed,
+        rule: Rule,
+    ) -> bool
+        ensures { WhereKnown self.now past.now strict at.now.link (λ m start before.
+            message_of (m.links at.now.link) at.now.beat ≡ op → result ≡ head_open m start before at.now rule) }
     {
-        let place = self.place(at.link).unwrap();
-        let past = &self.links[place].past;
-        match op_of(link.level, at.beat.chan, at.beat.opcode) {
+        match op {
             Some(op) => {
-                self.asks(past, link.strict, op, at, rule)
-                    && !self.surely_breaks(past, link.strict, op, at, rule)
+                self.asks(past, strict, op, at, rule)
+                    && !self.surely_breaks(past, strict, op, at, rule)
             }
             None => false,
         }
+    }
+
+    /// The past of the link of a beat.
+    pub(crate) fn past(&self, at: &Placed) -> &KnownLink
+        requires own { HasPlace (numbers_of self.now) at.now.link }
+        ensures { (m : Manager) (start : Beginning) (before : List AnyPlaced) → StandsFor m start self.now before → known_link.StandsFor m start at.now.link result.now before }
+    {
+        let place = self.place(at.link).unwrap();
+        &self.links[place].past
     }
 
     /// Whether the manager's next beat may break the rule as a head; false of a format rule.

@@ -121,6 +121,8 @@ impl Counts {
         ensures law { self.new.law ≡ self.old.law }
     {
         self.lead_ins = one_more(self.lead_ins, state.in_lead_in(at));
-        count_unjudged(alloc, link, regions, at, state, &mut self.unjudged);
+        if !state.is_settled(at) {
+            count_unjudged(alloc, link, regions, at, state, &mut self.unjudged);
+        }
     }
 }

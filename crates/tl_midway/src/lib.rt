@@ -32,7 +32,7 @@ pub use known::Known;
 pub use known_bounds::Possible;
 pub use known_link::KnownLink;
 pub use known_pasts::{KnownPasts, LinkPast};
-pub use lead_ins::{HeadsKnown, heads_known, lead_in_beats};
+pub use lead_ins::{HeadsKnown, heads_known};
 pub use link_readings::LinkReadings;
 pub use manager_readings::ManagerReadings;
 pub use midway::Midway;

@@ -116,10 +116,7 @@ impl Reading {
     {
         match self {
             Reading::Rest { head: None, .. } => may_break_past(beat, rule),
-            Reading::Due
-            | Reading::Rest {
-                head: Some(_), ..
-            } => self.breaks(link, beat, rule),
+            Reading::Due | Reading::Rest { head: Some(_), .. } => self.breaks(link, beat, rule),
         }
     }
 }

@@ -1,6 +1,6 @@
 //! The readings of the next beat of one channel, where the capture begins in the middle of a run.
 
-ghost use Rattle.std.specs.Prelude.{◌≡◌, ◌==◌, ℕ, not, Some, List, [], ◌∷◌, map, filter, option_map, IfOk};
+ghost use Rattle.std.specs.Prelude.{◌≡◌, ◌==◌, ℕ, not, true, Some, List, [], ◌∷◌, map, filter, option_map, IfOk};
 ghost use Rattle.std.specs.List.{All, find, list_any, list_all};
 ghost use Rattle.tl_topology.specs.Topology.{IsSound};
 ghost use Rattle.tl_beats.specs.Beats.{IsWellFormed};
@@ -217,6 +217,13 @@ impl Readings {
             Reading::Rest { head, .. } if self.others.is_empty() => head,
             _ => None,
         }
+    }
+
+    /// Whether the beat surely belongs to a message of the capture, and is no head.
+    pub fn is_settled(&self) -> bool
+        ensures { result ≡ true → (head : AnyBeat) × (missing : ℕ) × (shown_readings self.now ≡ rest missing (Some head) ∷ []) }
+    {
+        self.sole_head().is_some()
     }
 
     /// Whether the beat breaks a rule of later beats by each reading.

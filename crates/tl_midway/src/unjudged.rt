@@ -1,10 +1,14 @@
 //! Beats that a rule leaves unjudged, as the capture hasn't told what it asks about.
 
-ghost use Rattle.std.specs.Prelude.{◌≡◌};
+ghost use Rattle.std.specs.Prelude.{◌≡◌, true, false, List};
 ghost use Rattle.tl_topology.specs.Regions.{areas_of};
 ghost use Rattle.tl_topology.specs.Topology.{IsSound};
 ghost use Rattle.tl_beats.specs.Beats.{IsWellFormed};
+ghost use Rattle.tl_tables.specs.declared.Rule.{Rule as AnyRule};
+ghost use Rattle.tl_beats.specs.declared.Placed.{Placed as AnyPlaced};
 ghost use Rattle.tl_definitions.specs.Heads.{message_of};
+ghost use Rattle.tl_definitions.specs.Known.{Beginning};
+ghost use Rattle.tl_definitions.specs.Rules.{Manager};
 ghost use Rattle.tl_definitions.specs.Rules.{format_rules};
 ghost use Rattle.tl_midway.specs.Asked.{is_among, is_of_later};
 ghost use Rattle.tl_midway.specs.Unjudged.{is_unjudged};
@@ -13,7 +17,7 @@ use crate::state::MidwayState;
 use std::alloc::Global;
 use tl_beats::{Beat, Placed};
 use tl_link_rules::check_head;
-use tl_tables::{Rule, rule_number};
+use tl_tables::{Rule, op_of, rule_number};
 use tl_topology::{LinkDecl, RegionMap};
 
 /// Whether later beats of a message can break the rule.
@@ -50,7 +54,7 @@ fn breaks_format(
 }
 
 impl MidwayState {
-    ghost use Rattle.tl_midway.specs.State.{WhereServed, HasLink, IsKnown};
+    ghost use Rattle.tl_midway.specs.State.{WhereServed, HasLink, IsKnown, StandsFor};
 
     /// Whether the rule leaves the manager's next beat unjudged: by what is known, the beat may break it, and may not.
     pub fn is_unjudged(
@@ -75,16 +79,20 @@ impl MidwayState {
             return false;
         }
         if readings.must_begin() {
-            return self.pasts.leaves_open(link, at, rule);
+            let op = op_of(link.level, at.beat.chan, at.beat.opcode);
+            let past = self.pasts.past(at);
+            return self.pasts.leaves_open(past, link.strict, op, at, rule);
         }
         self.pasts.may_break(link, at, rule)
-            || breaks_format(
-                alloc,
-                link,
-                self.pasts.exponent,
-                regions,
-                &at.beat,
-                rule,
-            )
+            || breaks_format(alloc, link, self.pasts.exponent, regions, &at.beat, rule)
+    }
+
+    /// Whether the manager's next beat surely belongs to a message that began with an earlier beat of the capture: no rule leaves it unjudged.
+    pub(crate) fn is_settled(&self, at: &Placed) -> bool
+        requires own { HasLink self.now at.now.link }
+        requires known { IsKnown self.now }
+        ensures { result ≡ true → (m : Manager) (start : Beginning) (before : List AnyPlaced) (r : AnyRule) → StandsFor m start self.now before → is_unjudged r m start before at.now ≡ false }
+    {
+        self.readings.channel(at).is_settled()
     }
 }

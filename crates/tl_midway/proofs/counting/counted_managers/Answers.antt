@@ -8,7 +8,7 @@ use Rattle.tl_midway.specs.Counts.{managers_counted}
 use Rattle.tl_midway.specs.Counted.{HasCounts, asked_of}
 use Rattle.tl_midway.specs.Report.{ArePrinted}
 use Rattle.tl_midway.specs.Walked.{rows_by}
-use Rattle.tl_midway.proofs.CountsLaws.{none_yet, manager_added}
+use Rattle.tl_midway.proofs.CountsLaws.{manager_added}
 use Rattle.tl_midway.proofs.MidwayReportLaws.{manager_more}
 use Rattle.tl_midway.proofs.counting.counted_managers.Goals as goal
 

@@ -1,4 +1,4 @@
-use Rattle.std.proofs.Common.{◌≡◌, ◌+◌, ◌++◌, ℕ, length, sym, ap, subst, ◌∙◌}
+use Rattle.std.proofs.Common.{◌+◌, ◌++◌, length, ap, subst, ◌∙◌}
 use Rattle.tl_capture.specs.Present.{IsPresent}
 use Rattle.tl_check.specs.Captured.{areas_at}
 use Rattle.tl_midway.specs.Counts.{managers_counted}

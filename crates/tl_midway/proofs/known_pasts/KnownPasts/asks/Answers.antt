@@ -1,8 +1,6 @@
-use Rattle.std.proofs.Common.{◌≡◌, true, false, sym, ◌∙◌}
+use Rattle.std.proofs.Common.{refl, ◌∙◌}
 use Rattle.tl_definitions.specs.Known.{bare, known_request, known_pasts}
-use Rattle.tl_midway.specs.KnownLink.{shown}
-use Rattle.tl_midway.specs.Known.{known_of}
-use Rattle.tl_midway.specs.Unjudged.{asks_flow, asks_permission, asks_manager}
+use Rattle.tl_midway.specs.Unjudged.{asks_manager}
 use Rattle.tl_midway.proofs.AskedLaws.{first_is, second_is, flow_asks, permission_asks, manager_asks}
 use Rattle.tl_midway.proofs.known_pasts.KnownPasts.asks.Goals as goal
 
@@ -23,4 +21,4 @@ returns-else-asks c m start before stands stood is =
     second_is c.asks.result c.asks_manager.result _ _ _ _ _ c.asks.ensures
     (flow_asks m start before c.args.self.now stands link c.args.past.now stood c.args.strict is message r)
     (permission_asks m start before c.args.self.now stands link c.args.past.now stood c.args.strict is message r) c.if-asks.false
-    (c.asks_manager.ensures ∙ manager_asks m start before c.args.self.now stands link c.args.past.now stood c.args.strict is message r (known_of c.request.result) c.request.ensures)
+    (c.asks_manager.ensures ∙ manager_asks m start before c.args.self.now stands link c.args.past.now stood c.args.strict is message r _ refl)

@@ -1,34 +1,29 @@
-use Rattle.std.proofs.Common.{◌≡◌, ◌&&◌, ◌||◌, Bool, true, false, Some, sym, ap, ◌∙◌}
+use Rattle.std.proofs.Common.{◌&&◌, Bool, false, sym, ap, ◌∙◌}
 use Rattle.std.specs.Prelude.{not}
+use Rattle.std.specs.Option.{option_map_or}
 use Rattle.tl_tables.specs.declared.Op.{Op}
 use Rattle.tl_definitions.specs.Known.{bare, known_pasts}
 use Rattle.tl_definitions.specs.Printed.{front}
 use Rattle.tl_midway.specs.Unjudged.{asks}
 use Rattle.tl_midway.specs.Asked.{message_surely}
-use Rattle.tl_midway.proofs.AskedLaws.{of_message, strict_is}
-use Rattle.tl_midway.proofs.HeadRowLaws.{found_stands}
 use Rattle.tl_midway.proofs.known_pasts.KnownPasts.leaves_open.Goals as goal
 
 pub returns-then-asks : goal.returns-then-asks
-returns-then-asks c m start before stands declared =
+returns-then-asks c m start before stands stood strict is =
     let p = c.args.at.now in
-    let o = c.in-Some.op in
-    let stood = found_stands m start before c.args.self.now stands p c.unwrap-place.result c.index.result.now (sym c.place.ensures ∙ c.unwrap-place.ensures) c.requires.own c.index.ensures in
-    let one = c.asks.ensures m start before stands stood (strict_is m p.link c.args.link.now declared) in
-    let two = c.surely_breaks.ensures m start before stands stood (strict_is m p.link c.args.link.now declared) in
+    let r = c.args.rule in
+    let open_by : Op → Bool = λ o. asks m (known_pasts m start before) p.link (bare o p.beat) r && not (message_surely m (front m start before) p.link (bare o p.beat) r) in
+    let one = c.asks.ensures m start before stands stood strict in
+    let two = c.surely_breaks.ensures m start before stands stood strict in
     ap (λ t. t && not c.surely_breaks.result) (sym c.if-asks.true) ∙ (λ i. one i && not (two i))
-    ∙ sym (of_message m start before p c.args.link.now declared c.args.rule
-    (λ o. asks m (known_pasts m start before) p.link (bare o p.beat) c.args.rule && not (message_surely m (front m start before) p.link (bare o p.beat) c.args.rule))
-    (Some o) (sym c.op_of.ensures ∙ c.in-Some.is))
+    ∙ sym (ap (λ found. option_map_or open_by found false) (is ∙ c.in-Some.is))
 
 pub returns-else-asks : goal.returns-else-asks
-returns-else-asks c m start before stands declared =
+returns-else-asks c m start before stands stood strict is =
     let p = c.args.at.now in
-    let o = c.in-Some.op in
-    let stood = found_stands m start before c.args.self.now stands p c.unwrap-place.result c.index.result.now (sym c.place.ensures ∙ c.unwrap-place.ensures) c.requires.own c.index.ensures in
-    let one = c.asks.ensures m start before stands stood (strict_is m p.link c.args.link.now declared) in
-    let surely : Bool = message_surely m (front m start before) p.link (bare o p.beat) c.args.rule in
-    c.if-asks.false ∙ ap (λ t. t && not surely) (sym c.if-asks.false ∙ one)
-    ∙ sym (of_message m start before p c.args.link.now declared c.args.rule
-    (λ o. asks m (known_pasts m start before) p.link (bare o p.beat) c.args.rule && not (message_surely m (front m start before) p.link (bare o p.beat) c.args.rule))
-    (Some o) (sym c.op_of.ensures ∙ c.in-Some.is))
+    let r = c.args.rule in
+    let surely : Op → Bool = λ o. message_surely m (front m start before) p.link (bare o p.beat) r in
+    let open_by : Op → Bool = λ o. asks m (known_pasts m start before) p.link (bare o p.beat) r && not (surely o) in
+    let one = c.asks.ensures m start before stands stood strict in
+    c.if-asks.false ∙ ap (λ t. t && not (surely c.in-Some.op)) (sym c.if-asks.false ∙ one)
+    ∙ sym (ap (λ found. option_map_or open_by found false) (is ∙ c.in-Some.is))

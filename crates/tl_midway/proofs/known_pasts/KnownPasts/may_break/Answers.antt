@@ -1,6 +1,4 @@
-use Rattle.std.proofs.Common.{◌≡◌, ◌&&◌, ◌||◌, Bool, true, false, Some, sym, ap, ◌∙◌}
-use Rattle.std.specs.Prelude.{not}
-use Rattle.tl_tables.specs.declared.Op.{Op}
+use Rattle.std.proofs.Common.{◌||◌, Bool, Some, sym, ap, ◌∙◌}
 use Rattle.tl_definitions.specs.Known.{bare, known_pasts}
 use Rattle.tl_definitions.specs.Printed.{front}
 use Rattle.tl_midway.specs.Unjudged.{asks}

@@ -1,4 +1,4 @@
-use Rattle.std.proofs.Common.{◌≡◌, true, false, sym, ◌∙◌}
+use Rattle.std.proofs.Common.{◌∙◌}
 use Rattle.tl_definitions.specs.Known.{bare, known_request, known_pasts}
 use Rattle.tl_definitions.specs.Printed.{front, grant_open, breaks_manager_surely}
 use Rattle.tl_midway.specs.Known.{known_of}

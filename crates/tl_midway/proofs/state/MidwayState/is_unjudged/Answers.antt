@@ -1,4 +1,4 @@
-use Rattle.std.proofs.Common.{◌≡◌, ◌||◌, Bool, true, false, sym, ap, ◌∙◌}
+use Rattle.std.proofs.Common.{◌||◌, sym, ap, ◌∙◌}
 use Rattle.tl_topology.specs.Regions.{areas_of}
 use Rattle.tl_definitions.specs.Readings.{is_due}
 use Rattle.tl_definitions.specs.Heads.{message_of}
@@ -6,6 +6,7 @@ use Rattle.tl_definitions.specs.Rules.{format_rules}
 use Rattle.tl_midway.specs.Asked.{head_may, is_among}
 use Rattle.tl_midway.specs.Readings.{shown_readings}
 use Rattle.tl_midway.specs.Unjudged.{next_readings}
+use Rattle.tl_midway.proofs.AskedLaws.{strict_is}
 use Rattle.tl_midway.proofs.MemberLaws.{any_same, all_same}
 use Rattle.tl_midway.proofs.UnjudgedStandLaws.{open_same, format_same, later_unjudged, none_unjudged, head_unjudged, maybe_unjudged}
 use Rattle.tl_midway.proofs.state.MidwayState.is_unjudged.Goals as goal
@@ -31,7 +32,8 @@ returns-then-must_begin c m start before stands serves =
     let p = c.args.at.now in
     let next = next_readings m start before p in
     let on = c.channel-readings.ensures.stands m start before stands.readings in
-    c.leaves_open-then-must_begin.ensures m start before stands.pasts serves.declared
+    c.leaves_open-then-must_begin.ensures m start before stands.pasts (c.past-past.ensures m start before stands.pasts) (strict_is m p.link c.args.link.now serves.declared)
+    (ap (λ d. message_of d p.beat) serves.declared ∙ sym c.op_of-op.ensures)
     ∙ head_unjudged m start before p next c.args.rule (sym c.is_of_later.ensures ∙ c.if-is_of_later.false)
     (sym (all_same is_due (shown_readings c.channel-readings.result.now) next on.members) ∙ sym c.must_begin.ensures ∙ c.if-must_begin.true)
     (sym (any_same is_due (shown_readings c.channel-readings.result.now) next on.members) ∙ sym c.may_begin.ensures ∙ c.if-not-may_begin.false)

@@ -2,8 +2,8 @@
 
 Of each channel there are the readings of its next beat: how many beats it is away from the next head, and the head that those beats
 belong to, or None where the past has it. Each key of a link is open with an entry, closed, or unknown; of each client and block there
-is the set of permissions that its bound may be. A rule is printed where each reading breaks it for all that is known. In the plain
-report a head is due everywhere at first, all keys are closed, and nobody holds anything. Managers have no regions here.
+is the set of permissions that its bound may be. A rule is printed where each reading breaks it for all that is known, and leaves a beat unjudged where some reading may break it for some of
+what may be, and not each does. In the plain report a head is due everywhere at first, all keys are closed, and nobody holds anything. Managers have no regions here.
 """
 from lawful import CAPS, GROWS_FROM, MOST_PARAM, SHRINKS, WITH_DATA, B, N, T, beat_count, conflicts, lanes
 
@@ -185,6 +185,11 @@ def rules_of_loss(known, beat, kind, claims):
     return found
 
 
+def forbids(held, cap):
+    """Whether a client that holds this forbids what a Grant gives another; one that gives nothing is never forbidden."""
+    return cap != N and conflicts(cap, held)
+
+
 def rules_of_reply(known, links, beat, kind, claims):
     found, asked = set(), known.entry("request", beat.source)
     if asked == CLOSED:
@@ -199,7 +204,7 @@ def rules_of_reply(known, links, beat, kind, claims):
     if asked in (CLOSED, UNKNOWN) or asked[2] is None:
         return found
     block, others = asked[2], [other for other in links if other is not known]
-    if claims and not beat.denied and any(all(conflicts(CAPS[beat.param], held) for held in other.bound(block)) for other in others):
+    if claims and not beat.denied and any(all(forbids(held, CAPS[beat.param]) for held in other.bound(block)) for other in others):
         found.add("M1")
     if any(other.entry("probe", block) not in (CLOSED, UNKNOWN) for other in links):
         found.add("M2")
@@ -214,6 +219,73 @@ def rules_of_later(known, head, beat):
     if beat.channel in "AB" and has_wrong_mask(known.link, head, beat.mask):
         found.add("F5")
     return found | ({"U1"} if differs(head, beat) else set())
+
+
+# ---- what rules ask about ----
+
+
+def may_claim_wrongly(known, block, held):
+    return any(held != it if known.link.strict else held > it for it in known.bound(block))
+
+
+def asks_of_head(known, links, beat):
+    """The rules that ask about something that isn't known of a head. An Acquire, a Release or a Grant of the past may be open on any block."""
+    kind = role(known.link, beat)
+    if kind is None:
+        return set()
+    block, claims, found = known.block(beat), has_known_param(known.link, beat), set()
+    if beat.channel == "A":
+        found |= {"S1"} if known.entry("request", beat.source) == UNKNOWN else set()
+        if kind == "Acquire":
+            found |= {"P6", "P8"} | ({"P1"} if claims and may_claim_wrongly(known, block, GROWS_FROM[beat.param]) else set())
+    elif kind == "Probe":
+        found |= {"M3"} | ({"P5"} if known.entry("probe", block) == UNKNOWN else set())
+    elif kind in ("ProbeAck", "Release"):
+        found |= {"P8"} | ({"P2"} if claims and may_claim_wrongly(known, block, CLAIMS[beat.param][0]) else set())
+        if kind == "Release":
+            found |= {"P7"} | ({"S6"} if known.entry("release", beat.source) == UNKNOWN else set())
+        else:
+            found |= {"P3", "P4"} if known.entry("probe", block) == UNKNOWN else set()
+    elif kind == "ReleaseAck":
+        found |= {"S5", "S7"} if known.entry("release", beat.source) == UNKNOWN else set()
+    elif kind == "GrantAck":
+        found |= {"S9"} if known.entry("sink", beat.sink) == UNKNOWN else set()
+    elif beat.channel == "D":
+        found |= asks_of_reply(known, links, beat, kind, claims)
+    return found
+
+
+def asks_of_reply(known, links, beat, kind, claims):
+    asked = known.entry("request", beat.source)
+    found = {"S2", "S3", "S4"} if asked == UNKNOWN else set()
+    if kind != "Grant":
+        return found
+    found |= {"S8"} if known.entry("sink", beat.sink) == UNKNOWN else set()
+    if asked == UNKNOWN:
+        return found | {"M1", "M2"}
+    if asked == CLOSED or asked[2] is None:
+        return found
+    block, others = asked[2], [other for other in links if other is not known]
+    if claims and not beat.denied and any(forbids(held, CAPS[beat.param]) for other in others for held in other.bound(block)):
+        found.add("M1")
+    if any(other.entry("probe", block) == UNKNOWN for other in links):
+        found.add("M2")
+    return found
+
+
+def may_break(known, links, reading, beat):
+    """The rules that a beat may break by a reading: of a message of the past nobody knows the head."""
+    missing, head = reading
+    if missing == 0:
+        return rules_of_head(known, links, beat) | asks_of_head(known, links, beat)
+    if head is None:
+        return rules_of_later(known, None, beat) | {"U1"} | ({"F5"} if beat.channel in "AB" else set())
+    return rules_of_later(known, head, beat)
+
+
+def surely_breaks(known, links, reading, beat):
+    missing, head = reading
+    return rules_of_head(known, links, beat) if missing == 0 else rules_of_later(known, head, beat)
 
 
 # ---- steps ----
@@ -296,13 +368,15 @@ def carries_data(link, beat):
 
 
 def step(known, links, beat):
-    """The rules that are printed of a beat, and whether it stands in the lead-in of its channel. What is known then counts the beat."""
+    """The rules that are printed of a beat, whether it stands in the lead-in of its channel, and the rules that leave it unjudged. What is
+    known then counts the beat."""
     readings = known.readings[beat.channel]
+    may = set.union(*(may_break(known, links, it, beat) for it in readings))
+    unjudged = may - set.intersection(*(surely_breaks(known, links, it, beat) for it in readings))
     leads_in = len({missing for missing, _ in readings}) > 1
     if known.by_fields and leads_in:
         readings = {it for it in readings if not is_dropped(known, it, beat)} or readings
-    found = [rules_of_head(known, links, beat) if missing == 0 else rules_of_later(known, head, beat) for missing, head in readings]
-    printed = set.intersection(*found)
+    printed = set.intersection(*(surely_breaks(known, links, it, beat) for it in readings))
     may_begin = any(missing == 0 for missing, _ in readings)
     if may_begin:
         effects(known, beat, len(readings) == 1)
@@ -310,7 +384,7 @@ def step(known, links, beat):
     known.readings[beat.channel] = {as_due(missing - 1, head) if missing else as_due(after, beat) for missing, head in readings}
     known.first.setdefault(beat.channel, beat)
     known.count[beat.channel] += 1
-    return sorted(printed, key=ORDER.index), leads_in
+    return sorted(printed, key=ORDER.index), leads_in, unjudged
 
 
 def as_due(missing, head):
@@ -319,14 +393,17 @@ def as_due(missing, head):
 
 
 def judge(topology, capture, law):
-    """Of each link the printed rows, as (index of the beat, rule), and the indices of the beats that stand in a lead-in."""
+    """Of each link the printed rows, as (index of the beat, rule), and the indices of the beats that stand in a lead-in; and of all
+    links the rules that leave beats unjudged, in the order of reports, with how many beats."""
     links = [KnownLink(link, topology.managers[link.manager].block, law) for link in topology.links]
     order = sorted((beat.cycle, beat.channel, number, at) for number, beats in enumerate(capture) for at, beat in enumerate(beats))
-    rows, leads = [[] for _ in links], [set() for _ in links]
+    rows, leads, unjudged = [[] for _ in links], [set() for _ in links], dict.fromkeys(ORDER, 0)
     managers = [[other for other in links if other.link.manager == known.link.manager] for known in links]
     for _, _, number, at in order:
-        rules, leads_in = step(links[number], managers[number], capture[number][at])
+        rules, leads_in, left = step(links[number], managers[number], capture[number][at])
         rows[number] += [(at, rule) for rule in rules]
         if leads_in:
             leads[number].add(at)
-    return rows, leads
+        for rule in left:
+            unjudged[rule] += 1
+    return rows, leads, {rule: count for rule, count in unjudged.items() if count}

@@ -5,10 +5,10 @@ use crate::pasts::inputs_left;
 use std::alloc::{AllocError, Global};
 use tl_check::Report;
 use tl_edits::Inputs;
-use tl_midway::{HeadsKnown, Midway, heads_known, lead_in_beats};
+use tl_midway::{Counts, HeadsKnown, Midway, RuleCount, counted_report, heads_known};
 use tl_rows::chan_text;
 use tl_script::AuditFault;
-use tl_tables::Chan;
+use tl_tables::{Chan, rule_text};
 use tl_topology::Topo;
 
 /// How many channels a link has.
@@ -39,28 +39,55 @@ fn lead_in_line(alloc: Global, count: u64) -> Result<String, AllocError> {
     )
 }
 
-/// Puts what rows of a capture from the middle of a run rest on after a text: the law by which they stand, and how many beats are in
-/// lead-ins.
-fn push_law(
+/// Puts how many beats a rule leaves unjudged after those of other rules; nothing where it leaves none.
+fn push_unjudged(
     alloc: Global,
-    inputs: &Inputs,
-    law: Midway,
-    notes: &mut String,
+    count: &RuleCount,
+    unjudged: &mut String,
 ) -> Result<(), AllocError> {
-    let line = lead_in_line(alloc, lead_in_beats(alloc, inputs, law)?)?;
-    notes.push_str(law_line(law))?;
-    notes.push_str(&line)
+    if count.beats == 0 {
+        return Ok(());
+    }
+    let (rule, beats) = (rule_text(count.rule), count.beats);
+    if !unjudged.is_empty() {
+        unjudged.push_str(", ")?;
+    }
+    unjudged.push_str(&format!(in alloc; "{rule} {beats}")?)
 }
 
-/// Puts what rows of what stands rest on after a text; nothing where the capture is a whole run's.
+/// How many beats each rule leaves unjudged, as a line.
+fn unjudged_line(alloc: Global, counts: &[RuleCount]) -> Result<String, AllocError> {
+    let mut unjudged = String::new(alloc);
+    for count in counts {
+        push_unjudged(alloc, count, &mut unjudged)?;
+    }
+    if unjudged.is_empty() {
+        format!(in alloc; "tlcheck: no rule left a beat unjudged for lack of what came before\n")
+    } else {
+        format!(in alloc;
+            "tlcheck: beats left unjudged for lack of what came before, by rule: {unjudged}\n"
+        )
+    }
+}
+
+/// Puts what rows of a capture from the middle of a run rest on after a text: the law by which they stand, how many beats are in
+/// lead-ins, and how many each rule leaves unjudged.
+fn push_law(alloc: Global, counts: &Counts, notes: &mut String) -> Result<(), AllocError> {
+    let lead_ins = lead_in_line(alloc, counts.lead_ins)?;
+    let unjudged = unjudged_line(alloc, &counts.unjudged)?;
+    notes.push_str(law_line(counts.law))?;
+    notes.push_str(&lead_ins)?;
+    notes.push_str(&unjudged)
+}
+
+/// Puts what rows of what stands rest on after a text; nothing where the capture is a whole run's, and so nothing is counted.
 pub(crate) fn push_midway(
     alloc: Global,
-    inputs: &Inputs,
-    midway: Option<Midway>,
+    counts: Option<&Counts>,
     notes: &mut String,
 ) -> Result<(), AllocError> {
-    match midway {
-        Some(law) => push_law(alloc, inputs, law, notes),
+    match counts {
+        Some(counts) => push_law(alloc, counts, notes),
         None => Ok(()),
     }
 }
@@ -110,8 +137,8 @@ pub(crate) fn heads_text(
     Ok(text)
 }
 
-/// What the rows of the last report of a script's run rest on: the law by which they stand, how many beats are in lead-ins, and with a
-/// summary from which cycle on heads are known. Without a report nothing of beats. The faults of an audit of its edits.
+/// What the rows of the last report of a script's run rest on: the law by which they stand, how many beats are in lead-ins and how many
+/// each rule leaves unjudged, and with a summary from which cycle on heads are known. Without a report nothing of beats. The faults of an audit of its edits.
 pub fn midway_notes(
     alloc: Global,
     topo: &Topo,
@@ -126,7 +153,8 @@ pub fn midway_notes(
         return Ok(notes);
     };
     let inputs = inputs_left(alloc, topo, script, Some(report.edit()))?;
-    push_law(alloc, &inputs, law, &mut notes)?;
+    let found = counted_report(alloc, &inputs, law)?;
+    push_law(alloc, &found.counts, &mut notes)?;
     if summary {
         notes.push_str(&heads_text(alloc, &inputs, Some(law))?)?;
     }

@@ -16,7 +16,7 @@ use tl_beats::{Fragment, Row};
 use tl_check::{Judges, all_added};
 use tl_edits::Inputs;
 use tl_formats::{Pick, Title, Waiver, WaiverFault, print_rows, read_waivers};
-use tl_midway::{Midway, midway_report};
+use tl_midway::{Counts, Midway, counted_report};
 use tl_options::{How, View};
 use tl_rows::Format;
 use tl_text::{ByteOut, CountedReader, TextFault, read_text, write_all};
@@ -59,6 +59,13 @@ pub(crate) struct Order<'a> {
     summary: bool,
     /// By which law they stand, where the capture is from the middle of a run.
     midway: Option<Midway>,
+}
+
+/// The rows of what stands, and of a capture from the middle of a run what is counted of its beats.
+#[derive(Drop)]
+struct Found {
+    rows: Vec<Row>,
+    counts: Option<Counts>,
 }
 
 /// What was written.
@@ -242,15 +249,10 @@ fn waiver_notes(
     Ok(notes)
 }
 
-/// What is told of these rows of what stands: of waivers, and of what rows rest on where nobody recorded the past.
-fn notes_of(
-    alloc: Global,
-    inputs: &Inputs,
-    order: &Order<'_>,
-    rows: &[Row],
-) -> Result<String, AllocError> {
-    let mut notes = waiver_notes(alloc, order.waive, &order.pick, rows)?;
-    push_midway(alloc, inputs, order.midway, &mut notes)?;
+/// What is told of the rows of what stands: of waivers, and of what rows rest on where nobody recorded the past.
+fn notes_of(alloc: Global, order: &Order<'_>, found: &Found) -> Result<String, AllocError> {
+    let mut notes = waiver_notes(alloc, order.waive, &order.pick, &found.rows)?;
+    push_midway(alloc, found.counts.as_ref(), &mut notes)?;
     Ok(notes)
 }
 
@@ -305,25 +307,47 @@ fn summary_of(alloc: Global, inputs: &Inputs, order: &Order<'_>, rows: &[Row]) -
     }
 }
 
-/// Writes those of these rows that are wanted.
+/// Writes those of the rows of what stands that are wanted.
 fn write_rows<O: ByteOut>(
     alloc: Global,
     title: Title,
     inputs: &Inputs,
     order: &Order<'_>,
-    rows: &[Row],
+    found: &Found,
     out: &mut O,
 ) -> Result<Written, Fault>
     requires out { O.failure_count out.old < 2 ^ 63 }
-    requires links { All (λ row. row.link < length inputs.now.topo.links) rows.now }
+    requires links { All (λ row. row.link < length inputs.now.topo.links) found.now.rows.items }
 {
-    let notes = notes_of(alloc, inputs, order, rows)?;
-    let count = write_left(alloc, title, inputs, order, rows, out)?;
+    let notes = notes_of(alloc, order, found)?;
+    let count = write_left(alloc, title, inputs, order, &found.rows, out)?;
     Ok(Written {
         rows: count,
         notes,
-        summary: summary_of(alloc, inputs, order, rows),
+        summary: summary_of(alloc, inputs, order, &found.rows),
     })
+}
+
+/// The rows of a capture from the middle of a run that stand by a law, and what is counted of its beats.
+fn midway_found(alloc: Global, inputs: &Inputs, law: Midway) -> Result<Found, AllocError>
+    ensures { IfOk result (λ found. All (λ row. row.link < length inputs.now.topo.links) found.rows.items) }
+{
+    let report = counted_report(alloc, inputs, law)?;
+    Ok(Found {
+        rows: report.rows,
+        counts: Some(report.counts),
+    })
+}
+
+/// All rows of what stands.
+fn all_found<R: Threads + Sync + AllocGlobal>(
+    judges: &Judges<'_, R>,
+    inputs: &Inputs,
+) -> Result<Found, AllocError>
+    ensures { IfOk result (λ found. All (λ row. row.link < length inputs.now.topo.links) found.rows.items) }
+{
+    let rows = judges.scratch(inputs)?;
+    Ok(Found { rows, counts: None })
 }
 
 /// The rows of what stands: all, or of a capture from the middle of a run those that stand by a law.
@@ -331,12 +355,12 @@ fn rows_found<R: Threads + Sync + AllocGlobal>(
     judges: &Judges<'_, R>,
     inputs: &Inputs,
     midway: Option<Midway>,
-) -> Result<Vec<Row>, AllocError>
-    ensures { IfOk result (λ rows. All (λ row. row.link < length inputs.now.topo.links) rows.items) }
+) -> Result<Found, AllocError>
+    ensures { IfOk result (λ found. All (λ row. row.link < length inputs.now.topo.links) found.rows.items) }
 {
     match midway {
-        Some(law) => midway_report(judges.alloc(), inputs, law),
-        None => judges.scratch(inputs),
+        Some(law) => midway_found(judges.alloc(), inputs, law),
+        None => all_found(judges, inputs),
     }
 }
 
@@ -350,8 +374,8 @@ fn write_found<R: Threads + Sync + AllocGlobal, O: ByteOut>(
 ) -> Result<Written, Fault>
     requires { O.failure_count out.old < 2 ^ 63 }
 {
-    let rows = rows_found(judges, inputs, order.midway)?;
-    write_rows(judges.alloc(), title, inputs, order, &rows, out)
+    let found = rows_found(judges, inputs, order.midway)?;
+    write_rows(judges.alloc(), title, inputs, order, &found, out)
 }
 
 /// Writes those rows of the report of fragments that are wanted.

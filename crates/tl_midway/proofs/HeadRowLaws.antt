@@ -52,7 +52,7 @@ module _ (m : Manager) (start : Beginning) (before : List Placed) (state : Known
   f = front m start before
 
   -- What is asked of any client is asked of any link that the state has.
-  over_clients : (test : LinkPast → Bool) (of : ℕ → Bool) → ((link : LinkPast) → known_link.StandsFor m start link.number link.past before → test link ≡ of link.number)
+  pub over_clients : (test : LinkPast → Bool) (of : ℕ → Bool) → ((link : LinkPast) → known_link.StandsFor m start link.number link.past before → test link ≡ of link.number)
       → list_any test state.links.items ≡ list_any of m.clients
   over_clients test of same =
       any_each test (λ link. of link.number) state.links.items (λ k d below. same (get_or state.links.items k d) (stands.each k d below))
@@ -74,7 +74,7 @@ module _ (m : Manager) (start : Beginning) (before : List Placed) (state : Known
       over_clients (λ own. has_open_grant own.past block) (λ client. grant_open f client block)
       (λ own stood. grant_stands m start own.number before own.past block stood)
 
-  across_stands : (link : ℕ) (request : Known (Option Request)) (message : Message) (r : Rule)
+  pub across_stands : (link : ℕ) (request : Known (Option Request)) (message : Message) (r : Rule)
       → breaks_shown_manager state link request message r ≡ breaks_manager_surely m.clients m.exponent pasts (grant_open f) link request message r
   across_stands link request message rule.M1 =
       λ i. is_grant message.op && surely (λ answered. option_map_or (λ claimed. conflict_stands link claimed i) (claim (stands.exponent i) (answering message answered)) false) request

@@ -1,6 +1,5 @@
--- Beats of lead-ins: whether one is, and how many are.
-use Rattle.std.proofs.Common.{◌≡◌, inl, inr, ℕ, ◌+◌, ◌&&◌, not, Bool, true, false, None, List, [], ◌∷◌, get_or, Some, if◌then◌else◌, refl, sym, ap, subst, ◌∙◌, arith}
-use Rattle.std.specs.Io.Iter.{u64_saturate}
+-- Beats of lead-ins: whether one is, and where they end.
+use Rattle.std.proofs.Common.{◌≡◌, inl, inr, ℕ, ◌&&◌, not, Bool, true, false, None, List, [], ◌∷◌, get_or, Some, if◌then◌else◌, sym, ap, subst, ◌∙◌}
 use Rattle.std.specs.List.{Contains}
 use Rattle.tl_tables.specs.declared.Chan.{Chan}
 use Rattle.tl_tables.specs.Messages.{same_chan}
@@ -11,8 +10,7 @@ use Rattle.tl_definitions.specs.Readings.{in_lead_in, readings_after}
 use Rattle.tl_definitions.specs.Rules.{Manager}
 use Rattle.tl_definitions.proofs.Lists.{contains_cases, contains_none}
 use Rattle.tl_client_rules.specs.Clients.{place_of}
-use Rattle.tl_client_rules.proofs.ClientsLaws.{contained_place}
-use Rattle.tl_midway.specs.LeadIns.{leads_in, leading_after, first_sure}
+use Rattle.tl_midway.specs.LeadIns.{leads_in, first_sure}
 use Rattle.tl_midway.specs.LinkReadings as link_readings
 use Rattle.tl_midway.specs.LinkReadings.{channel_of}
 use Rattle.tl_midway.specs.ManagerReadings.{HasPlace, StandsFor, numbers_of}
@@ -20,80 +18,52 @@ use Rattle.tl_midway.specs.Readings as channel
 use Rattle.tl_midway.specs.Readings.{shown_readings}
 use Rattle.tl_midway.specs.declared.link_readings.LinkReadings.{LinkReadings}
 use Rattle.tl_midway.specs.declared.manager_readings.ManagerReadings.{ManagerReadings}
+use Rattle.tl_midway.specs.declared.readings.Readings.{Readings}
 use Rattle.tl_midway.proofs.PlaceLaws.{inside, own_number}
 use Rattle.tl_midway.proofs.ReadingLaws.{lead_same}
 
 abbrev number : LinkReadings → ℕ
 number link = link.number
 
+abbrev NextOn : Manager → Beginning → List Placed → Placed → Readings → Type 0
+NextOn m start before p readings =
+    channel.StandsFor (m.links p.link) (start.most p.link p.beat.chan) start.by_fields readings (before_on p.link p.beat.chan before)
+
+link_channel : (m : Manager) (start : Beginning) (before : List Placed) (p : Placed) (own : LinkReadings) → own.number ≡ p.link → link_readings.StandsFor m start own before
+    → NextOn m start before p (channel_of own p.beat.chan)
+link_channel m start before p own owns each =
+    subst (λ n. channel.StandsFor (m.links n) (start.most n p.beat.chan) start.by_fields (channel_of own p.beat.chan) (before_on n p.beat.chan before)) owns (each p.beat.chan)
+
 link_leads_in : (m : Manager) (start : Beginning) (before : List Placed) (p : Placed) (own : LinkReadings) → own.number ≡ p.link → link_readings.StandsFor m start own before
     → in_lead_in (shown_readings (channel_of own p.beat.chan)) ≡ leads_in m start before p
 link_leads_in m start before p own owns each =
-    let known : channel.StandsFor (m.links p.link) (start.most p.link p.beat.chan) start.by_fields (channel_of own p.beat.chan) (before_on p.link p.beat.chan before) =
-    subst (λ n. channel.StandsFor (m.links n) (start.most n p.beat.chan) start.by_fields (channel_of own p.beat.chan) (before_on n p.beat.chan before)) owns (each p.beat.chan) in
-    lead_same (shown_readings (channel_of own p.beat.chan)) (readings_after (m.links p.link) (start.most p.link p.beat.chan) start.by_fields (before_on p.link p.beat.chan before)) known.members
+    lead_same (shown_readings (channel_of own p.beat.chan)) (readings_after (m.links p.link) (start.most p.link p.beat.chan) start.by_fields (before_on p.link p.beat.chan before))
+    (link_channel m start before p own owns each).members
+
+module _ (m : Manager) (start : Beginning) (before : List Placed) (p : Placed) (state : ManagerReadings) (place : ℕ) (own : LinkReadings) (at : place_of p.link (numbers_of state) ≡ Some place)
+    (has : HasPlace (numbers_of state) p.link) (here : own ≡ get_or state.links.items place own) (stands : StandsFor m start state before) where
+  owns : own.number ≡ p.link
+  owns = own_number number state.links.items p.link place own at (inside number state.links.items p.link place has at) here
+
+  each : link_readings.StandsFor m start own before
+  each = subst (λ s. link_readings.StandsFor m start s before) (sym here) (stands.each place own (inside number state.links.items p.link place has at))
+
+  pub own_leads : (result : Bool) → result ≡ in_lead_in (shown_readings (channel_of own p.beat.chan)) → result ≡ leads_in m start before p
+  own_leads result is = is ∙ link_leads_in m start before p own owns each
+
+  pub own_next : (result : Readings) → result ≡ channel_of own p.beat.chan → NextOn m start before p result
+  own_next result is = subst (NextOn m start before p) (sym is) (link_channel m start before p own owns each)
 
 pub own_leads_in : (m : Manager) (start : Beginning) (before : List Placed) (p : Placed) (state : ManagerReadings) (place : ℕ) (own : LinkReadings) (result : Bool)
     → place_of p.link (numbers_of state) ≡ Some place → HasPlace (numbers_of state) p.link → own ≡ get_or state.links.items place own
     → result ≡ in_lead_in (shown_readings (channel_of own p.beat.chan)) → StandsFor m start state before → result ≡ leads_in m start before p
-own_leads_in m start before p state place own result at has here is stands =
-    let within = inside number state.links.items p.link place has at in
-    let owns : own.number ≡ p.link = own_number number state.links.items p.link place own at within here in
-    let each : link_readings.StandsFor m start own before = subst (λ s. link_readings.StandsFor m start s before) (sym here) (stands.each place own within) in
-    is ∙ link_leads_in m start before p own owns each
+own_leads_in m start before p state place own result at has here is stands = own_leads m start before p state place own at has here stands result is
 
--- ---- counts
-
--- The state stands for the beats so far; the count is theirs, and with that of the beats that are left it is that of all.
-abbrev pub IsOn : Manager → Beginning → ManagerReadings → ℕ → List Placed → List Placed → Type 0
-IsOn m start state count rest all = (before : List Placed) × (n : ℕ) × StandsFor m start state before × (count ≡ u64_saturate n)
-    × (n + leading_after m start before rest ≡ leading_after m start [] all)
-
-zero_plus : (n : ℕ) → 0 + n ≡ n
-zero_plus n = omega arith
-
-pub begun : (m : Manager) (start : Beginning) (state : ManagerReadings) (rest all : List Placed) → StandsFor m start state [] → rest ≡ all → IsOn m start state 0 rest all
-begun m start state rest all stands is = ([], 0, stands, refl, zero_plus (leading_after m start [] rest) ∙ ap (leading_after m start []) is)
-
-saturated_more : (count n k : ℕ) → count ≡ u64_saturate n → u64_saturate (count + k) ≡ u64_saturate (n + k)
-saturated_more count n k is = omega (arith, is)
-
-pub saturated_sum : (a b n k : ℕ) → a ≡ u64_saturate n → b ≡ u64_saturate k → u64_saturate (a + b) ≡ u64_saturate (n + k)
-saturated_sum a b n k is own = omega (arith, is, own)
-
-plus_assoc : (n k l : ℕ) → n + k + l ≡ n + (k + l)
-plus_assoc n k l = omega arith
-
-pub one_beat_more : (m : Manager) (start : Beginning) (old new : ManagerReadings) (count more : ℕ) (leads : Bool) (p : Placed) (now rest all : List Placed) → now ≡ p ∷ rest
-    → more ≡ u64_saturate (count + (if leads then 1 else 0))
-    → ((before : List Placed) → StandsFor m start old before → leads ≡ leads_in m start before p)
-    → ((before : List Placed) → StandsFor m start old before → StandsFor m start new (p ∷ before)) → IsOn m start old count now all → IsOn m start new more rest all
-one_beat_more m start old new count more leads p now rest all steps put is next on =
-    let before : List Placed = on.0 in
-    let n : ℕ = on.1 in
-    let k : ℕ = if leads_in m start before p then 1 else 0 in
-    let same : more ≡ u64_saturate (count + k) = put ∙ ap (λ (b : Bool). u64_saturate (count + (if b then 1 else 0))) (is before on.2) in (
-      p ∷ before,
-      n + k,
-      next before on.2,
-      same ∙ saturated_more count n k on.3,
-      plus_assoc n k (leading_after m start (p ∷ before) rest) ∙ sym (ap (λ ps. n + leading_after m start before ps) steps) ∙ on.4,
-    )
-
-pub done : (m : Manager) (start : Beginning) (state : ManagerReadings) (count : ℕ) (now all : List Placed) → now ≡ [] → IsOn m start state count now all
-    → count ≡ u64_saturate (leading_after m start [] all)
-done m start state count now all none on =
-    on.3 ∙ ap u64_saturate (plus_zero on.1 ∙ sym (ap (λ ps. on.1 + leading_after m start on.0 ps) none) ∙ on.4)
-  where
-    plus_zero : (n : ℕ) → n ≡ n + 0
-    plus_zero n = omega arith
-
--- ---- links of the manager
-
-pub has_place : (m : Manager) (start : Beginning) (state : ManagerReadings) (link : ℕ) (before : List Placed) → StandsFor m start state before → Contains m.clients link
-    → HasPlace (numbers_of state) link
-has_place m start state link before stands has =
-    subst (λ ns. HasPlace ns link) (sym stands.clients) (contained_place m.clients link stands.rises has)
+pub own_channel : (m : Manager) (start : Beginning) (before : List Placed) (p : Placed) (state : ManagerReadings) (place : ℕ) (own : LinkReadings) (result : Readings)
+    → place_of p.link (numbers_of state) ≡ Some place → HasPlace (numbers_of state) p.link → own ≡ get_or state.links.items place own
+    → result ≡ channel_of own p.beat.chan → StandsFor m start state before
+    → channel.StandsFor (m.links p.link) (start.most p.link p.beat.chan) start.by_fields result (before_on p.link p.beat.chan before)
+own_channel m start before p state place own result at has here is stands = own_next m start before p state place own at has here stands result is
 
 -- ---- the first beat that is in no lead-in
 

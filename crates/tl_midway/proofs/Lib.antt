@@ -18,3 +18,7 @@ pub mod StateLaws
 pub mod WalkLaws
 pub mod LeadInLaws
 pub mod MidwayReportLaws
+pub mod UnjudgedLaws
+pub mod AskedLaws
+pub mod UnjudgedStandLaws
+pub mod CountsLaws

@@ -79,7 +79,7 @@ and_true : (b : Bool) → (b && true) ≡ b
 and_true true = refl
 and_true false = refl
 
-only_due : (readings : List Reading) → must_begin readings ≡ true → may_begin readings ≡ true → SameMembers readings (due ∷ [])
+pub only_due : (readings : List Reading) → must_begin readings ≡ true → may_begin readings ≡ true → SameMembers readings (due ∷ [])
 only_due readings must may = record {
   there = λ x c. subst (Contains (due ∷ [])) (sym (due_is x (all_pass is_due readings x must c))) (contains_here due []);
   back = λ x c. elim (contains_cases due [] x c) [
@@ -152,7 +152,7 @@ module _ (m : Manager) (f : Front) (p : Placed) where
   ]
 
   -- A head breaks F5, F7 and U1 as a later beat of itself.
-  agree_f5 : (x : Reading) → breaks_by m f p rule.F5 x ≡ breaks_as link p.beat rule.F5 x
+  pub agree_f5 : (x : Reading) → breaks_by m f p rule.F5 x ≡ breaks_as link p.beat rule.F5 x
   agree_f5 due = elim (message_of link p.beat) as (λ found. option_map_or (λ o. breaks_surely m f p.link (bare o p.beat) rule.F5) found false ≡ option_map_or (λ o. breaks_later link o p.beat p.beat rule.F5) found false) [
     | None ↦ refl
     | Some o ↦ only_first (breaks_mask link o p.beat p.beat) false false false refl refl refl
@@ -160,7 +160,7 @@ module _ (m : Manager) (f : Front) (p : Placed) where
   agree_f5 (rest missing None) = refl
   agree_f5 (rest missing (Some head)) = refl
 
-  agree_f7 : (x : Reading) → breaks_by m f p rule.F7 x ≡ breaks_as link p.beat rule.F7 x
+  pub agree_f7 : (x : Reading) → breaks_by m f p rule.F7 x ≡ breaks_as link p.beat rule.F7 x
   agree_f7 due = elim (message_of link p.beat) as (λ found. option_map_or (λ o. breaks_surely m f p.link (bare o p.beat) rule.F7) found false ≡ option_map_or (λ o. breaks_later link o p.beat p.beat rule.F7) found false) [
     | None ↦ refl
     | Some o ↦ only_first (breaks_denied o p.beat p.beat) false false false refl refl refl
@@ -168,7 +168,7 @@ module _ (m : Manager) (f : Front) (p : Placed) where
   agree_f7 (rest missing None) = refl
   agree_f7 (rest missing (Some head)) = refl
 
-  agree_u1 : (x : Reading) → breaks_by m f p rule.U1 x ≡ breaks_as link p.beat rule.U1 x
+  pub agree_u1 : (x : Reading) → breaks_by m f p rule.U1 x ≡ breaks_as link p.beat rule.U1 x
   agree_u1 due = elim (message_of link p.beat) as (λ found. option_map_or (λ o. breaks_surely m f p.link (bare o p.beat) rule.U1) found false ≡ option_map_or (λ o. breaks_later link o p.beat p.beat rule.U1) found false) [
     | None ↦ refl
     | Some o ↦ sym (ap not (alike_itself p.beat))
@@ -183,20 +183,20 @@ module _ (m : Manager) (f : Front) (p : Placed) where
   is_later _ = false
 
   -- A later beat breaks no other rule.
-  nothing_else : (r : Rule) → is_later r ≡ false → (missing : ℕ) (head : Option Beat) → breaks_by m f p r (rest missing head) ≡ false
+  pub nothing_else : (r : Rule) → is_later r ≡ false → (missing : ℕ) (head : Option Beat) → breaks_by m f p r (rest missing head) ≡ false
   nothing_else rule.F5 h missing head = cc
   nothing_else rule.F7 h missing head = cc
   nothing_else rule.U1 h missing head = cc
   nothing_else _ h missing None = refl
   nothing_else _ h missing (Some head) = elim (message_of link head) as (λ found. option_map_or (λ (o : Op). false) found false ≡ false) [ None ↦ refl | Some o ↦ refl ]
 
-  one_fails : (test : Reading → Bool) (readings : List Reading) (x : Reading) → Contains readings x → test x ≡ false → list_all test readings ≡ false
+  pub one_fails : (test : Reading → Bool) (readings : List Reading) (x : Reading) → Contains readings x → test x ≡ false → list_all test readings ≡ false
   one_fails test readings x c h = elim (list_all test readings) as (λ b. list_all test readings ≡ b → b ≡ false) [
     | true ↦ λ e. (let passes : test x ≡ true = all_pass test readings x e c in cc)
     | false ↦ λ e. refl
   ] refl
 
-  some_fails : (readings : List Reading) → must_begin readings ≡ false → (x : Reading) × Contains readings x × (is_due x ≡ false)
+  pub some_fails : (readings : List Reading) → must_begin readings ≡ false → (x : Reading) × Contains readings x × (is_due x ≡ false)
   some_fails [] h = cc
   some_fails (x ∷ readings) h = elim (is_due x) as (λ b. is_due x ≡ b → (b && must_begin readings) ≡ false → (y : Reading) × Contains (x ∷ readings) y × (is_due y ≡ false)) [
     | true ↦ λ e g. (let found = some_fails readings g in (found.0, contains_there x readings found.0 found.1, found.2))

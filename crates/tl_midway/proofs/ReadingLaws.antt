@@ -222,7 +222,7 @@ from_all : (kept all : List Reading) (z : Reading) → ((y : Reading) → Contai
 from_all [] all z f c = c
 from_all (y ∷ kept) all z f c = f z c
 
-told_from : (by_fields : Bool) (link : LinkDecl) (beat : Beat) (before : List Beat) (readings : List Reading) (z : Reading)
+pub told_from : (by_fields : Bool) (link : LinkDecl) (beat : Beat) (before : List Beat) (readings : List Reading) (z : Reading)
     → Contains (told by_fields link beat before readings) z → Contains readings z
 told_from by_fields link beat before readings z c =
     let keep : Reading → Bool = λ reading. not (is_refuted link beat before reading) in

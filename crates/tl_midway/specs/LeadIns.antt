@@ -1,17 +1,14 @@
--- Lead-ins of a capture: how many beats are in them, and where they end. By what the capture has before a beat of a lead-in, two
+-- Lead-ins of a capture: which beats are in them, and where they end. By what the capture has before a beat of a lead-in, two
 -- readings of its channel differ in how many beats are missing. So it isn't certain where the channel's next message begins.
-use Rattle.std.specs.Prelude.{ℕ, zero, suc, ◌+◌, ◌&&◌, not, Bool, List, [], ◌∷◌, ◌++◌, length, map, Option, Some, None, if◌then◌else◌}
+use Rattle.std.specs.Prelude.{ℕ, zero, suc, ◌&&◌, not, Bool, List, [], ◌∷◌, ◌++◌, length, map, Option, Some, None, if◌then◌else◌}
 use Rattle.tl_tables.specs.declared.Chan.{Chan}
 use Rattle.tl_tables.specs.declared.Chan.TheVariants as chan
 use Rattle.tl_tables.specs.Messages.{same_chan}
-use Rattle.tl_topology.specs.Regions.{Area}
-use Rattle.tl_topology.specs.Topology.{Topology}
 use Rattle.tl_beats.specs.declared.Placed.{Placed}
-use Rattle.tl_definitions.specs.Captures.{manager_beats}
 use Rattle.tl_definitions.specs.Heads.{before_on}
 use Rattle.tl_definitions.specs.Known.{Beginning}
 use Rattle.tl_definitions.specs.Managers.{declared_links, manager_at}
-use Rattle.tl_definitions.specs.Positions.{Recorded, beats_of_all, links_of}
+use Rattle.tl_definitions.specs.Positions.{beats_of_all, links_of}
 use Rattle.tl_definitions.specs.Readings.{in_lead_in, readings_after}
 use Rattle.tl_definitions.specs.Rules.{Manager}
 use Rattle.tl_edits.specs.Inputs.{InputData}
@@ -24,28 +21,6 @@ use Rattle.tl_midway.specs.declared.midway.Midway.{Midway}
 abbrev pub leads_in : Manager → Beginning → List Placed → Placed → Bool
 leads_in m start before p =
     in_lead_in (readings_after (m.links p.link) (start.most p.link p.beat.chan) start.by_fields (before_on p.link p.beat.chan before))
-
--- How many of these beats in their order are, that come after others of the capture.
-abbrev pub leading_after : Manager → Beginning → List Placed → List Placed → ℕ
-leading_after m start before [] = 0
-leading_after m start before (p ∷ beats) = (if leads_in m start before p then 1 else 0) + leading_after m start (p ∷ before) beats
-
--- Of all beats of a manager, where its capture begins so.
-abbrev pub leading : Midway → Manager → List Placed → ℕ
-leading law m beats = leading_after m (beginning_of law m) [] beats
-
--- Of the beats of the manager with this number, with its regions.
-abbrev pub manager_leading : Midway → Topology → (ℕ → List Area) → List Recorded → ℕ → ℕ
-manager_leading law topo regions fs manager = leading law (manager_at topo manager (regions manager)) (manager_beats topo fs manager)
-
--- Of the beats of the first so many managers.
-abbrev pub managers_leading : Midway → Topology → (ℕ → List Area) → List Recorded → ℕ → ℕ
-managers_leading law topo regions fs zero = 0
-managers_leading law topo regions fs (suc count) = managers_leading law topo regions fs count + manager_leading law topo regions fs count
-
--- Of all beats that edits leave.
-abbrev pub lead_in_count : Midway → InputData → ℕ
-lead_in_count law now = managers_leading law now.topo (areas_at now.regions) now.fragments (length now.topo.managers)
 
 -- The cycle of the first of these beats that is on a channel and in no lead-in, where others of the capture come before them.
 abbrev pub first_sure : Manager → Beginning → Chan → List Placed → List Placed → Option ℕ

@@ -16,3 +16,7 @@ pub mod State
 pub mod Walked
 pub mod Report
 pub mod LeadIns
+pub mod Counts
+pub mod Unjudged
+pub mod Asked
+pub mod Counted

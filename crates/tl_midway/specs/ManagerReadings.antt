@@ -5,14 +5,17 @@ use Rattle.std.specs.List.Sorted.{IsStrictlySortedBy}
 use Rattle.std.specs.Ordering.{nat_cmp}
 use Rattle.tl_topology.specs.declared.LinkDecl.{LinkDecl}
 use Rattle.tl_beats.specs.declared.Placed.{Placed}
+use Rattle.tl_definitions.specs.Heads.{before_on}
 use Rattle.tl_definitions.specs.Rules.{Manager}
 use Rattle.tl_definitions.specs.Known.{Beginning, readings_of}
 use Rattle.tl_client_rules.specs.Clients.{place_of}
 use Rattle.tl_midway.specs.LeadIns.{leads_in}
 use Rattle.tl_midway.specs.LinkReadings as link_readings
+use Rattle.tl_midway.specs.Readings as channel
 use Rattle.tl_midway.specs.Standing.{IsStanding}
 use Rattle.tl_midway.specs.declared.link_readings.LinkReadings.{LinkReadings}
 use Rattle.tl_midway.specs.declared.manager_readings.ManagerReadings.{ManagerReadings}
+use Rattle.tl_midway.specs.declared.readings.Readings.{Readings}
 use Rattle.tl_midway.specs.declared.standing.Standing.{Standing}
 
 -- The link is among those with these numbers.
@@ -43,3 +46,8 @@ Takes link p old result new = (m : Manager) (start : Beginning) (before : List P
 -- Of whatever manager and whatever beats of it the state stands for: whether the next beat is in its channel's lead-in.
 abbrev pub LeadsIn : Placed → ManagerReadings → Bool → Type 0
 LeadsIn p state result = (m : Manager) (start : Beginning) (before : List Placed) → StandsFor m start state before → result ≡ leads_in m start before p
+
+-- Of whatever manager and whatever beats of it the state stands for: these are the readings of the channel of this beat.
+abbrev pub OnChannel : Placed → ManagerReadings → Readings → Type 0
+OnChannel p state result = (m : Manager) (start : Beginning) (before : List Placed) → StandsFor m start state before
+    → channel.StandsFor (m.links p.link) (start.most p.link p.beat.chan) start.by_fields result (before_on p.link p.beat.chan before)

@@ -10,6 +10,7 @@ use Rattle.tl_definitions.specs.Heads.{message_of}
 use Rattle.tl_definitions.specs.Breaks.{is_alike, breaks_later}
 use Rattle.tl_definitions.specs.Readings.{Reading, due, rest, or_all}
 use Rattle.tl_definitions.specs.Printed.{breaks_past}
+use Rattle.tl_midway.specs.Unjudged.{may_break_past}
 use Rattle.tl_midway.specs.declared.reading.Reading.{Reading as Kept}
 use Rattle.tl_midway.specs.declared.reading.Reading.TheVariants as kept
 
@@ -46,3 +47,9 @@ abbrev pub breaks_as : LinkDecl → Beat → Rule → Reading → Bool
 breaks_as link beat r due = option_map_or (λ o. breaks_later link o beat beat r) (message_of link beat) false
 breaks_as link beat r (rest missing None) = breaks_past link beat r
 breaks_as link beat r (rest missing (Some head)) = option_map_or (λ o. breaks_later link o head beat r) (message_of link head) false
+
+-- The beat may break such a rule by a reading.
+abbrev pub may_as : LinkDecl → Beat → Rule → Reading → Bool
+may_as link beat r (rest missing None) = may_break_past beat r
+may_as link beat r due = breaks_as link beat r due
+may_as link beat r (rest missing (Some head)) = breaks_as link beat r (rest missing (Some head))

@@ -1,12 +1,12 @@
 -- What a beat is by its readings.
-use Rattle.std.specs.Prelude.{◌≡◌, Bool, true, false, List, ◌∷◌, filter, map}
-use Rattle.std.specs.List.{list_all}
+use Rattle.std.specs.Prelude.{◌≡◌, ◌&&◌, not, Bool, true, false, List, ◌∷◌, filter, map}
+use Rattle.std.specs.List.{list_any, list_all}
 use Rattle.tl_tables.specs.declared.Rule.{Rule}
 use Rattle.tl_topology.specs.declared.LinkDecl.{LinkDecl}
 use Rattle.tl_beats.specs.declared.Beat.{Beat}
 use Rattle.tl_definitions.specs.Breaks.{later_order}
 use Rattle.tl_definitions.specs.Readings.{Reading, may_begin, must_begin, reading_after, told}
-use Rattle.tl_midway.specs.Reading.{breaks_as}
+use Rattle.tl_midway.specs.Reading.{breaks_as, may_as}
 use Rattle.tl_midway.specs.Readings.{Has}
 use Rattle.tl_midway.specs.declared.readings.Readings.{Readings}
 use Rattle.tl_midway.specs.declared.standing.Standing.{Standing}
@@ -34,3 +34,7 @@ abbrev pub Takes : LinkDecl → Bool → Beat → Readings → Standing → Read
 Takes link by_fields beat old result new = (readings : List Reading) (before : List Beat) → Has old readings before
     → IsStanding link beat (told by_fields link beat before readings) result
     × Has new (map (reading_after link beat) (told by_fields link beat before readings)) (beat ∷ before)
+
+-- Some readings of a beat let it break the rule of later beats, and not by each it surely does.
+abbrev pub later_open : LinkDecl → Beat → Rule → List Reading → Bool
+later_open link beat r readings = list_any (may_as link beat r) readings && not (list_all (breaks_as link beat r) readings)

@@ -3,6 +3,7 @@
 ghost use Rattle.std.specs.Prelude.{◌≡◌, is_some, is_none};
 ghost use Rattle.tl_definitions.specs.Known.{surely};
 ghost use Rattle.tl_midway.specs.Known.{known_of, opened, closed, shut};
+ghost use Rattle.tl_midway.specs.Unjudged.{is_unknown};
 
 /// A value that is known, or isn't.
 #[derive(Clone, Copy, Debug)]
@@ -11,6 +12,16 @@ pub enum Known<V> {
     Unknown,
     /// It is this.
     Sure(V),
+}
+
+/// Whether nothing is known of the value.
+pub fn is_unknown<V: Copy>(value: Known<V>) -> bool
+    ensures { result ≡ is_unknown (known_of value) }
+{
+    match value {
+        Known::Unknown => true,
+        Known::Sure(_) => false,
+    }
 }
 
 /// Whether an entry is known to be open.

@@ -1,4 +1,4 @@
-//! Lead-ins: how many beats of a capture came before the heads of their channel were known, and from which cycle on these are.
+//! Lead-ins: from which cycle on the heads of each channel are known.
 
 ghost use Rattle.std.specs.Prelude.{◌≡◌, ◌+◌, ◌<◌, ◌&&◌, not, List, [], ◌∷◌, length, map, if◌then◌else◌, IfOk};
 ghost use Rattle.std.specs.Io.Iter.{u64_saturate};
@@ -12,21 +12,19 @@ ghost use Rattle.tl_definitions.specs.Managers.{declared_links, manager_at};
 ghost use Rattle.tl_definitions.specs.Positions.{clients_of};
 ghost use Rattle.tl_definitions.specs.Readings.{in_lead_in};
 ghost use Rattle.tl_definitions.specs.Rules.{Manager};
-ghost use Rattle.tl_midway.specs.LeadIns.{leading, lead_in_count, first_sure, known_from, channel_heads, all_heads};
+ghost use Rattle.tl_midway.specs.LeadIns.{first_sure, known_from, channel_heads, all_heads};
 ghost use Rattle.tl_midway.specs.LinkReadings.{channel_of};
 ghost use Rattle.tl_midway.specs.Midway.{beginning_of};
 ghost use Rattle.tl_midway.specs.Readings.{shown_readings};
 
 use crate::link_readings::LinkReadings;
-use crate::manager_readings::ManagerReadings;
 use crate::midway::Midway;
 use std::alloc::{AllocError, Global};
 use tl_beats::Beat;
-use tl_capture::{Merged, Present};
-use tl_client_rules::clients_of;
+use tl_capture::Merged;
 use tl_edits::Inputs;
 use tl_tables::Chan;
-use tl_topology::{LinkDecl, Topo};
+use tl_topology::LinkDecl;
 
 /// From which cycle on the heads of a link's channel are known.
 #[derive(Clone, Copy, Debug, PartialEq, Eq)]
@@ -37,69 +35,6 @@ pub struct HeadsKnown {
     pub chan: Chan,
     /// The cycle of its first beat that is in no lead-in; None where it has no such beat.
     pub cycle: Option<u64>,
-}
-
-/// One more, where it counts.
-fn one_more(count: u64, counts: bool) -> u64
-    ensures { result ≡ u64_saturate (count + (if counts then 1 else 0)) }
-{
-    if counts {
-        count.saturating_add(1)
-    } else {
-        count
-    }
-}
-
-/// How many beats of a walk over a manager's beats are in lead-ins.
-fn walked_lead_ins<'a>(
-    alloc: Global,
-    topo: &Topo,
-    manager: u16,
-    law: Midway,
-    walk: Merged<'a>,
-) -> Result<u64, AllocError>
-    requires formed { All (λ p. IsWellFormed p.beat) walk }
-    requires linked { All (λ p. Contains (clients_of manager (declared_links topo.now)) p.link) walk }
-    ensures { (regions : List Area) → IfOk result (λ count. count ≡ u64_saturate (leading law (manager_at topo.now manager regions) walk.entry)) }
-{
-    let mut readings = ManagerReadings::new(alloc, topo, manager, law)?;
-    let mut count = 0;
-    for at in walk {
-        count = one_more(count, readings.in_lead_in(&at));
-        let link = topo.link(at.link).unwrap();
-        drop(readings.take(alloc, link, &at));
-    }
-    Ok(count)
-}
-
-/// How many beats of a manager are in lead-ins.
-fn manager_lead_ins(
-    alloc: Global,
-    topo: &Topo,
-    present: &Present,
-    manager: u16,
-    law: Midway,
-) -> Result<u64, AllocError>
-    ensures { (regions : List Area) → IfOk result (λ count. count ≡ u64_saturate (leading law (manager_at topo.now manager regions) (manager_beats topo.now present.now manager))) }
-{
-    let links = clients_of(alloc, topo, manager)?;
-    let walk = present.walk(alloc, &links)?;
-    walked_lead_ins(alloc, topo, manager, law, walk)
-}
-
-/// How many beats that edits leave are in lead-ins, where the capture begins in the middle of a run: before them the heads of their
-/// channel aren't known yet. It saturates at 2^64 - 1. AllocError where memory is refused.
-pub fn lead_in_beats(alloc: Global, inputs: &Inputs, law: Midway) -> Result<u64, AllocError>
-    ensures { IfOk result (λ count. count ≡ u64_saturate (lead_in_count law inputs.now)) }
-{
-    let topo = inputs.topo();
-    let present = inputs.present();
-    let mut count = 0u64;
-    for manager in 0..topo.manager_count() {
-        let own = manager_lead_ins(alloc, topo, present, manager as u16, law)?;
-        count = count.saturating_add(own);
-    }
-    Ok(count)
 }
 
 /// Whether the next beat of a link, which is this one, is on a channel and in no lead-in.

@@ -1,12 +1,16 @@
 //! Captures that begin in the middle of a run: what the next beat of a channel may be, and what is known of a link's past.
 #![tactic(auto)]
 
+mod asks;
 mod counted;
+mod counting;
+mod counts;
 mod known;
 mod known_bounds;
 mod known_link;
 mod known_pasts;
 mod known_rules;
+pub mod laws;
 mod lead_ins;
 mod link_readings;
 mod manager_readings;
@@ -19,13 +23,16 @@ mod seen;
 mod standing;
 mod state;
 mod table;
+mod unjudged;
 mod walked;
 
+pub use counting::{CountedReport, counted_report};
+pub use counts::{Counts, RuleCount};
 pub use known::Known;
 pub use known_bounds::Possible;
 pub use known_link::KnownLink;
 pub use known_pasts::{KnownPasts, LinkPast};
-pub use lead_ins::{HeadsKnown, heads_known, lead_in_beats};
+pub use lead_ins::{HeadsKnown, heads_known};
 pub use link_readings::LinkReadings;
 pub use manager_readings::ManagerReadings;
 pub use midway::Midway;

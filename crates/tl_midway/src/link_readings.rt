@@ -49,6 +49,19 @@ impl LinkReadings {
         })
     }
 
+    /// The readings of a channel.
+    pub fn channel(&self, chan: Chan) -> &Readings
+        ensures { result.now ≡ channel_of self.now chan }
+    {
+        match chan {
+            Chan::A => &self.a,
+            Chan::B => &self.b,
+            Chan::C => &self.c,
+            Chan::D => &self.d,
+            Chan::E => &self.e,
+        }
+    }
+
     /// Whether the heads of a channel aren't known yet: by two readings another number of beats is missing.
     pub fn in_lead_in(&self, chan: Chan) -> bool
         ensures { result ≡ in_lead_in (shown_readings (channel_of self.now chan)) }

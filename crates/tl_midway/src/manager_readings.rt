@@ -15,6 +15,7 @@ ghost use Rattle.tl_midway.specs.declared.link_readings.LinkReadings.{LinkReadin
 
 use crate::link_readings::LinkReadings;
 use crate::midway::Midway;
+use crate::readings::Readings;
 use crate::standing::Standing;
 use std::alloc::{AllocError, Global};
 use tl_beats::Placed;
@@ -57,7 +58,8 @@ fn place_in(links: &[LinkReadings], link: u16) -> Option<usize>
 }
 
 impl ManagerReadings {
-    ghost use Rattle.tl_midway.specs.ManagerReadings.{StandsFor, Takes, AreKnown, LeadsIn, numbers_of};
+    ghost use Rattle.tl_midway.specs.Standing.{IsKnown};
+    ghost use Rattle.tl_midway.specs.ManagerReadings.{StandsFor, Takes, AreKnown, LeadsIn, OnChannel, numbers_of};
 
     /// The readings of the first beats of a manager's links, where its capture begins so. AllocError where memory is refused.
     pub fn new(
@@ -81,6 +83,17 @@ impl ManagerReadings {
         ensures { result ≡ place_of link (numbers_of self.now) }
     {
         place_in(&self.links, link)
+    }
+
+    /// The readings of the next beat of the manager, which is this one, whatever its fields are.
+    pub fn channel(&self, at: &Placed) -> &Readings
+        requires own { HasPlace (numbers_of self.now) at.now.link }
+        requires known { AreKnown self.now }
+        ensures stands { OnChannel at.now self.now result.now }
+        ensures known { IsKnown result.now }
+    {
+        let place = self.place(at.link).unwrap();
+        self.links[place].channel(at.beat.chan)
     }
 
     /// Whether the next beat of the manager, which is this one, is in its channel's lead-in.

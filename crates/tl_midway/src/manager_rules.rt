@@ -85,7 +85,7 @@ impl KnownPasts {
     }
 
     /// Whether a head with this message surely breaks the manager rule; no rule of another kind.
-    fn breaks(
+    pub(crate) fn breaks(
         &self,
         link: u16,
         op: Op,

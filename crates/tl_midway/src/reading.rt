@@ -8,7 +8,8 @@ ghost use Rattle.tl_definitions.specs.Heads.{message_of};
 ghost use Rattle.tl_definitions.specs.Breaks.{breaks_later};
 ghost use Rattle.tl_definitions.specs.Readings.{is_due, missing_of, lacking, reading_after};
 ghost use Rattle.tl_definitions.specs.Printed.{breaks_past};
-ghost use Rattle.tl_midway.specs.Reading.{shown_reading, refuted_by, breaks_as, IsFormed};
+ghost use Rattle.tl_midway.specs.Reading.{shown_reading, refuted_by, breaks_as, may_as, IsFormed};
+ghost use Rattle.tl_midway.specs.Unjudged.{may_break_past};
 
 use tl_beats::Beat;
 use tl_link_rules::{beat_count, breaks_later, is_alike};
@@ -105,6 +106,19 @@ impl Reading {
             } => breaks_after(link, head, beat, rule),
         }
     }
+
+    /// Whether the beat may break a rule of later beats by the reading: of a message of the past nobody knows the head.
+    pub fn may_break(&self, link: &LinkDecl, beat: &Beat, rule: Rule) -> bool
+        requires link { IsSound link.now }
+        requires beat { IsWellFormed beat.now }
+        requires head { IsFormed (shown_reading self.now) }
+        ensures { result ≡ may_as link.now beat.now rule (shown_reading self.now) }
+    {
+        match self {
+            Reading::Rest { head: None, .. } => may_break_past(beat, rule),
+            Reading::Due | Reading::Rest { head: Some(_), .. } => self.breaks(link, beat, rule),
+        }
+    }
 }
 
 /// Whether a later beat of this head breaks the rule. A head without a message has no later beats.
@@ -128,6 +142,18 @@ fn breaks_past(link: &LinkDecl, beat: &Beat, rule: Rule) -> bool
         Rule::F5 => matches!(beat.chan, Chan::A | Chan::B)
             && has_lane_beyond(link.width, beat.mask),
         Rule::F7 => beat.chan == Chan::D && beat.denied && !beat.corrupt,
+        _ => false,
+    }
+}
+
+/// Whether a later beat of a message of the past may break the rule, whatever its head was.
+fn may_break_past(beat: &Beat, rule: Rule) -> bool
+    ensures { result ≡ may_break_past beat.now rule }
+{
+    match rule {
+        Rule::F5 => matches!(beat.chan, Chan::A | Chan::B),
+        Rule::F7 => beat.chan == Chan::D && beat.denied && !beat.corrupt,
+        Rule::U1 => true,
         _ => false,
     }
 }

@@ -1,6 +1,6 @@
 //! The readings of the next beat of one channel, where the capture begins in the middle of a run.
 
-ghost use Rattle.std.specs.Prelude.{◌≡◌, ◌==◌, ℕ, not, Some, List, [], ◌∷◌, map, filter, option_map, IfOk};
+ghost use Rattle.std.specs.Prelude.{◌≡◌, ◌==◌, ℕ, not, true, Some, List, [], ◌∷◌, map, filter, option_map, IfOk};
 ghost use Rattle.std.specs.List.{All, find, list_any, list_all};
 ghost use Rattle.tl_topology.specs.Topology.{IsSound};
 ghost use Rattle.tl_beats.specs.Beats.{IsWellFormed};
@@ -8,7 +8,8 @@ ghost use Rattle.tl_beats.specs.declared.Beat.{Beat as AnyBeat};
 ghost use Rattle.tl_definitions.specs.Breaks.{later_order};
 ghost use Rattle.tl_definitions.specs.Readings.{due, rest, is_due, missing_of, reading_after, first_readings, may_begin, must_begin, in_lead_in, told};
 ghost use Rattle.tl_midway.specs.Members.{SameMembers};
-ghost use Rattle.tl_midway.specs.Reading.{shown_reading, is_kept, kept_of, breaks_as, IsFormed, AreFormed};
+ghost use Rattle.tl_midway.specs.Reading.{shown_reading, is_kept, kept_of, breaks_as, may_as, IsFormed, AreFormed};
+ghost use Rattle.tl_midway.specs.Standing.{later_open};
 ghost use Rattle.tl_midway.specs.Seen.{Tells};
 ghost use Rattle.tl_midway.specs.Readings.{shown_readings};
 
@@ -116,6 +117,21 @@ fn all_break(readings: &[Reading], link: &LinkDecl, beat: &Beat, rule: Rule) -> 
     true
 }
 
+/// Whether the beat may break a rule of later beats by one of them.
+fn any_may_break(readings: &[Reading], link: &LinkDecl, beat: &Beat, rule: Rule) -> bool
+    requires link { IsSound link.now }
+    requires beat { IsWellFormed beat.now }
+    requires formed { All (λ reading. IsFormed (shown_reading reading)) readings.now }
+    ensures { result ≡ list_any (λ reading. may_as link.now beat.now rule (shown_reading reading)) readings.now }
+{
+    for reading in readings {
+        if reading.may_break(link, beat, rule) {
+            return true;
+        }
+    }
+    false
+}
+
 impl Readings {
     /// The readings of a channel's first beat, where the past left at most so many beats of a message missing. AllocError where
     /// memory is refused.
@@ -203,6 +219,13 @@ impl Readings {
         }
     }
 
+    /// Whether the beat surely belongs to a message of the capture, and is no head.
+    pub fn is_settled(&self) -> bool
+        ensures { result ≡ true → (head : AnyBeat) × (missing : ℕ) × (shown_readings self.now ≡ rest missing (Some head) ∷ []) }
+    {
+        self.sole_head().is_some()
+    }
+
     /// Whether the beat breaks a rule of later beats by each reading.
     #[tactic(auto, using(crate::proofs::MemberLaws::all_mapped))]
     fn breaks(&self, link: &LinkDecl, beat: &Beat, rule: Rule) -> bool
@@ -212,6 +235,27 @@ impl Readings {
         ensures { result ≡ list_all (breaks_as link.now beat.now rule) (shown_readings self.now) }
     {
         self.one.breaks(link, beat, rule) && all_break(&self.others, link, beat, rule)
+    }
+
+    /// Whether the beat may break a rule of later beats by some reading.
+    #[tactic(auto, using(crate::proofs::MemberLaws::any_mapped))]
+    fn may_break(&self, link: &LinkDecl, beat: &Beat, rule: Rule) -> bool
+        requires link { IsSound link.now }
+        requires beat { IsWellFormed beat.now }
+        requires formed { AreFormed (shown_readings self.now) }
+        ensures { result ≡ list_any (may_as link.now beat.now rule) (shown_readings self.now) }
+    {
+        self.one.may_break(link, beat, rule) || any_may_break(&self.others, link, beat, rule)
+    }
+
+    /// Whether the beat may break a rule of later beats, and not by each reading does.
+    pub fn leaves_open(&self, link: &LinkDecl, beat: &Beat, rule: Rule) -> bool
+        requires link { IsSound link.now }
+        requires beat { IsWellFormed beat.now }
+        requires formed { AreFormed (shown_readings self.now) }
+        ensures { result ≡ later_open link.now beat.now rule (shown_readings self.now) }
+    {
+        self.may_break(link, beat, rule) && !self.breaks(link, beat, rule)
     }
 
     /// The rules of later beats that the beat breaks by each reading, in the order of reports, each once: F5, F7 and U1. Where it

@@ -7,6 +7,10 @@ ghost use Rattle.tl_beats.specs.Beats.{IsWellFormed};
 ghost use Rattle.tl_definitions.specs.Breaks.{row_of};
 ghost use Rattle.tl_definitions.specs.Managers.{manager_at};
 ghost use Rattle.tl_definitions.specs.Printed.{printed_rules};
+ghost use Rattle.tl_beats.specs.declared.Placed.{Placed as AnyPlaced};
+ghost use Rattle.tl_definitions.specs.Known.{Beginning};
+ghost use Rattle.tl_definitions.specs.Rules.{Manager};
+ghost use Rattle.tl_midway.specs.LeadIns.{leads_in};
 ghost use Rattle.tl_midway.specs.State.{StandsFor, WhereServed, IsNew, HasLink, IsKnown};
 
 use crate::known_pasts::KnownPasts;
@@ -22,8 +26,8 @@ use tl_topology::{LinkDecl, RegionMap, Topo};
 /// each channel may be, and what is known of the past of each link.
 #[derive(Drop)]
 pub struct MidwayState {
-    readings: ManagerReadings,
-    pasts: KnownPasts,
+    pub(crate) readings: ManagerReadings,
+    pub(crate) pasts: KnownPasts,
 }
 
 impl MidwayState {
@@ -41,6 +45,14 @@ impl MidwayState {
             readings: ManagerReadings::new(alloc, topo, manager, law)?,
             pasts: KnownPasts::new(alloc, topo, manager)?,
         })
+    }
+
+    /// Whether the manager's next beat, which is this one, is in its channel's lead-in.
+    pub fn in_lead_in(&self, at: &Placed) -> bool
+        requires { HasLink self.now at.now.link }
+        ensures { (m : Manager) (start : Beginning) (before : List AnyPlaced) → StandsFor m start self.now before → result ≡ leads_in m start before at.now }
+    {
+        self.readings.in_lead_in(at)
     }
 
     /// Judges the manager's next beat: puts the rows at the end that it has whatever came before the capture, and the state then stands

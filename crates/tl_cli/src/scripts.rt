@@ -142,14 +142,14 @@ fn run_of_script<R: Threads + Wait + Sync + AllocGlobal, O: ByteOut>(
 fn closing(
     alloc: Global,
     run: ScriptRun<'_>,
-    summary: bool,
+    how: How,
     last: Option<&Report>,
 ) -> Result<String, AuditFault> {
     let mut text = match run.midway {
-        Some(law) => midway_notes(alloc, run.topo, run.text, last, law, summary)?,
+        Some(law) => midway_notes(alloc, run.topo, run.text, last, law, how)?,
         None => String::new(alloc),
     };
-    if summary {
+    if how.summary {
         let told = run_summary(alloc, run.topo, run.text, edits_in(run.text), last)?;
         text.push_str(&told)?;
     }
@@ -163,7 +163,7 @@ fn closing_of(
     how: How,
     last: Option<&Report>,
 ) -> Option<String> {
-    match closing(alloc, run, how.summary, last) {
+    match closing(alloc, run, how, last) {
         Ok(text) if !text.is_empty() => Some(text),
         _ => None,
     }

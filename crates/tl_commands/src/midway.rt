@@ -6,6 +6,7 @@ use std::alloc::{AllocError, Global};
 use tl_check::Report;
 use tl_edits::Inputs;
 use tl_midway::{Counts, HeadsKnown, Midway, RuleCount, counted_report, heads_known};
+use tl_options::How;
 use tl_rows::chan_text;
 use tl_script::AuditFault;
 use tl_tables::{Chan, rule_text};
@@ -71,12 +72,15 @@ fn unjudged_line(alloc: Global, counts: &[RuleCount]) -> Result<String, AllocErr
 }
 
 /// Puts what rows of a capture from the middle of a run rest on after a text: the law by which they stand, how many beats are in
-/// lead-ins, and how many each rule leaves unjudged.
+/// lead-ins, and where they are counted by rule, how many each rule leaves unjudged.
 fn push_law(alloc: Global, counts: &Counts, notes: &mut String) -> Result<(), AllocError> {
     let lead_ins = lead_in_line(alloc, counts.lead_ins)?;
-    let unjudged = unjudged_line(alloc, &counts.unjudged)?;
     notes.push_str(law_line(counts.law))?;
     notes.push_str(&lead_ins)?;
+    if !counts.by_rule {
+        return Ok(());
+    }
+    let unjudged = unjudged_line(alloc, &counts.unjudged)?;
     notes.push_str(&unjudged)
 }
 
@@ -137,15 +141,16 @@ pub(crate) fn heads_text(
     Ok(text)
 }
 
-/// What the rows of the last report of a script's run rest on: the law by which they stand, how many beats are in lead-ins and how many
-/// each rule leaves unjudged, and with a summary from which cycle on heads are known. Without a report nothing of beats. The faults of an audit of its edits.
+/// What the rows of the last report of a script's run rest on: the law by which they stand, how many beats are in lead-ins and, where they
+/// are counted, how many each rule leaves unjudged, and with a summary from which cycle on heads are known. Without a report nothing of
+/// beats. The faults of an audit of its edits.
 pub fn midway_notes(
     alloc: Global,
     topo: &Topo,
     script: &[u8],
     last: Option<&Report>,
     law: Midway,
-    summary: bool,
+    how: How,
 ) -> Result<String, AuditFault> {
     let mut notes = String::new(alloc);
     let Some(report) = last else {
@@ -153,9 +158,9 @@ pub fn midway_notes(
         return Ok(notes);
     };
     let inputs = inputs_left(alloc, topo, script, Some(report.edit()))?;
-    let found = counted_report(alloc, &inputs, law)?;
+    let found = counted_report(alloc, &inputs, law, how.unjudged)?;
     push_law(alloc, &found.counts, &mut notes)?;
-    if summary {
+    if how.summary {
         notes.push_str(&heads_text(alloc, &inputs, Some(law))?)?;
     }
     Ok(notes)

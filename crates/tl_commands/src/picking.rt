@@ -57,6 +57,8 @@ pub(crate) struct Order<'a> {
     waive: Option<&'a str>,
     /// Whether their summary is told.
     summary: bool,
+    /// Whether beats that rules leave unjudged are counted.
+    unjudged: bool,
     /// By which law they stand, where the capture is from the middle of a run.
     midway: Option<Midway>,
 }
@@ -192,6 +194,7 @@ pub(crate) fn order_of<'a, R: Files + AllocGlobal>(
         pick,
         waive: view.waive,
         summary: how.summary,
+        unjudged: how.unjudged,
         midway: how.midway,
     })
 }
@@ -328,11 +331,16 @@ fn write_rows<O: ByteOut>(
     })
 }
 
-/// The rows of a capture from the middle of a run that stand by a law, and what is counted of its beats.
-fn midway_found(alloc: Global, inputs: &Inputs, law: Midway) -> Result<Found, AllocError>
+/// The rows of a capture from the middle of a run that stand by a law, and what is counted of its beats, by rule too or not.
+fn midway_found(
+    alloc: Global,
+    inputs: &Inputs,
+    law: Midway,
+    by_rule: bool,
+) -> Result<Found, AllocError>
     ensures { IfOk result (λ found. All (λ row. row.link < length inputs.now.topo.links) found.rows.items) }
 {
-    let report = counted_report(alloc, inputs, law)?;
+    let report = counted_report(alloc, inputs, law, by_rule)?;
     Ok(Found {
         rows: report.rows,
         counts: Some(report.counts),
@@ -354,12 +362,12 @@ fn all_found<R: Threads + Sync + AllocGlobal>(
 fn rows_found<R: Threads + Sync + AllocGlobal>(
     judges: &Judges<'_, R>,
     inputs: &Inputs,
-    midway: Option<Midway>,
+    order: &Order<'_>,
 ) -> Result<Found, AllocError>
     ensures { IfOk result (λ found. All (λ row. row.link < length inputs.now.topo.links) found.rows.items) }
 {
-    match midway {
-        Some(law) => midway_found(judges.alloc(), inputs, law),
+    match order.midway {
+        Some(law) => midway_found(judges.alloc(), inputs, law, order.unjudged),
         None => all_found(judges, inputs),
     }
 }
@@ -374,7 +382,7 @@ fn write_found<R: Threads + Sync + AllocGlobal, O: ByteOut>(
 ) -> Result<Written, Fault>
     requires { O.failure_count out.old < 2 ^ 63 }
 {
-    let found = rows_found(judges, inputs, order.midway)?;
+    let found = rows_found(judges, inputs, order)?;
     write_rows(judges.alloc(), title, inputs, order, &found, out)
 }
 

@@ -2,7 +2,6 @@
 use Rattle.std.proofs.Common.{◌≡◌, ℕ, zero, suc, ◌+◌, ◌<◌, Bool, false, List, [], ◌∷◌, length, map, get_or, Option, Some, None, refl, sym, ap, subst, ◌∙◌, arith, add-one}
 use Rattle.std.specs.Io.Iter.{u64_saturate}
 use Rattle.tl_tables.specs.declared.Rule.{Rule}
-use Rattle.tl_tables.specs.Rules.{all_rules}
 use Rattle.tl_beats.specs.declared.Placed.{Placed}
 use Rattle.tl_topology.specs.Regions.{Area}
 use Rattle.tl_topology.specs.Topology.{Topology}
@@ -14,7 +13,7 @@ use Rattle.tl_definitions.specs.Known.{Beginning}
 use Rattle.tl_definitions.specs.OpenTables.{one_if}
 use Rattle.tl_definitions.specs.Rules.{Manager}
 use Rattle.tl_midway.specs.Counts.{counted_after, counted, managers_counted, beats_counted}
-use Rattle.tl_midway.specs.Counted.{asked_of, one_beat, HasCounts, Adds, AreCounts}
+use Rattle.tl_midway.specs.Counted.{asked_of, counted_rules, rule_counts, one_beat, HasCounts, Adds, AreCounts}
 use Rattle.tl_midway.specs.LeadIns.{leads_in}
 use Rattle.tl_midway.specs.State.{StandsFor}
 use Rattle.tl_midway.specs.Unjudged.{is_unjudged}
@@ -48,22 +47,30 @@ module _ (m : Manager) (start : Beginning) (before : List Placed) (p : Placed) (
       λ i. record { rule = r; beats = here i } ∷ rules_more rules i
 
   pub one_counted : (old new : Counts) (leads : Bool) → new.lead_ins ≡ u64_saturate (old.lead_ins + one_if leads) → leads ≡ leads_in m start before p
-      → new.unjudged.items ≡ map (one_beat m start before p) old.unjudged.items → HasCounts old n → HasCounts new (λ asked. n asked + one_if (asked_of asked m start before p))
-  one_counted old new leads put is each has = record {
+      → new.unjudged.items ≡ map (one_beat m start before p) old.unjudged.items → new.by_rule ≡ old.by_rule → HasCounts old n → HasCounts new (λ asked. n asked + one_if (asked_of asked m start before p))
+  one_counted old new leads put is each by has = record {
     lead_ins = put ∙ ap (λ b. u64_saturate (old.lead_ins + one_if b)) is ∙ saturated_more old.lead_ins (n None) (one_if (leads_in m start before p)) has.lead_ins;
-    unjudged = each ∙ ap (map (one_beat m start before p)) has.unjudged ∙ rules_more all_rules;
+    unjudged = each ∙ ap (map (one_beat m start before p)) has.unjudged ∙ rules_more (counted_rules old.by_rule) ∙ (λ i. rule_counts (λ asked. n asked + one_if (asked_of asked m start before p)) (sym by i));
   }
 
   -- A beat that no rule leaves unjudged.
   pub none_counted : (old new : Counts) (leads : Bool) → new.lead_ins ≡ u64_saturate (old.lead_ins + one_if leads) → leads ≡ leads_in m start before p
-      → new.unjudged.items ≡ old.unjudged.items → ((r : Rule) → is_unjudged r m start before p ≡ false) → HasCounts old n → HasCounts new (λ asked. n asked + one_if (asked_of asked m start before p))
-  none_counted old new leads put is same judged has = record {
+      → new.unjudged.items ≡ old.unjudged.items → new.by_rule ≡ old.by_rule → ((r : Rule) → is_unjudged r m start before p ≡ false) → HasCounts old n → HasCounts new (λ asked. n asked + one_if (asked_of asked m start before p))
+  none_counted old new leads put is same by judged has = record {
     lead_ins = put ∙ ap (λ b. u64_saturate (old.lead_ins + one_if b)) is ∙ saturated_more old.lead_ins (n None) (one_if (leads_in m start before p)) has.lead_ins;
-    unjudged = same ∙ has.unjudged ∙ (λ i. map (λ (r : Rule). let c : RuleCount = record { rule = r; beats = u64_saturate (kept r i) } in c) all_rules);
+    unjudged = same ∙ has.unjudged ∙ (λ i. map (λ (r : Rule). let c : RuleCount = record { rule = r; beats = u64_saturate (kept r i) } in c) (counted_rules (sym by i)));
   }
     where
       kept : (r : Rule) → n (Some r) ≡ n (Some r) + one_if (is_unjudged r m start before p)
       kept r = plus_zero (n (Some r)) ∙ ap (λ b. n (Some r) + one_if b) (sym (judged r))
+
+  -- A beat where beats aren't counted by rule.
+  pub lead_in_counted : (old new : Counts) (leads : Bool) → new.lead_ins ≡ u64_saturate (old.lead_ins + one_if leads) → leads ≡ leads_in m start before p
+      → new.unjudged.items ≡ old.unjudged.items → new.by_rule ≡ old.by_rule → old.by_rule ≡ false → HasCounts old n → HasCounts new (λ asked. n asked + one_if (asked_of asked m start before p))
+  lead_in_counted old new leads put is same by not has = record {
+    lead_ins = put ∙ ap (λ b. u64_saturate (old.lead_ins + one_if b)) is ∙ saturated_more old.lead_ins (n None) (one_if (leads_in m start before p)) has.lead_ins;
+    unjudged = same ∙ has.unjudged ∙ ap (rule_counts n) not ∙ sym (ap (rule_counts (λ asked. n asked + one_if (asked_of asked m start before p))) (by ∙ not));
+  }
 
 -- ---- a walk
 

@@ -1,5 +1,5 @@
 -- Counts of the beats of a capture from the middle of a run: those in lead-ins, and those that each rule leaves unjudged.
-use Rattle.std.specs.Prelude.{ℕ, ◌≡◌, ◌+◌, map, Option, Some, None, List}
+use Rattle.std.specs.Prelude.{ℕ, ◌≡◌, ◌+◌, map, Bool, true, false, Option, Some, None, List, []}
 use Rattle.std.specs.Io.Iter.{u64_saturate}
 use Rattle.tl_tables.specs.declared.Rule.{Rule}
 use Rattle.tl_tables.specs.Rules.{all_rules}
@@ -19,8 +19,13 @@ abbrev pub asked_of : Option Rule → Test
 asked_of None = leads_in
 asked_of (Some r) = is_unjudged r
 
-abbrev pub rule_counts : (Option Rule → ℕ) → List RuleCount
-rule_counts n = map (λ (r : Rule). record { rule = r; beats = u64_saturate (n (Some r)) }) all_rules
+-- The rules by which beats are counted: all, or none.
+abbrev pub counted_rules : Bool → List Rule
+counted_rules true = all_rules
+counted_rules false = []
+
+abbrev pub rule_counts : (Option Rule → ℕ) → Bool → List RuleCount
+rule_counts n by_rule = map (λ (r : Rule). record { rule = r; beats = u64_saturate (n (Some r)) }) (counted_rules by_rule)
 
 -- The count of a rule after one more beat.
 abbrev pub one_beat : Manager → Beginning → List Placed → Placed → RuleCount → RuleCount
@@ -29,7 +34,7 @@ one_beat m start before p count = record count { beats = u64_saturate (count.bea
 -- The counts are these.
 pub record HasCounts (counts : Counts) (n : Option Rule → ℕ) : Type 0 where
   pub lead_ins : counts.lead_ins ≡ u64_saturate (n None)
-  pub unjudged : counts.unjudged.items ≡ rule_counts n
+  pub unjudged : counts.unjudged.items ≡ rule_counts n counts.by_rule
 
 -- To the counts those of these beats of a manager were added.
 abbrev pub Adds : Manager → List Placed → Counts → Counts → Type 0

@@ -49,6 +49,7 @@ fn counted_walk<'a>(
     ensures rows { IfOk result (λ rows. rows.items ≡ rows_by counts.old.law (manager_at topo.now manager (areas_of regions.now)) walk.entry) }
     ensures counts { OnOk result (Adds (manager_at topo.now manager (areas_of regions.now)) walk.entry counts.old counts.new) }
     ensures law { OnOk result (counts.new.law ≡ counts.old.law) }
+    ensures by_rule { OnOk result (counts.new.by_rule ≡ counts.old.by_rule) }
 {
     let mut state = MidwayState::new(alloc, topo, manager, counts.law)?;
     let mut rows = Vec::new(alloc);
@@ -72,6 +73,7 @@ fn counted_manager(
     ensures rows { IfOk result (λ rows. rows.items ≡ rows_by counts.old.law (manager_at topo.now manager (areas_of regions.now)) (manager_beats topo.now present.now manager)) }
     ensures counts { OnOk result (Adds (manager_at topo.now manager (areas_of regions.now)) (manager_beats topo.now present.now manager) counts.old counts.new) }
     ensures law { OnOk result (counts.new.law ≡ counts.old.law) }
+    ensures by_rule { OnOk result (counts.new.by_rule ≡ counts.old.by_rule) }
 {
     let links = clients_of(alloc, topo, manager)?;
     let walk = present.walk(alloc, &links)?;
@@ -90,6 +92,7 @@ fn counted_managers(
     ensures counts { OnOk result ((n : Option AnyRule → ℕ) → HasCounts counts.old n
         → HasCounts counts.new (λ asked. n asked + managers_counted (asked_of asked) counts.old.law topo.now (areas_at regions.now) present.now (length topo.now.managers))) }
     ensures law { OnOk result (counts.new.law ≡ counts.old.law) }
+    ensures by_rule { OnOk result (counts.new.by_rule ≡ counts.old.by_rule) }
 {
     let none = RegionMap::new(alloc);
     let mut rows = Vec::new(alloc);
@@ -102,23 +105,25 @@ fn counted_managers(
 }
 
 /// The report of a capture that begins in the middle of a run, so as the law says, of what edits leave: the rows of `midway_report`, and
-/// what is counted of all beats. AllocError where memory is refused.
+/// what is counted of all beats, by rule too or not. AllocError where memory is refused.
 pub fn counted_report(
     alloc: Global,
     inputs: &Inputs,
     law: Midway,
+    by_rule: bool,
 ) -> Result<CountedReport, AllocError>
     ensures report { IfOk result (λ found. IsMidwayReport law inputs.now found.rows.items) }
     ensures links { IfOk result (λ found. All (λ row. row.link < length inputs.now.topo.links) found.rows.items) }
     ensures counts { IfOk result (λ found. AreCounts inputs.now found.counts) }
     ensures law { IfOk result (λ found. found.counts.law ≡ law) }
+    ensures by_rule { IfOk result (λ found. found.counts.by_rule ≡ by_rule) }
 {
     let topo = inputs.topo();
     let present = inputs.present();
     // Fragments of a link share no number and no cycle.
     let _ = present.is_empty();
     let watches = inputs.watches(alloc)?;
-    let mut counts = Counts::new(alloc, law)?;
+    let mut counts = Counts::new(alloc, law, by_rule)?;
     let mut rows = counted_managers(alloc, topo, present, inputs.regions(), &mut counts)?;
     let flagged = watches_rows(alloc, topo, present, &watches)?;
     rows.extend_from_slice(&flagged)?;

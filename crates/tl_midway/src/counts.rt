@@ -1,7 +1,7 @@
 //! Counts of the beats of a capture from the middle of a run: how many came before the heads of their channel were known, and how
 //! many each rule leaves unjudged.
 
-ghost use Rattle.std.specs.Prelude.{◌≡◌, ℕ, ◌+◌, Option, map, IfOk};
+ghost use Rattle.std.specs.Prelude.{◌≡◌, ℕ, ◌+◌, true, Option, map, IfOk};
 ghost use Rattle.std.specs.Io.Iter.{u64_saturate};
 ghost use Rattle.tl_tables.specs.declared.Rule.{Rule as AnyRule};
 ghost use Rattle.tl_topology.specs.Regions.{areas_of};
@@ -34,7 +34,9 @@ pub struct Counts {
     pub law: Midway,
     /// How many beats are in lead-ins: before them the heads of their channel aren't known yet. 2^64 - 1 where there are more.
     pub lead_ins: u64,
-    /// How many beats each rule leaves unjudged, in the order of reports.
+    /// Whether beats are counted by rule too, which takes longer than judging them.
+    pub by_rule: bool,
+    /// How many beats each rule leaves unjudged, in the order of reports; of no rule where beats aren't counted by rule.
     pub unjudged: Vec<RuleCount>,
 }
 
@@ -51,7 +53,7 @@ fn one_more(count: u64, counts: bool) -> u64
 
 /// No beat of any rule.
 fn no_beats(alloc: Global) -> Result<Vec<RuleCount>, AllocError>
-    ensures { IfOk result (λ counts. counts.items ≡ rule_counts (λ asked. 0)) }
+    ensures { IfOk result (λ counts. counts.items ≡ rule_counts (λ asked. 0) true) }
 {
     RULES
         .iter()
@@ -60,6 +62,17 @@ fn no_beats(alloc: Global) -> Result<Vec<RuleCount>, AllocError>
             beats: 0,
         })
         .collect(alloc)
+}
+
+/// No beat of any rule by which beats are counted.
+fn no_counts(alloc: Global, by_rule: bool) -> Result<Vec<RuleCount>, AllocError>
+    ensures { IfOk result (λ counts. counts.items ≡ rule_counts (λ asked. 0) by_rule) }
+{
+    if by_rule {
+        no_beats(alloc)
+    } else {
+        Ok(Vec::new(alloc))
+    }
 }
 
 /// Counts the next beat of the state's manager for each rule that leaves it unjudged.
@@ -92,14 +105,16 @@ impl Counts {
     ghost use Rattle.tl_midway.specs.Counted.{HasCounts, asked_of};
 
     /// No beat was counted. AllocError where memory is refused.
-    pub fn new(alloc: Global, law: Midway) -> Result<Counts, AllocError>
+    pub fn new(alloc: Global, law: Midway, by_rule: bool) -> Result<Counts, AllocError>
         ensures none { IfOk result (λ counts. HasCounts counts (λ asked. 0)) }
+        ensures by_rule { IfOk result (λ counts. counts.by_rule ≡ by_rule) }
         ensures law { IfOk result (λ counts. counts.law ≡ law) }
     {
         Ok(Counts {
             law,
             lead_ins: 0,
-            unjudged: no_beats(alloc)?,
+            by_rule,
+            unjudged: no_counts(alloc, by_rule)?,
         })
     }
 
@@ -119,8 +134,12 @@ impl Counts {
         ensures counts { WhereServed state.now at.now.link link.now (areas_of regions.now) (λ m start before. (n : Option AnyRule → ℕ)
             → HasCounts self.old n → HasCounts self.new (λ asked. n asked + one_if (asked_of asked m start before at.now))) }
         ensures law { self.new.law ≡ self.old.law }
+        ensures by_rule { self.new.by_rule ≡ self.old.by_rule }
     {
         self.lead_ins = one_more(self.lead_ins, state.in_lead_in(at));
+        if !self.by_rule {
+            return;
+        }
         if !state.is_settled(at) {
             count_unjudged(alloc, link, regions, at, state, &mut self.unjudged);
         }

@@ -35,6 +35,8 @@ pub struct How {
     pub deny: Deny,
     /// Whether what was checked and found is told at the end.
     pub summary: bool,
+    /// Whether beats that rules leave unjudged are counted: that takes longer than judging, so only where a summary is asked for.
+    pub unjudged: bool,
     /// How many threads work beside the first, 0 to 16.
     pub workers: u8,
     /// By which law rows stand of a capture from the middle of a run; None where the capture is a whole run's.
@@ -383,6 +385,7 @@ fn how_asked(found: &ArgMatches<'_>, workers: u8) -> How {
             empty: is_denied(found, "empty"),
         },
         summary: found.get_flag("summary"),
+        unjudged: found.get_flag("summary"),
         workers,
         midway: midway_asked(found),
     }

@@ -29,6 +29,7 @@ loop-manager-preserved c =
       counts = λ n has. manager_added law topo (areas_at c.args.regions.now) fs n k (areas_of c.unwrap_or-own.result.now) c.loop-manager.counts c.counted_manager.new.counts own same
           c.in_ok-found.ensures.counts (c.loop-manager.invariant.counts n has);
       law = c.in_ok-found.ensures.law ∙ same;
+      by_rule = c.in_ok-found.ensures.by_rule ∙ c.loop-manager.invariant.by_rule;
     }
 
 pub returns-clause-rows : goal.returns-clause-rows

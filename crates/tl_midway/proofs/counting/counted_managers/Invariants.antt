@@ -13,4 +13,5 @@ invariant-loop-manager l = record {
   counts : (n : Option Rule → ℕ) → HasCounts l.initial.counts n
       → HasCounts l.counts (λ asked. n asked + managers_counted (asked_of asked) l.initial.counts.law l.topo (areas_at l.regions) l.present l.manager);
   law : l.counts.law ≡ l.initial.counts.law;
+  by_rule : l.counts.by_rule ≡ l.initial.counts.by_rule;
 }

@@ -30,3 +30,6 @@ returns-clause-counts c =
 
 pub returns-clause-law : goal.returns-clause-law
 returns-clause-law c = c.in_ok-rows.ensures.law ∙ c.in_ok-counts.ensures.law
+
+pub returns-clause-by_rule : goal.returns-clause-by_rule
+returns-clause-by_rule c = c.in_ok-rows.ensures.by_rule ∙ c.in_ok-counts.ensures.by_rule

@@ -30,6 +30,7 @@ loop-at-init c =
       on = begun m c.in_ok-state.state c.new-rows.result.items c.into_iter-at-iterator.result c.args.walk c.new-rows.ensures.items begins;
       counted = λ n has. counts.begun m (beginning_of c.args.counts.now.law m) c.in_ok-state.state c.args.counts.now n c.into_iter-at-iterator.result c.args.walk stands has begins;
       law = λ i. c.args.counts.now.law;
+      by_rule = λ i. c.args.counts.now.by_rule;
     }
 
 pub unwrap-link-requires : goal.unwrap-link-requires
@@ -80,6 +81,7 @@ loop-at-preserved c =
       counted = λ n has. counts.one_more m start c.loop-at.state c.step.new.self c.loop-at.counts c.add.new.self n p c.loop-at.at-iterator c.next.new.self c.args.walk steps
           (λ before k stands old. c.add.ensures.counts m start before stands own k old) (λ before stands. c.in_ok-step.ensures.next m start before stands own) (c.loop-at.invariant.counted n has);
       law = c.add.ensures.law ∙ c.loop-at.invariant.law;
+      by_rule = c.add.ensures.by_rule ∙ c.loop-at.invariant.by_rule;
     }
 
 pub returns-clause-rows : goal.returns-clause-rows

@@ -22,4 +22,5 @@ invariant-loop-at l = record {
   counted : (n : Option Rule → ℕ) → HasCounts l.initial.counts n
       → counts.AreOn (manager_at l.topo l.manager (areas_of l.regions)) (beginning_of l.initial.counts.law (manager_at l.topo l.manager (areas_of l.regions))) l.state l.counts n l.at-iterator l.fn.walk;
   law : l.counts.law ≡ l.initial.counts.law;
+  by_rule : l.counts.by_rule ≡ l.initial.counts.by_rule;
 }

@@ -121,7 +121,7 @@ impl Counts {
         ensures law { self.new.law ≡ self.old.law }
     {
         self.lead_ins = one_more(self.lead_ins, state.in_lead_in(at));
-        if !state.is_settled(at) {
+        if !state.is_settled(link, at) {
             count_unjudged(alloc, link, regions, at, state, &mut self.unjudged);
         }
     }

@@ -13,4 +13,4 @@ pub returns-else-not-is_settled-clause-counts : goal.returns-else-not-is_settled
 returns-else-not-is_settled-clause-counts c m start before stands serves n has =
     let new : Counts = record { law = c.args.self.now.law; lead_ins = c.one_more-self.result; unjudged = c.args.self.now.unjudged } in
     none_counted m start before c.args.at.now n c.args.self.now new c.in_lead_in.result c.one_more-self.ensures (c.in_lead_in.ensures m start before stands)
-    refl (λ r. c.is_settled.ensures c.if-not-is_settled.false m start before r stands) has
+    refl (λ r. c.is_settled.ensures c.if-not-is_settled.false m start before r stands serves.declared) has

@@ -18,7 +18,7 @@ use Rattle.tl_definitions.specs.Readings.{Reading, due, rest, is_due, may_begin,
 use Rattle.tl_definitions.specs.Rules.{Manager, breaks_format, format_order, format_rules}
 use Rattle.tl_definitions.proofs.Bursts.{some_passes, passing}
 use Rattle.tl_definitions.proofs.ReportLaws.{one_rule}
-use Rattle.tl_midway.specs.Asked.{message_surely, head_open, head_may, is_among, is_of_later}
+use Rattle.tl_midway.specs.Asked.{message_surely, head_asks, head_open, head_may, is_among, is_of_later}
 use Rattle.tl_midway.specs.KnownLink.{permission_surely}
 use Rattle.tl_midway.specs.Members.{SameMembers}
 use Rattle.tl_midway.specs.Reading.{breaks_as, may_as}
@@ -269,3 +269,19 @@ settled_judged m start before p r xs ys head missing is same =
     let may : Reading → Bool = may_break m (front m start before) p r in
     let by : Reading → Bool = breaks_by m (front m start before) p r in
     (λ i. sym (any_same may xs ys same) i && not (sym (all_same by xs ys same) i)) ∙ ap (λ zs. list_any may zs && not (list_all by zs)) is ∙ sole_judged (by (rest missing (Some head)))
+
+-- ---- a head about which nothing is asked
+
+asked_judged : (b a : Bool) → a ≡ false → (((b || a) || false) && not (b && true)) ≡ false
+asked_judged true true h = cc
+asked_judged true false h = refl
+asked_judged false true h = cc
+asked_judged false false h = refl
+
+pub plain_judged : (m : Manager) (start : Beginning) (before : List Placed) (p : Placed) (r : Rule) (ys : List Reading) → must_begin ys ≡ true → may_begin ys ≡ true → head_asks m start before p r ≡ false
+    → (list_any (may_break m (front m start before) p r) ys && not (list_all (breaks_by m (front m start before) p r) ys)) ≡ false
+plain_judged m start before p r ys must may none =
+    let test : Reading → Bool = may_break m (front m start before) p r in
+    let by : Reading → Bool = breaks_by m (front m start before) p r in
+    let same = only_due ys must may in
+    (λ i. any_same test ys (due ∷ []) same i && not (all_same by ys (due ∷ []) same i)) ∙ asked_judged (by due) (head_asks m start before p r) none

@@ -5,7 +5,8 @@ use Rattle.std.specs.Option.{option_and_then, option_map_or}
 use Rattle.tl_tables.specs.declared.Rule.{Rule}
 use Rattle.tl_tables.specs.declared.Rule.TheVariants as rule
 use Rattle.tl_tables.specs.declared.Perm.{Perm}
-use Rattle.tl_tables.specs.Kinds.{conflicts, is_grant, is_probe}
+use Rattle.tl_tables.specs.Kinds.{conflicts, is_acquire, is_probe, is_probe_ack, is_release, is_grant, is_release_ack, is_grant_ack}
+use Rattle.tl_tables.specs.declared.Op.{Op}
 use Rattle.tl_tables.specs.Rules.{rule_number}
 use Rattle.tl_topology.specs.declared.LinkDecl.{LinkDecl}
 use Rattle.tl_beats.specs.declared.Placed.{Placed}
@@ -65,6 +66,11 @@ message_surely m f link message r =
 abbrev pub OfDeclared : KnownPasts → Placed → LinkDecl → (Manager → Beginning → List Placed → Type 0) → Type 0
 OfDeclared state p link Holds = (m : Manager) (start : Beginning) (before : List Placed) → StandsFor m start state before → m.links p.link ≡ link → Holds m start before
 
+-- What the rule asks about of the beat as a head isn't known.
+abbrev pub head_asks : Manager → Beginning → List Placed → Placed → Rule → Bool
+head_asks m start before p r =
+    option_map_or (λ o. asks m (known_pasts m start before) p.link (bare o p.beat) r) (message_of (m.links p.link) p.beat) false
+
 -- As a head the beat may break the rule, and doesn't surely; and it may break the rule; no format rule.
 abbrev pub head_open : Manager → Beginning → List Placed → Placed → Rule → Bool
 head_open m start before p r = option_map_or
@@ -86,3 +92,7 @@ is_of_later rule.F5 = true
 is_of_later rule.F7 = true
 is_of_later rule.U1 = true
 is_of_later _ = false
+
+-- A message that is no Acquire, Probe, ProbeAck, Release, Grant, and no ack of one: of it rules ask about its source alone.
+abbrev pub is_plain : Op → Bool
+is_plain o = not (is_acquire o || is_probe o || is_probe_ack o || is_release o || is_grant o || is_release_ack o || is_grant_ack o)

@@ -1,6 +1,6 @@
 //! What the rules of a head ask about, where nobody recorded the first messages of its manager's links: whether that is known.
 
-ghost use Rattle.std.specs.Prelude.{◌≡◌, ◌==◌, ◌&&◌, ◌||◌, not, List};
+ghost use Rattle.std.specs.Prelude.{◌≡◌, ◌==◌, ◌&&◌, ◌||◌, not, true, false, List};
 ghost use Rattle.std.specs.List.{list_any};
 ghost use Rattle.tl_beats.specs.declared.Placed.{Placed as AnyPlaced};
 ghost use Rattle.tl_definitions.specs.Heads.{message_of};
@@ -9,6 +9,8 @@ ghost use Rattle.tl_tables.specs.Kinds.{conflicts};
 ghost use Rattle.tl_definitions.specs.Rules.{is_wrong};
 ghost use Rattle.tl_definitions.specs.Known.{Beginning, bare, known_request, known_pasts};
 ghost use Rattle.tl_definitions.specs.Printed.{front};
+ghost use Rattle.tl_tables.specs.declared.Rule.{Rule as AnyRule};
+ghost use Rattle.tl_midway.specs.Asked.{is_plain};
 ghost use Rattle.tl_midway.specs.Known.{known_of};
 ghost use Rattle.tl_midway.specs.KnownBounds.{possible_of};
 ghost use Rattle.tl_midway.specs.KnownLink as known_link;
@@ -45,6 +47,19 @@ fn may_conflict(set: Perm, bound: Possible) -> bool
     (bound.nothing && conflicts(set, Perm::Nothing))
         || (bound.branch && conflicts(set, Perm::Branch))
         || (bound.trunk && conflicts(set, Perm::Trunk))
+}
+
+/// Whether rules ask of the message about its source alone.
+fn is_plain(op: Op) -> bool
+    ensures { result ≡ is_plain op }
+{
+    !(is_acquire(op)
+        || is_probe(op)
+        || is_probe_ack(op)
+        || is_release(op)
+        || is_grant(op)
+        || is_release_ack(op)
+        || is_grant_ack(op))
 }
 
 impl KnownLink {
@@ -115,6 +130,13 @@ impl KnownLink {
         self.breaks_flow(op, head, rule) || self.breaks_permission(strict, op, head, rule)
     }
 
+    /// Whether the message is plain and its source is known.
+    fn asks_nothing(&self, op: Op, source: u16) -> bool
+        ensures { result ≡ (is_plain op && not (is_unknown ((shown self.now).flow.source source))) }
+    {
+        is_plain(op) && !is_unknown(self.source(source))
+    }
+
     /// Whether a bound of the block that may stand conflicts with what is set on it.
     fn may_forbid(&self, block: u64, set: Perm) -> bool
         ensures { result ≡ some_bound (conflicts set) ((shown self.now).client.bound block) }
@@ -146,7 +168,7 @@ fn any_probe_hidden(links: &[LinkPast], block: u64) -> bool
 
 impl KnownPasts {
     ghost use Rattle.tl_midway.specs.Unjudged.{asks};
-    ghost use Rattle.tl_midway.specs.Asked.{may_conflict_shown, may_meet_shown, asks_shown_manager, WhereKnown, message_surely, OfDeclared, head_open, head_may};
+    ghost use Rattle.tl_midway.specs.Asked.{may_conflict_shown, may_meet_shown, asks_shown_manager, WhereKnown, message_surely, OfDeclared, head_asks, head_open, head_may};
     ghost use Rattle.tl_midway.specs.KnownPasts.{numbers_of, StandsFor};
 
     /// Whether what a Grant sets may be forbidden by another client's bound. Its request may be of any block where it isn't known.
@@ -241,6 +263,18 @@ impl KnownPasts {
                     && !self.surely_breaks(past, strict, op, at, rule)
             }
             None => false,
+        }
+    }
+
+    /// Whether it is seen at once that nothing is asked about the manager's next beat as a head that isn't known; false says nothing.
+    pub fn asks_nothing(&self, link: &LinkDecl, at: &Placed) -> bool
+        requires own { HasPlace (numbers_of self.now) at.now.link }
+        ensures { result ≡ true → OfDeclared self.now at.now link.now (λ m start before. (r : AnyRule) → head_asks m start before at.now r ≡ false) }
+    {
+        let past = self.past(at);
+        match op_of(link.level, at.beat.chan, at.beat.opcode) {
+            Some(op) => past.asks_nothing(op, at.beat.source),
+            None => true,
         }
     }
 

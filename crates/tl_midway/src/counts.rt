@@ -140,7 +140,7 @@ impl Counts {
         if !self.by_rule {
             return;
         }
-        if !state.is_settled(at) {
+        if !state.is_settled(link, at) {
             count_unjudged(alloc, link, regions, at, state, &mut self.unjudged);
         }
     }

@@ -87,12 +87,18 @@ impl MidwayState {
             || breaks_format(alloc, link, self.pasts.exponent, regions, &at.beat, rule)
     }
 
-    /// Whether the manager's next beat surely belongs to a message that began with an earlier beat of the capture: no rule leaves it unjudged.
-    pub(crate) fn is_settled(&self, at: &Placed) -> bool
+    /// Whether it is seen at once that no rule leaves the manager's next beat unjudged: it surely belongs to a message that began with an
+    /// earlier beat of the capture, or surely begins one about which nothing is asked that isn't known. False says nothing.
+    pub(crate) fn is_settled(&self, link: &LinkDecl, at: &Placed) -> bool
         requires own { HasLink self.now at.now.link }
         requires known { IsKnown self.now }
-        ensures { result ≡ true → (m : Manager) (start : Beginning) (before : List AnyPlaced) (r : AnyRule) → StandsFor m start self.now before → is_unjudged r m start before at.now ≡ false }
+        ensures { result ≡ true → (m : Manager) (start : Beginning) (before : List AnyPlaced) (r : AnyRule) → StandsFor m start self.now before
+            → m.links at.now.link ≡ link.now → is_unjudged r m start before at.now ≡ false }
     {
-        self.readings.channel(at).is_settled()
+        let readings = self.readings.channel(at);
+        if readings.must_begin() {
+            return self.pasts.asks_nothing(link, at);
+        }
+        readings.is_settled()
     }
 }

@@ -2,8 +2,9 @@
 
 Of each channel there are the readings of its next beat: how many beats it is away from the next head, and the head that those beats
 belong to, or None where the past has it. Each key of a link is open with an entry, closed, or unknown; of each client and block there
-is the set of permissions that its bound may be. A rule is printed where each reading breaks it for all that is known, and leaves a beat unjudged where some reading may break it for some of
-what may be, and not each does. In the plain report a head is due everywhere at first, all keys are closed, and nobody holds anything. Managers have no regions here.
+is the set of permissions that its bound may be. A rule is printed where each reading breaks it for all that is known, and leaves a
+beat unjudged where some reading may break it for some of what may be, and not each does. In the plain report a head is due everywhere
+at first, all keys are closed, and nobody holds anything. Managers have no regions here.
 """
 from lawful import CAPS, GROWS_FROM, MOST_PARAM, SHRINKS, WITH_DATA, B, N, T, beat_count, conflicts, lanes
 

@@ -1,5 +1,5 @@
 -- What a watch is on.
-use Rattle.std.specs.Prelude.{ℕ, List, Bool, ◌&&◌, ◌==◌, ◌≤◌}
+use Rattle.std.specs.Prelude.{ℕ, List, Bool, ◌&&◌, ◌==◌}
 use Rattle.tl_tables.specs.Messages.{same_chan}
 use Rattle.tl_beats.specs.declared.Beat.{Beat}
 use Rattle.tl_beats.specs.declared.watch.Class.{Class}

@@ -30,9 +30,6 @@ use Rattle.tl_tables.specs.Messages.{same_chan}
 use Rattle.tl_beats.specs.declared.Beat.{Beat}
 use Rattle.tl_definitions.proofs.Sure.{and_parts}
 
-pub some_same : (test one other : Perm → Bool) → ((held : Perm) → one held ≡ other held) → some_bound test one ≡ some_bound test other
-some_same test one other same = let path : one ≡ other = λ i held. same held i in ap (some_bound test) path
-
 -- ---- an answer of two parts
 
 -- The first part is true; it isn't, so the answer is the second.

@@ -2,8 +2,6 @@
 use Rattle.std.proofs.Common.{◌≡◌, ℕ, ◌+◌, ◌-◌, ◌<◌, ◌≤◌, ◌==◌, ◌||◌, inl, inr, Bool, true, false, cond, List, [], ◌∷◌, Option, Some, None, refl, sym, ap, ◌∙◌, arith}
 use Rattle.std.specs.Prelude.{nat_lt, nat_le}
 use Rattle.std.specs.List.{Contains, list_any}
-use Rattle.std.specs.Ordering.{nat_cmp}
-use Rattle.std.specs.BTreeMap.{is_at}
 use Rattle.std.proofs.lemmas.Bool.Decides.{nat_tests}
 use Rattle.tl_definitions.specs.OpenTables.{one_if, passes}
 use Rattle.tl_definitions.specs.Past.{grants_block}
@@ -39,9 +37,6 @@ other_key key k below above = grind (arith, nat_tests)
 
 same_key : (k : ℕ) → (k == k) ≡ true
 same_key k = grind (arith, nat_tests)
-
-pub same_place : (key other : ℕ) → is_at (nat_cmp key) other ≡ (key == other)
-same_place key other = grind (arith, nat_tests)
 
 module _ {V : Type 0} (block_of : V → Option ℕ) (first : ℕ → Known (Option V)) (old new : CountedTable V) (key : ℕ) (entry : Known (Option V)) (block : Option ℕ) where
   abbrev pub put : Option (Option ℕ)

@@ -2,7 +2,6 @@
 use Rattle.std.specs.Prelude.{OnOk}
 use Rattle.std.proofs.Common.{Result, Ok, Err, ◌≡◌, ℕ, Bool, true, false, cond, Option, Some, None, refl, sym, ap, subst, ◌∙◌}
 use Rattle.std.specs.Prelude.{nat_lt}
-use Rattle.std.specs.Ordering.{nat_cmp}
 use Rattle.tl_tables.specs.declared.Op.{Op}
 use Rattle.tl_tables.specs.declared.Perm.{Perm}
 use Rattle.tl_topology.specs.declared.LinkDecl.{LinkDecl}
@@ -11,7 +10,7 @@ use Rattle.tl_beats.specs.declared.Request.{Request}
 use Rattle.tl_definitions.specs.Known.{Known, unknown, known, KnownPast, bare, first_past, known_request, bound_after, known_with}
 use Rattle.tl_client_rules.specs.Client.{acquired_block, released_block}
 use Rattle.tl_midway.specs.declared.known_link.KnownLink.{KnownLink}
-use Rattle.tl_midway.specs.KnownTable.{known_at}
+use Rattle.tl_midway.specs.KnownTable.{known_at, known_on}
 use Rattle.tl_midway.specs.CountedTable.{entry_known, open_block, IsCounted}
 use Rattle.tl_midway.specs.KnownBounds.{may_be, AreBounds}
 use Rattle.tl_midway.specs.KnownLink.{first_entry, shown, AreCounted, Shows, known_after, known_next, IsOpened, IsPast}
@@ -36,8 +35,8 @@ none_open block_of sources source = elim (nat_lt source sources) as (λ b. open_
 
 pub starts : (link : LinkDecl) (exponent : ℕ) (state : KnownLink) → state.exponent ≡ exponent → state.sources ≡ link.sources
     → ((f : Known (Option Request)) (key : ℕ) → entry_known state.requests f key ≡ f) → ((f : Known (Option Request)) (key : ℕ) → entry_known state.releases f key ≡ f)
-    → ((f : Known Bool) (key : ℕ) → known_at nat_cmp state.sinks f key ≡ f) → ((f : Known (Option (Option ℕ))) (key : ℕ) → entry_known state.granted f key ≡ f)
-    → ((f : Known (Option (Option Perm))) (key : ℕ) → known_at nat_cmp state.probes f key ≡ f) → ((block : ℕ) (held : Perm) → may_be state.bounds block held ≡ true)
+    → ((f : Known Bool) (key : ℕ) → known_at state.sinks f key ≡ f) → ((f : Known (Option (Option ℕ))) (key : ℕ) → entry_known state.granted f key ≡ f)
+    → ((f : Known (Option (Option Perm))) (key : ℕ) → known_on state.probes f key ≡ f) → ((block : ℕ) (held : Perm) → may_be state.bounds block held ≡ true)
     → ((block_of : Request → Option ℕ) (first : ℕ → Known (Option Request)) → ((key : ℕ) → open_block block_of (first key) ≡ None) → IsCounted block_of first state.requests)
     → ((block_of : Request → Option ℕ) (first : ℕ → Known (Option Request)) → ((key : ℕ) → open_block block_of (first key) ≡ None) → IsCounted block_of first state.releases)
     → ((block_of : Option ℕ → Option ℕ) (first : ℕ → Known (Option (Option ℕ))) → ((key : ℕ) → open_block block_of (first key) ≡ None) → IsCounted block_of first state.granted)

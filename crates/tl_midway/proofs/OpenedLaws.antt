@@ -1,8 +1,6 @@
 -- What a state has open after a message.
 use Rattle.std.proofs.Common.{◌≡◌, ℕ, ◌==◌, ◌&&◌, ◌||◌, Bool, true, false, cond, not, Option, Some, None, refl, sym, ap, ◌∙◌, arith}
 use Rattle.std.specs.Option.{option_map}
-use Rattle.std.specs.Ordering.{nat_cmp}
-use Rattle.std.specs.BTreeMap.{is_at}
 use Rattle.std.proofs.lemmas.Bool.Decides.{nat_tests}
 use Rattle.tl_tables.specs.declared.Chan.TheVariants as chan
 use Rattle.tl_tables.specs.declared.Op.{Op}
@@ -21,21 +19,21 @@ use Rattle.tl_client_rules.specs.Client.{can_carry}
 use Rattle.tl_midway.specs.declared.known_link.KnownLink.{KnownLink}
 use Rattle.tl_midway.specs.declared.counted.CountedTable.{CountedTable}
 use Rattle.tl_midway.specs.declared.table.KnownTable.{KnownTable}
+use Rattle.tl_midway.specs.declared.table.KnownBlocks.{KnownBlocks}
 use Rattle.tl_midway.specs.Known.{opened, closed, shut}
-use Rattle.tl_midway.specs.KnownTable.{known_at, IsSet}
+use Rattle.tl_midway.specs.KnownTable.{known_at, known_on, IsSet, IsSetOn}
 use Rattle.tl_midway.specs.CountedTable.{entry_known, IsSetTo}
 use Rattle.tl_midway.specs.KnownLink.{first_entry, shown, granted_made, known_after, IsOpened}
-use Rattle.tl_midway.proofs.CountedLaws.{same_place}
 
 same_number : (a b : ℕ) → (a == b) ≡ true → a ≡ b
 same_number a b h = grind (arith, nat_tests)
 
 -- ---- one key is set
 
-pub set_at : {T : Type 0} (now old : ℕ → Known T) (key place : ℕ) (value to : Known T) → ((k : ℕ) → now k ≡ cond (is_at (nat_cmp key) k) value (old k)) → key ≡ place → value ≡ to
+pub set_at : {T : Type 0} (now old : ℕ → Known T) (key place : ℕ) (value to : Known T) → ((k : ℕ) → now k ≡ cond (key == k) value (old k)) → key ≡ place → value ≡ to
     → (k : ℕ) → now k ≡ cond (place == k) to (old k)
 set_at now old key place value to set here is k =
-    set k ∙ ap (λ b. cond b value (old k)) (same_place key k) ∙ ap (λ j. cond (j == k) value (old k)) here ∙ ap (λ v. cond (place == k) v (old k)) is
+    set k ∙ ap (λ j. cond (j == k) value (old k)) here ∙ ap (λ v. cond (place == k) v (old k)) is
 
 -- ---- the entries of a table after a message
 
@@ -154,8 +152,8 @@ module _ (certain : Bool) (request : Known (Option Request)) (old : KnownLink) (
         granted = granted_stays none.4 none.5;
       }
 
-  on_b_or_c : (table : KnownTable ℕ (Option (Option Perm))) → is_request m ≡ false → is_reply m ≡ false → is_release o ≡ false → is_release_ack o ≡ false → is_grant o ≡ false → is_grant_ack o ≡ false
-      → ((k : ℕ) → known_at nat_cmp table unknown k ≡ next.client.probe k) → IsOpened (record old { probes = table }) next
+  on_b_or_c : (table : KnownBlocks (Option (Option Perm))) → is_request m ≡ false → is_reply m ≡ false → is_release o ≡ false → is_release_ack o ≡ false → is_grant o ≡ false → is_grant_ack o ≡ false
+      → ((k : ℕ) → known_on table unknown k ≡ next.client.probe k) → IsOpened (record old { probes = table }) next
   on_b_or_c table a d release ack grant done probe = record {
     source = source_stays a d;
     release = release_stays release ack;
@@ -164,27 +162,27 @@ module _ (certain : Bool) (request : Known (Option Request)) (old : KnownLink) (
     granted = granted_stays grant done;
   }
 
-  pub on_b : (table : KnownTable ℕ (Option (Option Perm))) (block : ℕ) (value : Known (Option (Option Perm))) (cap : Option Perm) → head.chan ≡ chan.B → is_probe o ≡ true
-      → IsSet nat_cmp old.probes table block value → block ≡ round_down old.exponent head.address → value ≡ opened certain (known (Some cap)) → cap ≡ cap_of o head.param
+  pub on_b : (table : KnownBlocks (Option (Option Perm))) (block : ℕ) (value : Known (Option (Option Perm))) (cap : Option Perm) → head.chan ≡ chan.B → is_probe o ≡ true
+      → IsSetOn old.probes table block value → block ≡ round_down old.exponent head.address → value ≡ opened certain (known (Some cap)) → cap ≡ cap_of o head.param
       → IsOpened (record old { probes = table }) next
   on_b table block value cap on is set here made given =
       let none = none_of_5 (is_probe_ack o) (is_release o) (is_release_ack o) (is_grant o) (is_grant_ack o) (ap (λ c. can_carry c o) (sym on) ∙ can) in
       on_b_or_c table (ap (λ c. same_chan c chan.A) on) (ap (λ c. same_chan c chan.D && not (is_release_ack o)) on) none.1 none.2 none.3 none.4
-      (after_opening certain (probes old.exponent) m (λ b. known (option_map (λ (n : Message). cap_of n.op n.beat.param) (cond b (Some m) None))) (shown old).client.probe (known_at nat_cmp table unknown)
+      (after_opening certain (probes old.exponent) m (λ b. known (option_map (λ (n : Message). cap_of n.op n.beat.param) (cond b (Some m) None))) (shown old).client.probe (known_on table unknown)
       is
-      (set_at (known_at nat_cmp table unknown) (shown old).client.probe block (round_down old.exponent head.address) value (opened certain (known (Some (cap_of o head.param))))
+      (set_at (known_on table unknown) (shown old).client.probe block (round_down old.exponent head.address) value (opened certain (known (Some (cap_of o head.param))))
       (set unknown) here (made ∙ ap (λ c. opened certain (known (Some c))) given)))
 
-  pub on_c_ack : (table : KnownTable ℕ (Option (Option Perm))) (block : ℕ) (value : Known (Option (Option Perm))) → head.chan ≡ chan.C → is_probe_ack o ≡ true
-      → IsSet nat_cmp old.probes table block value → block ≡ round_down old.exponent head.address → value ≡ closed certain (known_at nat_cmp old.probes unknown block)
+  pub on_c_ack : (table : KnownBlocks (Option (Option Perm))) (block : ℕ) (value : Known (Option (Option Perm))) → head.chan ≡ chan.C → is_probe_ack o ≡ true
+      → IsSetOn old.probes table block value → block ≡ round_down old.exponent head.address → value ≡ closed certain (known_on old.probes unknown block)
       → IsOpened (record old { probes = table }) next
   on_c_ack table block value on is set here made =
       let none = none_of_4 (is_probe o) (is_release_ack o) (is_grant o) (is_grant_ack o) (ap (λ c. can_carry c o) (sym on) ∙ can) in
       on_b_or_c table (ap (λ c. same_chan c chan.A) on) (ap (λ c. same_chan c chan.D && not (is_release_ack o)) on) (no_release o is) none.1 none.2 none.3
-      (after_closing certain (probes old.exponent) m (λ b. known (option_map (λ (n : Message). cap_of n.op n.beat.param) (cond b (Some m) None))) (shown old).client.probe (known_at nat_cmp table unknown)
+      (after_closing certain (probes old.exponent) m (λ b. known (option_map (λ (n : Message). cap_of n.op n.beat.param) (cond b (Some m) None))) (shown old).client.probe (known_on table unknown)
       none.0 is refl
-      (set_at (known_at nat_cmp table unknown) (shown old).client.probe block (round_down old.exponent head.address) value (closed certain (known_at nat_cmp old.probes unknown (round_down old.exponent head.address)))
-      (set unknown) here (made ∙ ap (λ b. closed certain (known_at nat_cmp old.probes unknown b)) here)))
+      (set_at (known_on table unknown) (shown old).client.probe block (round_down old.exponent head.address) value (closed certain (known_on old.probes unknown (round_down old.exponent head.address)))
+      (set unknown) here (made ∙ ap (λ b. closed certain (known_on old.probes unknown b)) here)))
 
   pub on_c_release : (new : CountedTable Request) (made : Request) → head.chan ≡ chan.C → is_probe_ack o ≡ false → is_release o ≡ true
       → IsSetTo old.releases new head.source (opened certain (known (Some made))) → made ≡ as_request m → IsOpened (record old { releases = new }) next
@@ -235,24 +233,24 @@ module _ (certain : Bool) (request : Known (Option Request)) (old : KnownLink) (
         granted = granted_stays grant none.3;
       }
 
-  pub on_d_grant : (new : CountedTable Request) (table : KnownTable ℕ Bool) (granted : CountedTable (Option ℕ)) (first : Known (Option Request)) → head.chan ≡ chan.D → is_release_ack o ≡ false → is_grant o ≡ true
+  pub on_d_grant : (new : CountedTable Request) (table : KnownTable Bool) (granted : CountedTable (Option ℕ)) (first : Known (Option Request)) → head.chan ≡ chan.D → is_release_ack o ≡ false → is_grant o ≡ true
       → IsSetTo old.requests new head.source (closed certain (entry_known old.requests first head.source)) → first ≡ first_entry old.sources head.source
-      → IsSet nat_cmp old.sinks table head.sink (opened certain (known true)) → IsSetTo old.granted granted head.sink (opened certain (granted_made old.exponent request))
+      → IsSet old.sinks table head.sink (opened certain (known true)) → IsSetTo old.granted granted head.sink (opened certain (granted_made old.exponent request))
       → IsOpened (record old { requests = new; sinks = table; granted = granted }) next
   on_d_grant new table granted first on other grant set at sink block =
       let none = none_of_4 (is_probe o) (is_probe_ack o) (is_release o) (is_grant_ack o) (ap (λ c. can_carry c o) (sym on) ∙ can) in
       record {
         source = source_closed new first on other set at;
         release = release_stays none.2 other;
-        sink = sink_opened certain m (shown old).flow.sink (known_at nat_cmp table unknown) grant
-            (set_at (known_at nat_cmp table unknown) (shown old).flow.sink head.sink head.sink (opened certain (known true)) (opened certain (known true)) (sink unknown) refl refl);
+        sink = sink_opened certain m (shown old).flow.sink (known_at table unknown) grant
+            (set_at (known_at table unknown) (shown old).flow.sink head.sink head.sink (opened certain (known true)) (opened certain (known true)) (sink unknown) refl refl);
         probe = probe_stays none.0 none.1;
         granted = after_opening certain sinks m (λ b. cond b (map_known (λ answered. Some (granted_block old.exponent (answering m answered))) request) (known None))
             (shown old).client.granted (λ k. entry_known granted unknown k) grant (block unknown);
       }
 
-  pub on_e : (table : KnownTable ℕ Bool) (granted : CountedTable (Option ℕ)) (value : Known Bool) → head.chan ≡ chan.E
-      → IsSet nat_cmp old.sinks table head.sink value → value ≡ shut certain (known_at nat_cmp old.sinks unknown head.sink)
+  pub on_e : (table : KnownTable Bool) (granted : CountedTable (Option ℕ)) (value : Known Bool) → head.chan ≡ chan.E
+      → IsSet old.sinks table head.sink value → value ≡ shut certain (known_at old.sinks unknown head.sink)
       → IsSetTo old.granted granted head.sink (closed certain (entry_known old.granted unknown head.sink)) → IsOpened (record old { sinks = table; granted = granted }) next
   on_e table granted value on sink made block =
       let parts = and_parts (is_grant_ack o) (not (is_probe o || is_probe_ack o || is_release o || is_release_ack o || is_grant o)) (ap (λ c. can_carry c o) (sym on) ∙ can) in
@@ -260,8 +258,8 @@ module _ (certain : Bool) (request : Known (Option Request)) (old : KnownLink) (
       record {
         source = source_stays (ap (λ c. same_chan c chan.A) on) (ap (λ c. same_chan c chan.D && not (is_release_ack o)) on);
         release = release_stays none.2 none.3;
-        sink = sink_shut certain m (shown old).flow.sink (known_at nat_cmp table unknown) none.4 parts.0
-            (set_at (known_at nat_cmp table unknown) (shown old).flow.sink head.sink head.sink value (shut certain (known_at nat_cmp old.sinks unknown head.sink)) (sink unknown) refl made);
+        sink = sink_shut certain m (shown old).flow.sink (known_at table unknown) none.4 parts.0
+            (set_at (known_at table unknown) (shown old).flow.sink head.sink head.sink value (shut certain (known_at old.sinks unknown head.sink)) (sink unknown) refl made);
         probe = probe_stays none.0 none.1;
         granted = after_closing certain sinks m (λ b. cond b (map_known (λ answered. Some (granted_block old.exponent (answering m answered))) request) (known None))
             (shown old).client.granted (λ k. entry_known granted unknown k) none.4 parts.0 refl (block unknown);

@@ -1,7 +1,6 @@
 -- What is known of entries by their keys, and how many are known to be open on each block.
 use Rattle.std.specs.Prelude.{ℕ, zero, suc, ◌≡◌, ◌≤◌, ◌+◌, ◌==◌, Bool, Option, None, if◌then◌else◌}
 use Rattle.std.specs.Option.{option_map}
-use Rattle.std.specs.Ordering.{nat_cmp}
 use Rattle.tl_definitions.specs.OpenTables.{one_if, passes}
 use Rattle.tl_definitions.specs.Past.{grants_block}
 use Rattle.tl_definitions.specs.Known.{Known, unknown, known}
@@ -11,7 +10,7 @@ use Rattle.tl_midway.specs.KnownTable.{known_at}
 
 -- What is known of a key, where this was known of it first.
 abbrev pub entry_known : {V : Type 0} → CountedTable V → Known (Option V) → ℕ → Known (Option V)
-entry_known table first key = known_at nat_cmp table.entries first key
+entry_known table first key = known_at table.entries first key
 
 -- The new table has this of a key, and of each other what the old one has.
 abbrev pub IsSetTo : {V : Type 0} → CountedTable V → CountedTable V → ℕ → Known (Option V) → Type 0

@@ -1,22 +1,20 @@
 -- Which permissions the bounds of a client may be.
-use Rattle.std.specs.Prelude.{ℕ, ◌≡◌, not, Bool}
-use Rattle.std.specs.BTreeSet.{contains}
-use Rattle.std.specs.Ordering.{nat_cmp}
+use Rattle.std.specs.Prelude.{ℕ, ◌≡◌, not, is_some, Bool}
+use Rattle.tl_state.specs.declared.block_map.BlockMap.{BlockMap}
+use Rattle.tl_state.specs.BlockMap.{value_at}
 use Rattle.tl_tables.specs.declared.Perm.{Perm}
 use Rattle.tl_tables.specs.declared.Perm.TheVariants as perm
-use Rattle.tl_midway.specs.declared.known_bounds.Possible.{Possible}
 use Rattle.tl_midway.specs.declared.known_bounds.KnownBounds.{KnownBounds}
 
-abbrev pub possible_of : Possible → Perm → Bool
-possible_of possible perm.Nothing = possible.nothing
-possible_of possible perm.Branch = possible.branch
-possible_of possible perm.Trunk = possible.trunk
+-- The block is in the set.
+abbrev pub holds : BlockMap (Unit {0}) → ℕ → Bool
+holds blocks block = is_some (value_at blocks block)
 
 -- Whether the bound of a block may be a permission.
 abbrev pub may_be : KnownBounds → ℕ → Perm → Bool
-may_be bounds block perm.Nothing = not (contains nat_cmp bounds.not_nothing block)
-may_be bounds block perm.Branch = not (contains nat_cmp bounds.not_branch block)
-may_be bounds block perm.Trunk = not (contains nat_cmp bounds.not_trunk block)
+may_be bounds block perm.Nothing = not (holds bounds.not_nothing block)
+may_be bounds block perm.Branch = not (holds bounds.not_branch block)
+may_be bounds block perm.Trunk = not (holds bounds.not_trunk block)
 
 -- The bounds may be these.
 abbrev pub AreBounds : KnownBounds → (ℕ → Perm → Bool) → Type 0

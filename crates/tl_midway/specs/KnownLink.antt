@@ -1,7 +1,6 @@
 -- What the state of a link shows of what is known of its past, and what it stands for.
 use Rattle.std.specs.Prelude.{ℕ, ◌≡◌, Bool, List, Option, Some, None, if◌then◌else◌, nat_lt}
 use Rattle.std.specs.Option.{option_and_then}
-use Rattle.std.specs.Ordering.{nat_cmp}
 use Rattle.tl_tables.specs.declared.Rule.{Rule}
 use Rattle.tl_beats.specs.declared.Placed.{Placed}
 use Rattle.tl_beats.specs.declared.Request.{Request}
@@ -11,7 +10,7 @@ use Rattle.tl_definitions.specs.Known.{Known, unknown, known, map_known, Beginni
 use Rattle.tl_definitions.specs.Printed.{Front, front, breaks_flow_surely, breaks_permission_surely, acquire_open, release_open}
 use Rattle.tl_client_rules.specs.Client.{acquired_block, released_block}
 use Rattle.tl_midway.specs.declared.known_link.KnownLink.{KnownLink}
-use Rattle.tl_midway.specs.KnownTable.{known_at}
+use Rattle.tl_midway.specs.KnownTable.{known_at, known_on}
 use Rattle.tl_midway.specs.CountedTable.{entry_known, open_count, IsCounted}
 use Rattle.tl_midway.specs.KnownBounds.{may_be, AreBounds}
 
@@ -25,10 +24,10 @@ shown state = record {
   flow = record {
     source = λ key. entry_known state.requests (first_entry state.sources key) key;
     release = λ key. entry_known state.releases (first_entry state.sources key) key;
-    sink = λ key. known_at nat_cmp state.sinks unknown key;
+    sink = λ key. known_at state.sinks unknown key;
   };
   client = record {
-    probe = λ block. known_at nat_cmp state.probes unknown block;
+    probe = λ block. known_on state.probes unknown block;
     bound = may_be state.bounds;
     granted = λ key. entry_known state.granted unknown key;
   };

@@ -1,5 +1,5 @@
 -- What a beat is by its readings.
-use Rattle.std.specs.Prelude.{◌≡◌, ◌&&◌, not, Bool, true, false, List, ◌∷◌, filter, map}
+use Rattle.std.specs.Prelude.{◌≡◌, ◌&&◌, not, Bool, true, false, List, [], ◌∷◌, filter, map}
 use Rattle.std.specs.List.{list_any, list_all}
 use Rattle.tl_tables.specs.declared.Rule.{Rule}
 use Rattle.tl_topology.specs.declared.LinkDecl.{LinkDecl}
@@ -16,13 +16,14 @@ use Rattle.tl_midway.specs.declared.standing.Standing.TheVariants as standing
 abbrev pub later_broken : LinkDecl → Beat → List Reading → List Rule
 later_broken link beat readings = filter (λ r. list_all (breaks_as link beat r) readings) later_order
 
--- By its readings the beat begins a message, it may, or it is a later beat; in the last two cases it breaks these rules.
+-- By its readings the beat begins a message, it may, or it is a later beat; in the last three cases it breaks these rules, or none.
 abbrev pub IsStanding : LinkDecl → Beat → List Reading → Standing → Type 0
 IsStanding link beat readings standing.Head = (must_begin readings ≡ true) × (may_begin readings ≡ true)
 IsStanding link beat readings (standing.Either rules) =
     (must_begin readings ≡ false) × (may_begin readings ≡ true) × (rules ≡ later_broken link beat readings)
 IsStanding link beat readings (standing.Later rules) =
     (must_begin readings ≡ false) × (may_begin readings ≡ false) × (rules ≡ later_broken link beat readings)
+IsStanding link beat readings standing.GoesOn = (must_begin readings ≡ false) × (may_begin readings ≡ false) × ([] ≡ later_broken link beat readings)
 
 -- The state has the readings of a channel's next beat, whatever they are, after some beats.
 abbrev pub IsKnown : Readings → Type 0

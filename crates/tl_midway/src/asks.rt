@@ -12,7 +12,6 @@ ghost use Rattle.tl_definitions.specs.Printed.{front};
 ghost use Rattle.tl_tables.specs.declared.Rule.{Rule as AnyRule};
 ghost use Rattle.tl_midway.specs.Asked.{is_plain};
 ghost use Rattle.tl_midway.specs.Known.{known_of};
-ghost use Rattle.tl_midway.specs.KnownBounds.{possible_of};
 ghost use Rattle.tl_midway.specs.KnownLink as known_link;
 ghost use Rattle.tl_midway.specs.KnownLink.{shown};
 ghost use Rattle.tl_midway.specs.ManagerReadings.{HasPlace};
@@ -20,7 +19,6 @@ ghost use Rattle.tl_midway.specs.Unjudged.{is_unknown, some_bound};
 ghost use Rattle.tl_midway.specs.declared.known_pasts.LinkPast.{LinkPast as AnyLink};
 
 use crate::known::{Known, is_unknown};
-use crate::known_bounds::Possible;
 use crate::known_link::KnownLink;
 use crate::known_pasts::{KnownPasts, LinkPast};
 use tl_beats::{Beat, Placed, Request};
@@ -30,24 +28,6 @@ use tl_tables::{
     is_release, is_release_ack, op_of,
 };
 use tl_topology::LinkDecl;
-
-/// Whether a claim to have held this is wrong by a bound that may stand.
-fn may_be_wrong(strict: bool, bound: Possible, from: Perm) -> bool
-    ensures { result ≡ some_bound (λ held. is_wrong strict held from) (possible_of bound) }
-{
-    (bound.nothing && is_wrong(strict, Perm::Nothing, from))
-        || (bound.branch && is_wrong(strict, Perm::Branch, from))
-        || (bound.trunk && is_wrong(strict, Perm::Trunk, from))
-}
-
-/// Whether a bound that may stand conflicts with what is set.
-fn may_conflict(set: Perm, bound: Possible) -> bool
-    ensures { result ≡ some_bound (conflicts set) (possible_of bound) }
-{
-    (bound.nothing && conflicts(set, Perm::Nothing))
-        || (bound.branch && conflicts(set, Perm::Branch))
-        || (bound.trunk && conflicts(set, Perm::Trunk))
-}
 
 /// Whether rules ask of the message about its source alone.
 fn is_plain(op: Op) -> bool
@@ -83,13 +63,21 @@ impl KnownLink {
         }
     }
 
+    /// Whether a claim to have held this of the block is wrong by a bound that may stand.
+    fn may_be_wrong(&self, strict: bool, block: u64, from: Perm) -> bool
+        ensures { result ≡ some_bound (λ held. is_wrong strict held from) ((shown self.now).client.bound block) }
+    {
+        (is_wrong(strict, Perm::Nothing, from) && self.may_be(block, Perm::Nothing))
+            || (is_wrong(strict, Perm::Branch, from) && self.may_be(block, Perm::Branch))
+            || (is_wrong(strict, Perm::Trunk, from) && self.may_be(block, Perm::Trunk))
+    }
+
     /// Whether a head with this message claims more than a bound that may stand, or on a strict link less.
     fn may_claim_wrongly(&self, strict: bool, op: Op, head: &Beat) -> bool
         ensures { result ≡ may_claim_wrongly strict self.now.exponent (shown self.now).client (bare op head.now) }
     {
-        let bound = self.bound(self.block(head.address));
         match from_of(op, head.param) {
-            Some(from) => may_be_wrong(strict, bound, from),
+            Some(from) => self.may_be_wrong(strict, self.block(head.address), from),
             None => false,
         }
     }
@@ -141,7 +129,9 @@ impl KnownLink {
     fn may_forbid(&self, block: u64, set: Perm) -> bool
         ensures { result ≡ some_bound (conflicts set) ((shown self.now).client.bound block) }
     {
-        may_conflict(set, self.bound(block))
+        (conflicts(set, Perm::Nothing) && self.may_be(block, Perm::Nothing))
+            || (conflicts(set, Perm::Branch) && self.may_be(block, Perm::Branch))
+            || (conflicts(set, Perm::Trunk) && self.may_be(block, Perm::Trunk))
     }
 
     /// Whether it isn't known if a Probe of the block is open.

@@ -13,8 +13,8 @@ use tl_client_rules::OpenBlocks;
 /// What is known of entries by their keys, which are sources or sinks; and how many are known to be open on each block, so that
 /// none is ever looked for among all. AllocError of a call: memory was refused, and the table is for nothing more.
 #[derive(Drop)]
-pub struct CountedTable<V: Copy> {
-    entries: KnownTable<u16, Option<V>>,
+pub struct CountedTable<V: Copy + Drop> {
+    entries: KnownTable<Option<V>>,
     /// Those that are known to be open, each with its block, if it has one that is known.
     counted: OpenBlocks,
 }
@@ -29,7 +29,7 @@ fn open_block<V: Copy>(entry: Known<Option<V>>, block: Option<u64>) -> Option<Op
     }
 }
 
-impl<V: Copy> CountedTable<V> {
+impl<V: Copy + Drop> CountedTable<V> {
     ghost use Rattle.tl_midway.specs.CountedTable.{entry_known, IsCounted, open_count};
 
     /// No key was set.
@@ -48,7 +48,7 @@ impl<V: Copy> CountedTable<V> {
     pub fn get(&self, key: u16, first: Known<Option<V>>) -> Known<Option<V>>
         ensures { known_of result ≡ entry_known self.now (known_of first) key }
     {
-        self.entries.get(&key, first)
+        self.entries.get(key, first)
     }
 
     /// Whether an entry is known to be open on the block.

@@ -1,35 +1,22 @@
 //! Which permissions the bounds of a client may be.
 
 ghost use Rattle.std.specs.Prelude.{◌≡◌, ℕ, ◌==◌, true, false, Some, OnOk, if◌then◌else◌};
-ghost use Rattle.std.specs.BTreeSet.{contains};
-ghost use Rattle.std.specs.Ordering.{nat_cmp};
 ghost use Rattle.tl_tables.specs.declared.Perm.{Perm as AnyPerm};
 ghost use Rattle.tl_definitions.specs.Known.{same_perm, claimed_after, any_block_after};
-ghost use Rattle.tl_midway.specs.KnownBounds.{possible_of};
+ghost use Rattle.tl_midway.specs.KnownBounds.{holds};
 
 use std::alloc::{AllocError, Global};
-use std::collections::BTreeSet;
+use tl_state::BlockMap;
 use tl_tables::Perm;
-
-/// Which permissions a bound may be.
-#[derive(Clone, Copy, Debug)]
-pub struct Possible {
-    /// It may be Nothing.
-    pub nothing: bool,
-    /// It may be Branch.
-    pub branch: bool,
-    /// It may be Trunk.
-    pub trunk: bool,
-}
 
 /// Which permissions the bound of each block may be.
 #[derive(Drop)]
 pub struct KnownBounds {
     /// The blocks whose bound is surely not Nothing, and so on: a block in no set may have any bound. That the bounds of all
     /// blocks may be a permission empties its set, which takes no longer than it took to fill it.
-    not_nothing: BTreeSet<u64>,
-    not_branch: BTreeSet<u64>,
-    not_trunk: BTreeSet<u64>,
+    not_nothing: BlockMap<()>,
+    not_branch: BlockMap<()>,
+    not_trunk: BlockMap<()>,
 }
 
 /// Whether both are the same permission.
@@ -39,19 +26,26 @@ fn same_perm(one: Perm, other: Perm) -> bool
     one == other
 }
 
-/// Takes the block out of the set.
-fn take_out(blocks: &mut BTreeSet<u64>, block: u64)
-    ensures { (other : ℕ) → contains nat_cmp blocks.new other ≡ (if block == other then false else contains nat_cmp blocks.old other) }
+/// Whether the block is in the set.
+fn holds(blocks: &BlockMap<()>, block: u64) -> bool
+    ensures { result ≡ holds blocks.now block }
 {
-    blocks.remove(&block);
+    blocks.get(block).is_some()
+}
+
+/// Takes the block out of the set.
+fn take_out(blocks: &mut BlockMap<()>, block: u64)
+    ensures { (other : ℕ) → holds blocks.new other ≡ (if block == other then false else holds blocks.old other) }
+{
+    blocks.take(block);
 }
 
 /// Puts the block into the set, or takes it out.
-fn put(blocks: &mut BTreeSet<u64>, block: u64, is_in: bool) -> Result<(), AllocError>
-    ensures { OnOk result ((other : ℕ) → contains nat_cmp blocks.new other ≡ (if block == other then is_in else contains nat_cmp blocks.old other)) }
+fn put(blocks: &mut BlockMap<()>, block: u64, is_in: bool) -> Result<(), AllocError>
+    ensures { OnOk result ((other : ℕ) → holds blocks.new other ≡ (if block == other then is_in else holds blocks.old other)) }
 {
     if is_in {
-        blocks.insert(block)?;
+        blocks.set(block, Some(()))?;
     } else {
         take_out(blocks, block);
     }
@@ -66,20 +60,20 @@ impl KnownBounds {
         ensures { AreBounds result (λ block held. true) }
     {
         KnownBounds {
-            not_nothing: BTreeSet::new(alloc),
-            not_branch: BTreeSet::new(alloc),
-            not_trunk: BTreeSet::new(alloc),
+            not_nothing: BlockMap::new(alloc),
+            not_branch: BlockMap::new(alloc),
+            not_trunk: BlockMap::new(alloc),
         }
     }
 
-    /// Which permissions the bound of the block may be.
-    pub fn get(&self, block: u64) -> Possible
-        ensures { (held : AnyPerm) → possible_of result held ≡ may_be self.now block held }
+    /// Whether the bound of the block may be this permission.
+    pub fn may_be(&self, block: u64, held: Perm) -> bool
+        ensures { result ≡ may_be self.now block held }
     {
-        Possible {
-            nothing: !self.not_nothing.contains(&block),
-            branch: !self.not_branch.contains(&block),
-            trunk: !self.not_trunk.contains(&block),
+        match held {
+            Perm::Nothing => !holds(&self.not_nothing, block),
+            Perm::Branch => !holds(&self.not_branch, block),
+            Perm::Trunk => !holds(&self.not_trunk, block),
         }
     }
 

@@ -1,8 +1,6 @@
 //! What is known of the past of one link.
 
 ghost use Rattle.std.specs.Prelude.{◌≡◌, true, is_some, is_none, OnOk};
-ghost use Rattle.std.specs.Ordering.{nat_cmp};
-ghost use Rattle.tl_tables.specs.declared.Perm.{Perm as AnyPerm};
 ghost use Rattle.tl_tables.specs.Kinds.{conflicts};
 ghost use Rattle.tl_definitions.specs.Heads.{message_of};
 ghost use Rattle.tl_definitions.specs.Known.{unknown, known, surely, bare, cap_given, first_past, known_request, bound_after, known_with};
@@ -12,13 +10,13 @@ ghost use Rattle.tl_client_rules.specs.Client.{can_carry};
 ghost use Rattle.tl_midway.specs.Known.{known_of, opened};
 ghost use Rattle.tl_midway.specs.KnownTable.{IsSet};
 ghost use Rattle.tl_midway.specs.CountedTable.{HasBlock, IsCounted, IsSetTo};
-ghost use Rattle.tl_midway.specs.KnownBounds.{possible_of, may_be, AreBounds};
+ghost use Rattle.tl_midway.specs.KnownBounds.{may_be, AreBounds};
 ghost use Rattle.tl_midway.specs.KnownLink.{first_entry, granted_made};
 
 use crate::counted::CountedTable;
 use crate::known::{Known, closed, opened, shut, surely_closed, surely_open};
-use crate::known_bounds::{KnownBounds, Possible};
-use crate::table::KnownTable;
+use crate::known_bounds::KnownBounds;
+use crate::table::{KnownBlocks, KnownTable};
 use std::alloc::{AllocError, Global};
 use tl_beats::{Beat, Request};
 use tl_client_rules::{acquired_block, block_of, claim, conflicts, granted_block};
@@ -40,11 +38,11 @@ pub struct KnownLink {
     /// The Releases, by source: these are other sources than those of channel A.
     releases: CountedTable<Request>,
     /// Whether a Grant awaits its GrantAck, by sink.
-    sinks: KnownTable<u16, bool>,
+    sinks: KnownTable<bool>,
     /// The blocks of the Grants without their GrantAck, by sink; None where a Grant answers no Acquire.
     granted: CountedTable<Option<u64>>,
     /// The caps of the Probes without their ProbeAck, by block; None where the param named no cap.
-    probes: KnownTable<u64, Option<Option<Perm>>>,
+    probes: KnownBlocks<Option<Option<Perm>>>,
     bounds: KnownBounds,
 }
 
@@ -81,14 +79,14 @@ fn block_in(made: Known<Option<Option<u64>>>) -> Option<u64>
 
 /// Opens the sink of a Grant. A block has 2 to the exponent bytes.
 fn open_grant(
-    sinks: &mut KnownTable<u16, bool>,
+    sinks: &mut KnownTable<bool>,
     granted: &mut CountedTable<Option<u64>>,
     exponent: u8,
     certain: bool,
     sink: u16,
     request: Known<Option<Request>>,
 ) -> Result<(), AllocError>
-    ensures sinks { OnOk result (IsSet nat_cmp sinks.old sinks.new sink (opened certain (known true))) }
+    ensures sinks { OnOk result (IsSet sinks.old sinks.new sink (opened certain (known true))) }
     ensures granted { OnOk result (IsSetTo granted.old granted.new sink (opened certain (granted_made exponent (known_of request)))) }
     ensures counted { OnOk result (IsCounted (λ block. block) (λ key. unknown) granted.old → IsCounted (λ block. block) (λ key. unknown) granted.new) }
 {
@@ -109,15 +107,6 @@ fn cap_given(op: Op, head: &Beat) -> Option<Perm>
     }
 }
 
-/// Whether a bound conflicts with what is set, whatever it is of those that it may be.
-fn surely_conflicts(set: Perm, bound: Possible) -> bool
-    ensures { result ≡ every_bound (conflicts set) (possible_of bound) }
-{
-    (!bound.nothing || conflicts(set, Perm::Nothing))
-        && (!bound.branch || conflicts(set, Perm::Branch))
-        && (!bound.trunk || conflicts(set, Perm::Trunk))
-}
-
 impl KnownLink {
     ghost use Rattle.tl_midway.specs.KnownLink.{Shows, ForShown, ForStanding, shown, has_open_acquire, has_open_release, has_open_grant, known_after, known_next, IsOpened, IsPast, AreCounted};
 
@@ -132,7 +121,7 @@ impl KnownLink {
             releases: CountedTable::new(alloc),
             sinks: KnownTable::new(alloc),
             granted: CountedTable::new(alloc),
-            probes: KnownTable::new(alloc),
+            probes: KnownBlocks::new(alloc),
             bounds: KnownBounds::new(alloc),
         }
     }
@@ -162,14 +151,14 @@ impl KnownLink {
     pub(crate) fn sink(&self, sink: u16) -> Known<bool>
         ensures { known_of result ≡ (shown self.now).flow.sink sink }
     {
-        self.sinks.get(&sink, Known::Unknown)
+        self.sinks.get(sink, Known::Unknown)
     }
 
     /// The cap of the Probe that is open on a block, if its param is lawful.
     pub(crate) fn probe(&self, block: u64) -> Known<Option<Option<Perm>>>
         ensures { known_of result ≡ (shown self.now).client.probe block }
     {
-        self.probes.get(&block, Known::Unknown)
+        self.probes.get(block, Known::Unknown)
     }
 
     /// The request that a head with this message answers.
@@ -185,18 +174,20 @@ impl KnownLink {
         }
     }
 
-    /// Which permissions the bound of the block may be.
-    pub fn bound(&self, block: u64) -> Possible
-        ensures { (held : AnyPerm) → possible_of result held ≡ (shown self.now).client.bound block held }
+    /// Whether the bound of the block may be this permission.
+    pub fn may_be(&self, block: u64, held: Perm) -> bool
+        ensures { result ≡ (shown self.now).client.bound block held }
     {
-        self.bounds.get(block)
+        self.bounds.may_be(block, held)
     }
 
     /// Whether the bound of the block conflicts with what is set on it, whatever it is of those that it may be.
     pub fn forbids(&self, block: u64, set: Perm) -> bool
         ensures { result ≡ every_bound (conflicts set) ((shown self.now).client.bound block) }
     {
-        surely_conflicts(set, self.bound(block))
+        (conflicts(set, Perm::Nothing) || !self.may_be(block, Perm::Nothing))
+            && (conflicts(set, Perm::Branch) || !self.may_be(block, Perm::Branch))
+            && (conflicts(set, Perm::Trunk) || !self.may_be(block, Perm::Trunk))
     }
 
     /// Whether a Probe of the block is known to be open.
@@ -317,7 +308,7 @@ impl KnownLink {
             }
             Chan::C if is_probe_ack(op) => {
                 let block = block_of(self.exponent, head.address);
-                let old = self.probes.get(&block, Known::Unknown);
+                let old = self.probes.get(block, Known::Unknown);
                 self.probes.set(block, closed(certain, old))?;
             }
             Chan::C if is_release(op) => {
@@ -344,7 +335,7 @@ impl KnownLink {
                 }
             }
             Chan::E => {
-                let old = self.sinks.get(&head.sink, Known::Unknown);
+                let old = self.sinks.get(head.sink, Known::Unknown);
                 self.sinks.set(head.sink, shut(certain, old))?;
                 self.granted.close(certain, head.sink, Known::Unknown)?;
             }

@@ -1,17 +1,15 @@
 //! The flow rules and the permission rules of a head, where nobody recorded the first messages of its link: those that it breaks
 //! whatever these were.
 
-ghost use Rattle.std.specs.Prelude.{◌≡◌, ◌==◌, not, filter};
+ghost use Rattle.std.specs.Prelude.{◌≡◌, ◌==◌, [], true, not, filter};
 ghost use Rattle.tl_tables.specs.Messages.{replies_to};
 ghost use Rattle.tl_definitions.specs.OpenTables.{passes};
 ghost use Rattle.tl_definitions.specs.Rules.{flow_order, permission_order, is_wrong};
 ghost use Rattle.tl_definitions.specs.Known.{surely, bare};
 ghost use Rattle.tl_definitions.specs.Printed.{every_bound, breaks_flow_surely, claims_wrongly_surely, keeps_above_surely};
 ghost use Rattle.tl_midway.specs.Known.{known_of};
-ghost use Rattle.tl_midway.specs.KnownBounds.{possible_of};
 
 use crate::known::{Known, surely_closed, surely_open};
-use crate::known_bounds::Possible;
 use crate::known_link::KnownLink;
 use std::alloc::Global;
 use tl_beats::{Beat, Request};
@@ -62,15 +60,6 @@ fn surely_not(known: Known<bool>) -> bool
     }
 }
 
-/// Whether a claim to have held this is wrong by each bound that may stand.
-fn surely_wrong(strict: bool, bound: Possible, from: Perm) -> bool
-    ensures { result ≡ every_bound (λ held. is_wrong strict held from) (possible_of bound) }
-{
-    (!bound.nothing || is_wrong(strict, Perm::Nothing, from))
-        && (!bound.branch || is_wrong(strict, Perm::Branch, from))
-        && (!bound.trunk || is_wrong(strict, Perm::Trunk, from))
-}
-
 impl KnownLink {
     ghost use Rattle.tl_midway.specs.KnownLink.{ForStanding, shown, breaks_shown_flow, breaks_shown_permission, permission_surely};
 
@@ -106,6 +95,21 @@ impl KnownLink {
         }
     }
 
+    /// Whether one that answers this request is seen to break no flow rule for certain, as most are; false says nothing.
+    pub fn keeps_flow(&self, op: Op, head: &Beat, request: Known<Option<Request>>) -> bool
+        ensures { result ≡ true → filter (breaks_flow_surely (shown self.now).flow (known_of request) (bare op head.now)) flow_order ≡ [] }
+    {
+        !self.breaks_answering(op, head, request, Rule::S1)
+            && !self.breaks_answering(op, head, request, Rule::S2)
+            && !self.breaks_answering(op, head, request, Rule::S3)
+            && !self.breaks_answering(op, head, request, Rule::S4)
+            && !self.breaks_answering(op, head, request, Rule::S5)
+            && !self.breaks_answering(op, head, request, Rule::S6)
+            && !self.breaks_answering(op, head, request, Rule::S7)
+            && !self.breaks_answering(op, head, request, Rule::S8)
+            && !self.breaks_answering(op, head, request, Rule::S9)
+    }
+
     /// The flow rules that it surely breaks, in the order of reports.
     pub fn flow_rules(&self, alloc: Global, op: Op, head: &Beat) -> RuleList
         ensures { result ≡ filter (breaks_shown_flow self.now (bare op head.now)) flow_order }
@@ -124,13 +128,21 @@ impl KnownLink {
         rules
     }
 
+    /// Whether a claim to have held this of the block is wrong by each bound that may stand.
+    fn surely_wrong(&self, strict: bool, block: u64, from: Perm) -> bool
+        ensures { result ≡ every_bound (λ held. is_wrong strict held from) ((shown self.now).client.bound block) }
+    {
+        (is_wrong(strict, Perm::Nothing, from) || !self.may_be(block, Perm::Nothing))
+            && (is_wrong(strict, Perm::Branch, from) || !self.may_be(block, Perm::Branch))
+            && (is_wrong(strict, Perm::Trunk, from) || !self.may_be(block, Perm::Trunk))
+    }
+
     /// Whether a head with this message surely claims that the client held more than it can, or on a strict link less.
     fn claims_wrongly(&self, strict: bool, op: Op, head: &Beat) -> bool
         ensures { result ≡ claims_wrongly_surely strict self.now.exponent (shown self.now).client (bare op head.now) }
     {
-        let bound = self.bound(self.block(head.address));
         match from_of(op, head.param) {
-            Some(from) => surely_wrong(strict, bound, from),
+            Some(from) => self.surely_wrong(strict, self.block(head.address), from),
             None => false,
         }
     }
@@ -171,6 +183,20 @@ impl KnownLink {
             Rule::P8 => (is_acquire(op) || shrinks) && self.release_open(block),
             _ => false,
         }
+    }
+
+    /// Whether it is seen to break no permission rule for certain, as most are; false says nothing.
+    pub fn keeps_permissions(&self, strict: bool, op: Op, head: &Beat) -> bool
+        ensures { result ≡ true → filter (breaks_shown_permission strict self.now (bare op head.now)) permission_order ≡ [] }
+    {
+        !self.breaks_shown(strict, op, head, Rule::P1)
+            && !self.breaks_shown(strict, op, head, Rule::P2)
+            && !self.breaks_shown(strict, op, head, Rule::P3)
+            && !self.breaks_shown(strict, op, head, Rule::P4)
+            && !self.breaks_shown(strict, op, head, Rule::P5)
+            && !self.breaks_shown(strict, op, head, Rule::P6)
+            && !self.breaks_shown(strict, op, head, Rule::P7)
+            && !self.breaks_shown(strict, op, head, Rule::P8)
     }
 
     /// The permission rules that it surely breaks, in the order of reports.

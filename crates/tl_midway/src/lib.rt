@@ -29,7 +29,6 @@ mod walked;
 pub use counting::{CountedReport, counted_report};
 pub use counts::{Counts, RuleCount};
 pub use known::Known;
-pub use known_bounds::Possible;
 pub use known_link::KnownLink;
 pub use known_pasts::{KnownPasts, LinkPast};
 pub use lead_ins::{HeadsKnown, heads_known};

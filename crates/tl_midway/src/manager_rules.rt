@@ -1,13 +1,14 @@
 //! The manager rules of a certain head, and all rows of one, where nobody recorded the first messages of the manager's links.
 
-ghost use Rattle.std.specs.Prelude.{◌≡◌, ◌==◌, ◌&&◌, ◌++◌, not, true, filter, map, is_some, OnOk};
+ghost use Rattle.std.specs.Prelude.{◌≡◌, ◌==◌, ◌&&◌, ◌++◌, [], not, true, filter, map, is_some, OnOk};
 ghost use Rattle.std.specs.List.{list_any};
 ghost use Rattle.tl_tables.specs.Kinds.{conflicts};
 ghost use Rattle.tl_topology.specs.Regions.{areas_of};
 ghost use Rattle.tl_topology.specs.Topology.{IsSound};
 ghost use Rattle.tl_beats.specs.Beats.{IsWellFormed};
 ghost use Rattle.tl_definitions.specs.Breaks.{row_of};
-ghost use Rattle.tl_definitions.specs.Rules.{manager_order};
+ghost use Rattle.tl_definitions.specs.Heads.{message_of};
+ghost use Rattle.tl_definitions.specs.Rules.{format_rules, manager_order};
 ghost use Rattle.tl_definitions.specs.Known.{surely, bare};
 ghost use Rattle.tl_definitions.specs.Printed.{every_bound, front, printed_rules};
 ghost use Rattle.tl_midway.specs.Known.{known_of};
@@ -21,7 +22,7 @@ use std::alloc::{AllocError, Global};
 use tl_beats::{Beat, Placed, Request, Row};
 use tl_check::add_rows;
 use tl_client_rules::{block_of, claim, granted_block};
-use tl_link_rules::{RuleList, check_head};
+use tl_link_rules::{RuleList, check_head, keeps_format};
 use tl_tables::{Op, Perm, Rule, is_grant, is_probe, op_of};
 use tl_topology::{LinkDecl, RegionMap};
 
@@ -104,6 +105,21 @@ impl KnownPasts {
         }
     }
 
+    /// Whether it is seen to break no manager rule for certain, as most are; false says nothing.
+    fn keeps_managers(
+        &self,
+        link: u16,
+        op: Op,
+        head: &Beat,
+        request: Known<Option<Request>>,
+    ) -> bool
+        ensures { result ≡ true → filter (breaks_shown_manager self.now link (known_of request) (bare op head.now)) manager_order ≡ [] }
+    {
+        !self.breaks(link, op, head, request, Rule::M1)
+            && !self.breaks(link, op, head, request, Rule::M2)
+            && !self.breaks(link, op, head, request, Rule::M3)
+    }
+
     /// The manager rules that it surely breaks, in the order of reports.
     fn manager_rules(
         &self,
@@ -136,13 +152,37 @@ impl KnownPasts {
     {
         let place = self.place(at.link).unwrap();
         let past = &self.links[place].past;
+        let request = past.request(op, &at.beat);
+        if past.keeps_flow(op, &at.beat, request)
+            && past.keeps_permissions(strict, op, &at.beat)
+            && self.keeps_managers(at.link, op, &at.beat, request)
+        {
+            return Ok(());
+        }
         let flow = past.flow_rules(alloc, op, &at.beat);
         let permissions = past.permission_rules(alloc, strict, op, &at.beat);
-        let request = past.request(op, &at.beat);
         let across = self.manager_rules(alloc, at.link, op, &at.beat, request);
         add_rows(rows, at, &flow)?;
         add_rows(rows, at, &permissions)?;
         add_rows(rows, at, &across)
+    }
+
+    /// Puts the rows of the format rules that a head breaks at the end. [TileLink 1.8: message fields, alignment, byte lanes, corrupt and
+    /// denied, transfer operations]
+    fn add_format(
+        &self,
+        alloc: Global,
+        link: &LinkDecl,
+        regions: &RegionMap,
+        at: &Placed,
+        rows: &mut Vec<Row>,
+    ) -> Result<(), AllocError>
+        requires link { IsSound link.now }
+        requires beat { IsWellFormed at.now.beat }
+        ensures { OnOk result (rows.new.items ≡ rows.old.items ++ map (row_of at.now) (format_rules self.now.exponent (areas_of regions.now) link.now at.now.beat (message_of link.now at.now.beat))) }
+    {
+        let format = check_head(alloc, link, self.exponent, regions, &at.beat);
+        add_rows(rows, at, &format)
     }
 
     /// Puts the rows of the manager's next beat, which is a head for certain, at the end: those that it has whatever came before the
@@ -162,11 +202,15 @@ impl KnownPasts {
         ensures { AtHead self.now at.now link.now (areas_of regions.now) (λ m start before.
             OnOk result (rows.new.items ≡ rows.old.items ++ map (row_of at.now) (printed_rules m start before at.now))) }
     {
-        let format = check_head(alloc, link, self.exponent, regions, &at.beat);
-        add_rows(rows, at, &format)?;
         match op_of(link.level, at.beat.chan, at.beat.opcode) {
-            Some(op) => self.add_message(alloc, link.strict, op, at, rows),
-            None => Ok(()),
+            Some(op) => {
+                // Most heads end here.
+                if !keeps_format(link, self.exponent, regions, op, &at.beat) {
+                    self.add_format(alloc, link, regions, at, rows)?;
+                }
+                self.add_message(alloc, link.strict, op, at, rows)
+            }
+            None => self.add_format(alloc, link, regions, at, rows),
         }
     }
 }

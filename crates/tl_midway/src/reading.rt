@@ -6,7 +6,7 @@ ghost use Rattle.tl_topology.specs.Topology.{IsSound};
 ghost use Rattle.tl_beats.specs.Beats.{IsWellFormed};
 ghost use Rattle.tl_definitions.specs.Heads.{message_of};
 ghost use Rattle.tl_definitions.specs.Breaks.{breaks_later};
-ghost use Rattle.tl_definitions.specs.Readings.{is_due, missing_of, lacking, reading_after};
+ghost use Rattle.tl_definitions.specs.Readings.{is_due, missing_of, reading_after};
 ghost use Rattle.tl_definitions.specs.Printed.{breaks_past};
 ghost use Rattle.tl_midway.specs.Reading.{shown_reading, refuted_by, breaks_as, may_as, IsFormed};
 ghost use Rattle.tl_midway.specs.Unjudged.{may_break_past};
@@ -31,17 +31,6 @@ pub enum Reading {
 }
 
 impl Reading {
-    /// The reading where so many beats of a message are still to come.
-    fn lacking(missing: u16, head: Option<Beat>) -> Reading
-        ensures { shown_reading result ≡ lacking missing head }
-    {
-        if missing > 0 {
-            Reading::Rest { missing, head }
-        } else {
-            Reading::Due
-        }
-    }
-
     /// Whether the beat begins a message.
     pub fn is_due(&self) -> bool
         ensures { result ≡ is_due (shown_reading self.now) }
@@ -59,15 +48,24 @@ impl Reading {
         }
     }
 
-    /// The reading of the channel's next beat after this one.
-    pub fn after(&self, link: &LinkDecl, beat: &Beat) -> Reading
+    /// Makes it the reading of the channel's next beat after this one.
+    pub fn pass(&mut self, link: &LinkDecl, beat: &Beat)
         requires link { IsSound link.now }
         requires beat { IsWellFormed beat.now }
-        ensures { shown_reading result ≡ reading_after link.now beat.now (shown_reading self.now) }
+        ensures { shown_reading self.new ≡ reading_after link.now beat.now (shown_reading self.old) }
     {
         match self {
-            Reading::Due => Reading::lacking(beat_count(link, beat) - 1, Some(*beat)),
-            Reading::Rest { missing, head } => Reading::lacking(missing.saturating_sub(1), *head),
+            Reading::Due => {
+                let missing = beat_count(link, beat) - 1;
+                if missing > 0 {
+                    *self = Reading::Rest {
+                        missing,
+                        head: Some(*beat),
+                    };
+                }
+            }
+            Reading::Rest { missing, .. } if *missing > 1 => *missing -= 1,
+            Reading::Rest { .. } => *self = Reading::Due,
         }
     }
 

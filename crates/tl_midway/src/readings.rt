@@ -2,6 +2,7 @@
 
 ghost use Rattle.std.specs.Prelude.{◌≡◌, ◌==◌, ℕ, not, true, Some, List, [], ◌∷◌, map, filter, option_map, IfOk};
 ghost use Rattle.std.specs.List.{All, find, list_any, list_all};
+ghost use Rattle.std.specs.Option.{option_copied};
 ghost use Rattle.tl_topology.specs.Topology.{IsSound};
 ghost use Rattle.tl_beats.specs.Beats.{IsWellFormed};
 ghost use Rattle.tl_beats.specs.declared.Beat.{Beat as AnyBeat};
@@ -98,7 +99,7 @@ fn pass_all(readings: &mut Vec<Reading>, link: &LinkDecl, beat: &Beat)
     ensures { map shown_reading readings.new.items ≡ map (reading_after link.now beat.now) (map shown_reading readings.old.items) }
 {
     for place in 0..readings.len() {
-        readings[place] = readings[place].after(link, beat);
+        readings[place].pass(link, beat);
     }
 }
 
@@ -210,11 +211,14 @@ impl Readings {
     }
 
     /// The head of the message that the beat surely belongs to, where that is known.
-    fn sole_head(&self) -> Option<Beat>
-        ensures { (head : AnyBeat) → result ≡ Some head → (missing : ℕ) × (shown_readings self.now ≡ rest missing (Some head) ∷ []) }
+    pub(crate) fn sole_head(&self) -> Option<&Beat>
+        ensures { (head : AnyBeat) → option_copied result ≡ Some head → (missing : ℕ) × (shown_readings self.now ≡ rest missing (Some head) ∷ []) }
     {
-        match self.one {
-            Reading::Rest { head, .. } if self.others.is_empty() => head,
+        match &self.one {
+            Reading::Rest {
+                head: Some(head),
+                ..
+            } if self.others.is_empty() => Some(head),
             _ => None,
         }
     }
@@ -223,7 +227,10 @@ impl Readings {
     pub fn is_settled(&self) -> bool
         ensures { result ≡ true → (head : AnyBeat) × (missing : ℕ) × (shown_readings self.now ≡ rest missing (Some head) ∷ []) }
     {
-        self.sole_head().is_some()
+        match self.sole_head() {
+            Some(_) => true,
+            None => false,
+        }
     }
 
     /// Whether the beat breaks a rule of later beats by each reading.
@@ -268,7 +275,7 @@ impl Readings {
     {
         // After the lead-in each later beat ends here.
         if let Some(head) = self.sole_head() {
-            return check_later(alloc, link, &head, beat);
+            return check_later(alloc, link, head, beat);
         }
         let mut rules = RuleList::new(alloc);
         rules.push_if(self.breaks(link, beat, Rule::F5), Rule::F5);
@@ -285,7 +292,7 @@ impl Readings {
         ensures seen { (before : List AnyBeat) → Tells self.old.seen before → Tells self.new.seen (beat.now ∷ before) }
     {
         self.seen.add(beat);
-        self.one = self.one.after(link, beat);
+        self.one.pass(link, beat);
         pass_all(&mut self.others, link, beat);
         // Two readings that both begin a message are one from then on.
         if self.one.is_due() {

@@ -1,13 +1,17 @@
 //! What a beat is by the readings of its channel: the first of a message for certain, one that may be, or a later one.
 
+ghost use Rattle.std.specs.Prelude.{◌≡◌, true, false};
 ghost use Rattle.tl_topology.specs.Topology.{IsSound};
+ghost use Rattle.tl_topology.specs.declared.LinkDecl.{LinkDecl as AnyLink};
 ghost use Rattle.tl_beats.specs.Beats.{IsWellFormed};
+ghost use Rattle.tl_definitions.specs.Readings.{in_lead_in};
 ghost use Rattle.tl_midway.specs.Standing.{IsKnown, Takes};
+ghost use Rattle.tl_midway.specs.declared.standing.Standing.TheVariants as standing;
 
 use crate::readings::Readings;
 use std::alloc::Global;
 use tl_beats::Beat;
-use tl_link_rules::RuleList;
+use tl_link_rules::{RuleList, keeps_burst};
 use tl_topology::LinkDecl;
 
 /// What a beat is by its readings.
@@ -19,6 +23,8 @@ pub enum Standing {
     Either(RuleList),
     /// It is a later beat of a message, and breaks these rules by each reading.
     Later(RuleList),
+    /// It is a later beat of a message, and breaks no rule.
+    GoesOn,
 }
 
 impl Readings {
@@ -44,6 +50,17 @@ impl Readings {
         }
     }
 
+    /// Whether the beat is seen to go on with a message of the capture and to break no rule, as most later beats do; false says nothing.
+    fn goes_on(&self, beat: &Beat) -> bool
+        ensures stands { result ≡ true → (link : AnyLink) → IsStanding link beat.now (shown_readings self.now) standing.GoesOn }
+        ensures alone { result ≡ true → in_lead_in (shown_readings self.now) ≡ false }
+    {
+        match self.sole_head() {
+            Some(head) => keeps_burst(head, beat),
+            None => false,
+        }
+    }
+
     /// What the channel's next beat is, which is this one; then makes these readings those of the beat after it. Where bursts are
     /// told by their fields, those of a beat of the lead-in drop the readings that they speak against.
     pub fn take(&mut self, alloc: Global, by_fields: bool, link: &LinkDecl, beat: &Beat) -> Standing
@@ -52,6 +69,10 @@ impl Readings {
         requires known { IsKnown self.old }
         ensures { Takes link.now by_fields beat.now self.old result self.new }
     {
+        if self.goes_on(beat) {
+            self.pass(link, beat);
+            return Standing::GoesOn;
+        }
         self.meet(by_fields, link, beat);
         let standing = self.standing(alloc, link, beat);
         self.pass(link, beat);

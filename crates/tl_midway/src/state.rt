@@ -85,6 +85,7 @@ impl MidwayState {
                 self.pasts.step(false, link, at)
             }
             Standing::Later(later) => add_rows(rows, at, &later),
+            Standing::GoesOn => Ok(()),
         }
     }
 }

@@ -11,7 +11,6 @@ use crate::exact::Exact;
 use crate::same::Same;
 use std::alloc::{AllocError, Global};
 use std::collections::BTreeMap;
-use std::mem;
 
 /// How many places a map has once it has a value.
 const FIRST_PLACES: usize = 16;

@@ -1,6 +1,4 @@
 use Rattle.std.proofs.Common.{◌==◌, cond, ap, ◌∙◌}
-use Rattle.std.specs.Ordering.{nat_cmp}
-use Rattle.std.specs.BTreeMap.{is_at}
 use Rattle.tl_midway.specs.Known.{opened}
 use Rattle.tl_midway.specs.KnownTable.{known_at}
 use Rattle.tl_midway.specs.CountedTable.{entry_known}
@@ -8,7 +6,7 @@ use Rattle.tl_midway.proofs.known_link.open_grant.Goals as goal
 
 pub returns-clause-sinks : goal.returns-clause-sinks
 returns-clause-sinks c f other =
-    c.in_ok-set.ensures f other ∙ ap (λ v. cond (is_at (nat_cmp c.args.sink) other) v (known_at nat_cmp c.args.sinks.now f other)) c.opened.ensures
+    c.in_ok-set.ensures f other ∙ ap (λ v. cond (c.args.sink == other) v (known_at c.args.sinks.now f other)) c.opened.ensures
 
 pub returns-clause-granted : goal.returns-clause-granted
 returns-clause-granted c f other =

@@ -3,13 +3,12 @@ use Rattle.tl_definitions.specs.OpenTables.{one_if, passes}
 use Rattle.tl_definitions.specs.Past.{grants_block}
 use Rattle.tl_client_rules.specs.OpenBlocks.{block_at, open_on}
 use Rattle.tl_midway.specs.Known.{known_of}
-use Rattle.tl_midway.specs.CountedTable.{entry_known}
-use Rattle.tl_midway.proofs.CountedLaws.{counted_next, same_place}
+use Rattle.tl_midway.proofs.CountedLaws.{counted_next}
 use Rattle.tl_midway.proofs.counted.CountedTable.set.Goals as goal
 
 pub returns-clause-entries : goal.returns-clause-entries
 returns-clause-entries g c f other =
-    c.in_ok-set-2.ensures f other ∙ ap (λ b. cond b (known_of c.args.entry) (entry_known c.args.self.now f other)) (same_place c.args.key other)
+    c.in_ok-set-2.ensures f other
 
 pub returns-clause-counted : goal.returns-clause-counted
 returns-clause-counted g c block_of first has was =
@@ -20,5 +19,5 @@ returns-clause-counted g c block_of first has was =
     (λ other. c.in_ok-set.ensures.blocks other ∙ ap (λ p. cond (key == other) p (block_at old.counted other)) c.open_block.ensures)
     (λ on. c.in_ok-set.ensures.counts on
     ∙ ap (λ p. one_if (passes (grants_block on) p) + (open_on old.counted on - one_if (passes (grants_block on) (block_at old.counted key)))) c.open_block.ensures)
-    (λ f other. c.in_ok-set-2.ensures f other ∙ ap (λ b. cond b (known_of c.args.entry) (entry_known old f other)) (same_place key other))
+    (λ f other. c.in_ok-set-2.ensures f other)
     was

@@ -1,6 +1,5 @@
 use Rattle.std.proofs.Common.{◌==◌, not, cond, ap, ◌∙◌}
-use Rattle.std.specs.BTreeSet.{contains}
-use Rattle.std.specs.Ordering.{nat_cmp}
+use Rattle.tl_midway.specs.KnownBounds.{holds}
 use Rattle.tl_midway.proofs.BoundLaws.{bound_set}
 use Rattle.tl_midway.proofs.known_bounds.KnownBounds.set.Goals as goal
 
@@ -8,6 +7,6 @@ pub returns : goal.returns
 returns c =
     let old = c.args.self.now in
     bound_set old (record { not_nothing = c.put.new.blocks; not_branch = c.put-2.new.blocks; not_trunk = c.put-3.new.blocks }) c.args.block c.args.perm
-    (λ other. c.in_ok-put.ensures other ∙ ap (λ b. cond (c.args.block == other) (not b) (contains nat_cmp old.not_nothing other)) c.same_perm.ensures)
-    (λ other. c.in_ok-put-2.ensures other ∙ ap (λ b. cond (c.args.block == other) (not b) (contains nat_cmp old.not_branch other)) c.same_perm-2.ensures)
-    (λ other. c.in_ok-put-3.ensures other ∙ ap (λ b. cond (c.args.block == other) (not b) (contains nat_cmp old.not_trunk other)) c.same_perm-3.ensures)
+    (λ other. c.in_ok-put.ensures other ∙ ap (λ b. cond (c.args.block == other) (not b) (holds old.not_nothing other)) c.same_perm.ensures)
+    (λ other. c.in_ok-put-2.ensures other ∙ ap (λ b. cond (c.args.block == other) (not b) (holds old.not_branch other)) c.same_perm-2.ensures)
+    (λ other. c.in_ok-put-3.ensures other ∙ ap (λ b. cond (c.args.block == other) (not b) (holds old.not_trunk other)) c.same_perm-3.ensures)

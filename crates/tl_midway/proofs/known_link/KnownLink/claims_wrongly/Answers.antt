@@ -6,8 +6,6 @@ use Rattle.tl_definitions.specs.Rules.{is_wrong}
 use Rattle.tl_definitions.specs.Known.{KnownClient}
 use Rattle.tl_definitions.specs.Printed.{every_bound}
 use Rattle.tl_midway.specs.KnownLink.{shown}
-use Rattle.tl_midway.specs.KnownBounds.{possible_of}
-use Rattle.tl_midway.proofs.BoundLaws.{every_same}
 use Rattle.tl_midway.proofs.known_link.KnownLink.claims_wrongly.Goals as goal
 
 pub returns-in-Some : goal.returns-in-Some
@@ -15,7 +13,6 @@ returns-in-Some c =
     let past : KnownClient = (shown c.args.self.now).client in
     let test : Perm → Bool = λ held. is_wrong c.args.strict held c.in-Some.from in
     c.surely_wrong.ensures
-    ∙ every_same test (possible_of c.bound-bound.result) (past.bound c.block.result) c.bound-bound.ensures
     ∙ ap (λ b. every_bound test (past.bound b)) c.block.ensures
     ∙ ap (λ found. option_map_or (λ from. every_bound (λ held. is_wrong c.args.strict held from) (past.bound (round_down c.args.self.now.exponent c.args.head.now.address))) found false)
     c.in-Some.ensures

@@ -4,10 +4,8 @@ use Rattle.tl_tables.specs.declared.Perm.{Perm}
 use Rattle.tl_definitions.specs.Messages.{round_down}
 use Rattle.tl_definitions.specs.Rules.{is_wrong}
 use Rattle.tl_definitions.specs.Known.{KnownClient}
-use Rattle.tl_midway.specs.KnownLink.{shown}
-use Rattle.tl_midway.specs.KnownBounds.{possible_of}
 use Rattle.tl_midway.specs.Unjudged.{some_bound}
-use Rattle.tl_midway.proofs.AskedLaws.{some_same}
+use Rattle.tl_midway.specs.KnownLink.{shown}
 use Rattle.tl_midway.proofs.known_link.KnownLink.may_claim_wrongly.Goals as goal
 
 pub returns-in-Some : goal.returns-in-Some
@@ -15,7 +13,6 @@ returns-in-Some c =
     let past : KnownClient = (shown c.args.self.now).client in
     let test : Perm → Bool = λ held. is_wrong c.args.strict held c.in-Some.from in
     c.may_be_wrong.ensures
-    ∙ some_same test (possible_of c.bound-bound.result) (past.bound c.block.result) c.bound-bound.ensures
     ∙ ap (λ b. some_bound test (past.bound b)) c.block.ensures
     ∙ ap (λ found. option_map_or (λ from. some_bound (λ held. is_wrong c.args.strict held from) (past.bound (round_down c.args.self.now.exponent c.args.head.now.address))) found false)
     c.in-Some.ensures

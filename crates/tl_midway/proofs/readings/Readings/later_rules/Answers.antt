@@ -1,6 +1,7 @@
 use Rattle.std.proofs.Common.{◌++◌, ◌∷◌, [], Bool, append-nil, sym, ap, ◌∙◌}
 use Rattle.std.specs.Prelude.{filter}
 use Rattle.std.specs.List.{list_all}
+use Rattle.std.specs.Option.{option_copied}
 use Rattle.tl_tables.specs.declared.Rule.{Rule}
 use Rattle.tl_tables.specs.declared.Rule.TheVariants as rule
 use Rattle.tl_definitions.specs.Breaks.{later_order}
@@ -12,13 +13,13 @@ use Rattle.tl_midway.proofs.readings.Readings.later_rules.Goals as goal
 
 pub check_later-requires-clause-head : goal.check_later-requires-clause-head
 check_later-requires-clause-head c =
-    let found = c.sole_head.ensures c.in-Some.head c.in-Some.is in
-    sole_formed c.in-Some.head found.0 (shown_readings c.args.self.now) found.1 c.requires.formed
+    let found = c.sole_head.ensures c.in-Some.head.now (ap option_copied c.in-Some.is) in
+    sole_formed c.in-Some.head.now found.0 (shown_readings c.args.self.now) found.1 c.requires.formed
 
 pub returns-in-Some : goal.returns-in-Some
 returns-in-Some c =
-    let found = c.sole_head.ensures c.in-Some.head c.in-Some.is in
-    c.check_later.ensures ∙ sole_rules c.args.link.now c.args.beat.now c.in-Some.head found.0 (shown_readings c.args.self.now) found.1
+    let found = c.sole_head.ensures c.in-Some.head.now (ap option_copied c.in-Some.is) in
+    c.check_later.ensures ∙ sole_rules c.args.link.now c.args.beat.now c.in-Some.head.now found.0 (shown_readings c.args.self.now) found.1
 
 pub returns : goal.returns
 returns c =

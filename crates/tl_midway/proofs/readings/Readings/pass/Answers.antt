@@ -11,9 +11,9 @@ pub returns-then-is_due-clause-members : goal.returns-then-is_due-clause-members
 returns-then-is_due-clause-members c =
     let state = c.args.self.now in
     let later : Reading → Bool = λ y. not (is_due y) in
-    let first : Reading = shown_reading c.after-self.result in
+    let first : Reading = shown_reading c.pass.new.self in
     let others : List Reading = map (reading_after c.args.link.now c.args.beat.now) (map shown_reading state.others.items) in
     let left : map shown_reading c.drop_due.new.readings.items ≡ filter later others =
     ap (map shown_reading) c.drop_due.ensures ∙ sym (kept_mapped later shown_reading c.pass_all.new.readings.items) ∙ ap (filter later) c.pass_all.ensures in
     subst (λ (xs : List Reading). SameMembers (first ∷ xs) (reading_after c.args.link.now c.args.beat.now (shown_reading state.one) ∷ others)) (sym left)
-    (subst (λ (y : Reading). SameMembers (first ∷ filter later others) (y ∷ others)) c.after-self.ensures (one_due first others (sym c.is_due.ensures ∙ c.if-is_due.true)))
+    (subst (λ (y : Reading). SameMembers (first ∷ filter later others) (y ∷ others)) c.pass.ensures (one_due first others (sym c.is_due.ensures ∙ c.if-is_due.true)))

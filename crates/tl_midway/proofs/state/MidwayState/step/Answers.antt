@@ -1,4 +1,4 @@
-use Rattle.std.proofs.Common.{true, false, subst}
+use Rattle.std.proofs.Common.{true, false, Result, Ok, [], append-nil, sym, subst}
 use Rattle.tl_topology.specs.Regions.{areas_of}
 use Rattle.tl_definitions.specs.Known.{readings_of}
 use Rattle.tl_midway.specs.Standing.{IsStanding}
@@ -54,3 +54,25 @@ returns-in-Later-clause-next c m start before stands serves =
     let took = c.take.ensures.stands m start before stands.readings serves.declared in
     let is = subst (IsStanding link p.beat (readings_of m start before p)) c.in-Later.is took.0 in
     later_both m start before p link areas serves c.add_rows-in-Later.result c.take.new.self c.args.self.now.pasts took.1 is.1 stands.pasts
+
+pub returns-in-GoesOn-clause-rows : goal.returns-in-GoesOn-clause-rows
+returns-in-GoesOn-clause-rows c m start before stands serves =
+    let p = c.args.at.now in
+    let link = c.args.link.now in
+    let areas = areas_of c.args.regions.now in
+    let took = c.take.ensures.stands m start before stands.readings serves.declared in
+    let is = subst (IsStanding link p.beat (readings_of m start before p)) c.in-GoesOn.is took.0 in
+    later_rows m start before p link areas serves [] c.args.rows.now.items c.args.rows.now.items is.0 is.2 (sym (append-nil c.args.rows.now.items))
+
+-- Nothing is put, so nothing is refused.
+abbrev done : Result (Unit {0}) (Unit {0})
+done = Ok tt
+
+pub returns-in-GoesOn-clause-next : goal.returns-in-GoesOn-clause-next
+returns-in-GoesOn-clause-next c m start before stands serves =
+    let p = c.args.at.now in
+    let link = c.args.link.now in
+    let areas = areas_of c.args.regions.now in
+    let took = c.take.ensures.stands m start before stands.readings serves.declared in
+    let is = subst (IsStanding link p.beat (readings_of m start before p)) c.in-GoesOn.is took.0 in
+    later_both m start before p link areas serves done c.take.new.self c.args.self.now.pasts took.1 is.1 stands.pasts

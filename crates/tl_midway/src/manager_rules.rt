@@ -153,12 +153,33 @@ impl KnownPasts {
         let place = self.place(at.link).unwrap();
         let past = &self.links[place].past;
         let request = past.request(op, &at.beat);
+        // Most heads end here, and no list is made.
         if past.keeps_flow(op, &at.beat, request)
             && past.keeps_permissions(strict, op, &at.beat)
             && self.keeps_managers(at.link, op, &at.beat, request)
         {
             return Ok(());
         }
+        self.put_message(alloc, strict, op, at, rows)
+    }
+
+    /// The same, rule by rule.
+    #[cold]
+    #[inline(never)]
+    fn put_message(
+        &self,
+        alloc: Global,
+        strict: bool,
+        op: Op,
+        at: &Placed,
+        rows: &mut Vec<Row>,
+    ) -> Result<(), AllocError>
+        requires { HasPlace (numbers_of self.now) at.now.link }
+        ensures { AfterMessages self.now (λ m f. OnOk result (rows.new.items ≡ rows.old.items ++ map (row_of at.now) (message_broken strict m f at.now.link (bare op at.now.beat)))) }
+    {
+        let place = self.place(at.link).unwrap();
+        let past = &self.links[place].past;
+        let request = past.request(op, &at.beat);
         let flow = past.flow_rules(alloc, op, &at.beat);
         let permissions = past.permission_rules(alloc, strict, op, &at.beat);
         let across = self.manager_rules(alloc, at.link, op, &at.beat, request);
@@ -167,8 +188,10 @@ impl KnownPasts {
         add_rows(rows, at, &across)
     }
 
-    /// Puts the rows of the format rules that a head breaks at the end. [TileLink 1.8: message fields, alignment, byte lanes, corrupt and
+    /// Puts the rows of the format rules that a head breaks at the end. Most break none. [TileLink 1.8: message fields, alignment, byte lanes, corrupt and
     /// denied, transfer operations]
+    #[cold]
+    #[inline(never)]
     fn add_format(
         &self,
         alloc: Global,

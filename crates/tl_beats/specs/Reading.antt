@@ -1,7 +1,7 @@
 -- Reading a fragment from its first line on, up to the first fault.
 use Rattle.std.specs.Prelude.{ℕ, ◌+◌, ◌-◌, ◌^◌, ◌==◌, ◌||◌, Bool, true, false, List, [], ◌∷◌, ◌++◌, length, codes, Option, Some, None, Result, Ok, Err, nat_lt, nat_le, if◌then◌else◌, slice_get}
 use Rattle.std.specs.Str.{bytes_eq}
-use Rattle.tl_text.specs.Words.{◌>>=◌, word_at}
+use Rattle.tl_text.specs.Words.{◌>>=◌, word_at, lines_of}
 use Rattle.tl_text.specs.Numbers.{number_at}
 use Rattle.tl_text.specs.Names.{bit_at}
 use Rattle.tl_text.specs.Readings.{◌>>>◌, or_fault}
@@ -128,6 +128,10 @@ beats_from first last n before [] = Err (fault.Truncated n)
 beats_from first last n before (line ∷ []) = Err (fault.Truncated n)
 beats_from first last n before (line ∷ next ∷ lines) = if bytes_eq line (codes "end") then Ok (before, next ∷ lines)
     else (next_at first last n before line >>> λ beat. beats_from first last (n + 1) (before ++ beat ∷ []) (next ∷ lines))
+
+-- the same of a text, after all beats of the fragment so far: they are those of lines 2 and on
+abbrev pub read_on : ℕ → ℕ → List Beat → List ℕ → Result (List Beat × List (List ℕ)) FragmentFault
+read_on first last before text = beats_from first last (length before + 2) before (lines_of text)
 
 -- a fragment's beats and what follows, after its header
 unfoldable pub fragment_behind : Header → List (List ℕ) → Result (Frag × List (List ℕ)) FragmentFault

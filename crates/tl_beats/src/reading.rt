@@ -9,7 +9,7 @@ ghost use Rattle.tl_beats.specs.Faults.{is_memory, is_outside};
 ghost use Rattle.tl_beats.specs.Fragments.{AreBeats, Frag, IsFragment};
 ghost use Rattle.tl_beats.specs.Fronts.{IsFrontLine};
 ghost use Rattle.tl_beats.specs.Text.{fragment_text};
-ghost use Rattle.tl_beats.specs.Reading.{range_at, header_at, next_at, beats_from, fragment_behind, fragment_in, whole_fragment_in};
+ghost use Rattle.tl_beats.specs.Reading.{range_at, header_at, next_at, beats_from, read_on, fragment_behind, fragment_in, whole_fragment_in};
 
 use crate::Beat;
 use crate::beat_line::beat_of;
@@ -101,10 +101,10 @@ fn burst_of<'a>(
 ) -> Result<&'a [u8], FragmentFault>
     requires line { IsFrontLine line.now }
     requires kept { AreBeats first last beats.old.items }
-    ensures read { IfOk result (λ rest. beats_from first last (length beats.new.items + 2) beats.new.items (lines_of rest.now) ≡ beats_from first last (length beats.old.items + 2) beats.old.items (lines_of text.now)) }
+    ensures read { IfOk result (λ rest. read_on first last beats.new.items rest.now ≡ read_on first last beats.old.items text.now) }
     ensures kept { IfOk result (λ rest. AreBeats first last beats.new.items) }
     ensures behind { IfOk result (λ rest. IsBehind text.now rest.now) }
-    ensures fault { IfErr result (λ e. Fails is_memory e (beats_from first last (length beats.old.items + 2) beats.old.items (lines_of text.now))) }
+    ensures fault { IfErr result (λ e. Fails is_memory e (read_on first last beats.old.items text.now)) }
     ensures inside { IfErr result (λ e. is_outside e ≡ is_memory e) }
 {
     let mut rest = text;
@@ -129,10 +129,10 @@ fn later_beats<'a>(
 ) -> Result<&'a [u8], FragmentFault>
     requires line { IsFrontLine line.now }
     requires kept { AreBeats first last beats.old.items }
-    ensures read { IfOk result (λ rest. beats_from first last (length beats.new.items + 2) beats.new.items (lines_of rest.now) ≡ beats_from first last (length beats.old.items + 2) beats.old.items (lines_of text.now)) }
+    ensures read { IfOk result (λ rest. read_on first last beats.new.items rest.now ≡ read_on first last beats.old.items text.now) }
     ensures kept { IfOk result (λ rest. AreBeats first last beats.new.items) }
     ensures behind { IfOk result (λ rest. IsBehind text.now rest.now) }
-    ensures fault { IfErr result (λ e. Fails is_memory e (beats_from first last (length beats.old.items + 2) beats.old.items (lines_of text.now))) }
+    ensures fault { IfErr result (λ e. Fails is_memory e (read_on first last beats.old.items text.now)) }
     ensures inside { IfErr result (λ e. is_outside e ≡ is_memory e) }
 {
     if line.may_go_on(text) {

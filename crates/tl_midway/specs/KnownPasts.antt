@@ -10,11 +10,13 @@ use Rattle.tl_tables.specs.declared.Rule.TheVariants as rule
 use Rattle.tl_tables.specs.Kinds.{conflicts, is_grant, is_probe}
 use Rattle.tl_topology.specs.Regions.{Area}
 use Rattle.tl_topology.specs.declared.LinkDecl.{LinkDecl}
+use Rattle.tl_beats.specs.declared.Beat.{Beat}
 use Rattle.tl_beats.specs.declared.Placed.{Placed}
 use Rattle.tl_beats.specs.declared.Request.{Request}
 use Rattle.tl_definitions.specs.Messages.{Message, block_of, claim}
 use Rattle.tl_definitions.specs.Readings.{may_begin, must_begin}
-use Rattle.tl_definitions.specs.Rules.{Manager, flow_order, permission_order, manager_order}
+use Rattle.tl_definitions.specs.Heads.{message_of}
+use Rattle.tl_definitions.specs.Rules.{Manager, format_rules, flow_order, permission_order, manager_order}
 use Rattle.tl_definitions.specs.Known.{Known, Beginning, surely, answering, known_request, readings_of}
 use Rattle.tl_definitions.specs.Printed.{Front, front, every_bound, grant_open, breaks_flow_surely, breaks_manager_surely}
 use Rattle.tl_client_rules.specs.Client.{acquired_block}
@@ -75,6 +77,10 @@ breaks_shown_manager state link request message rule.M1 = is_grant message.op &&
 breaks_shown_manager state link request message rule.M2 = is_grant message.op && probe_known state request
 breaks_shown_manager state link request message rule.M3 = is_probe message.op && grant_shown state (block_of state.exponent message)
 breaks_shown_manager state link request message _ = false
+
+-- The format rules that a certain head of a link breaks, of a manager whose blocks have 2 to this power bytes.
+abbrev pub format_broken : ℕ → List Area → LinkDecl → Beat → List Rule
+format_broken exponent areas link head = format_rules exponent areas link head (message_of link head)
 
 -- The flow rules, the permission rules and the manager rules that a certain head with this message breaks, on a link that is
 -- strict or isn't.

@@ -7,8 +7,8 @@ ghost use Rattle.tl_topology.specs.Regions.{areas_of};
 ghost use Rattle.tl_topology.specs.Topology.{IsSound};
 ghost use Rattle.tl_beats.specs.Beats.{IsWellFormed};
 ghost use Rattle.tl_definitions.specs.Breaks.{row_of};
-ghost use Rattle.tl_definitions.specs.Heads.{message_of};
-ghost use Rattle.tl_definitions.specs.Rules.{format_rules, manager_order};
+ghost use Rattle.tl_definitions.specs.Rules.{manager_order};
+ghost use Rattle.tl_midway.specs.KnownPasts.{format_broken};
 ghost use Rattle.tl_definitions.specs.Known.{surely, bare};
 ghost use Rattle.tl_definitions.specs.Printed.{every_bound, front, printed_rules};
 ghost use Rattle.tl_midway.specs.Known.{known_of};
@@ -202,7 +202,7 @@ impl KnownPasts {
     ) -> Result<(), AllocError>
         requires link { IsSound link.now }
         requires beat { IsWellFormed at.now.beat }
-        ensures { OnOk result (rows.new.items ≡ rows.old.items ++ map (row_of at.now) (format_rules self.now.exponent (areas_of regions.now) link.now at.now.beat (message_of link.now at.now.beat))) }
+        ensures { OnOk result (rows.new.items ≡ rows.old.items ++ map (row_of at.now) (format_broken self.now.exponent (areas_of regions.now) link.now at.now.beat)) }
     {
         let format = check_head(alloc, link, self.exponent, regions, &at.beat);
         add_rows(rows, at, &format)

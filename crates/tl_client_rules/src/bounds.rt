@@ -114,11 +114,11 @@ impl Bounds {
         bound_in(&self.recent, &self.base, block)
     }
 
-    /// Whether to forget what was set of the block leaves it this bound.
+    /// Whether to forget what was set of the block leaves it this bound; false says nothing, so that nothing is searched for.
     pub fn is_settled(&self, block: u64, perm: Perm) -> bool
         ensures { result ≡ true → perm ≡ settled_at self.now block }
     {
-        perm == Perm::Nothing && self.base.get(&block).is_none()
+        perm == Perm::Nothing && self.base.is_empty()
     }
 
     /// Forgets what was set of the block since the bounds were settled.
@@ -128,25 +128,24 @@ impl Bounds {
         let _ = self.recent.take(block);
     }
 
-    /// Sets the bound of the block, and answers the bound that it had. At want of memory nothing has changed.
-    pub fn set(&mut self, block: u64, perm: Perm) -> Result<Perm, AllocError>
-        ensures old { IfOk result (λ old. old ≡ bound_at self.old block) }
+    /// Sets the bound of the block, and answers what was set of it since the bounds were settled, if anything was. At want of memory
+    /// nothing has changed.
+    pub fn set(&mut self, block: u64, perm: Perm) -> Result<Option<Perm>, AllocError>
+        ensures old { IfOk result (λ old. old ≡ recent_at self.old block) }
         ensures ok { OnOk result ((other : ℕ) → bound_at self.new other ≡ (if block == other then perm else bound_at self.old other)) }
+        ensures settled { (other : ℕ) → settled_at self.new other ≡ settled_at self.old other }
         ensures kept { OnOk result (IsSome (recent_at self.new block)) }
         ensures err { OnErr result (SameBounds self.old self.new) }
     {
-        match self.recent.set(block, Some(perm))? {
-            Some(before) => Ok(before),
-            None => Ok(perm_of(self.base.get(&block))),
-        }
+        self.recent.set(block, Some(perm))
     }
 
-    /// Sets the bound of a block that was set since the bounds were settled.
-    pub fn put(&mut self, block: u64, perm: Perm)
+    /// Has this set of a block of which something was set since the bounds were settled; None forgets what was set.
+    pub fn put_back(&mut self, block: u64, before: Option<Perm>)
         requires room { IsSome (recent_at self.old block) }
-        ensures { (other : ℕ) → bound_at self.new other ≡ (if block == other then perm else bound_at self.old other) }
+        ensures { (other : ℕ) → bound_at self.new other ≡ (if block == other then unwrap_or before (settled_at self.old block) else bound_at self.old other) }
     {
-        let _ = self.recent.set(block, Some(perm));
+        let _ = self.recent.set(block, before);
     }
 
     /// Settles the bounds, so that copies share them. At want of memory they are the same too.

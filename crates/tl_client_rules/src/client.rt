@@ -284,7 +284,7 @@ impl ClientState {
         let before = self.bounds.set(block, set)?;
         let done = self.open_and_close(op, head, request);
         if done.is_err() {
-            self.bounds.put(block, before);
+            self.bounds.put_back(block, before);
         }
         done
     }

@@ -46,6 +46,24 @@ module _ {E L : Type 0} (items : L → List E) where
       pub leaf_at : flat_map items (take 1 (drop i ls)) ≡ items l
       leaf_at = ap (λ t. flat_map items (take 1 t)) (drop_more ls i l inside ∙ ap (λ x. x ∷ drop (i + 1) ls) (sym is)) ∙ append-nil (items l)
 
+  module _ (ls : List L) (i : ℕ) (inside : i < length ls) (l : L) (is : l ≡ get_or ls i l) (other : L) where
+    -- a leaf in which some entries came in the place of others
+    pub all_edited : (start end : ℕ) (mid : List E) → items other ≡ take start (items l) ++ (mid ++ drop end (items l))
+        → flat_map items (set ls i other) ≡ (flat_map items (take i ls) ++ take start (flat_map items (take 1 (drop i ls)))) ++ (mid ++ (drop end (flat_map items (take 1 (drop i ls))) ++ flat_map items (drop (i + 1) ls)))
+    all_edited start end mid is_made =
+        let A = flat_map items (take i ls) in
+        let B = flat_map items (drop (i + 1) ls) in
+        let own = leaf_at ls i inside l is in
+        all_set ls i inside other (take start (items l) ++ (mid ++ drop end (items l))) is_made
+        ∙ ap (λ t. A ++ ((take start t ++ (mid ++ drop end t)) ++ B)) (sym own)
+        ∙ ap (λ t. A ++ t) (append_assoc (take start (flat_map items (take 1 (drop i ls)))) (mid ++ drop end (flat_map items (take 1 (drop i ls)))) B
+        ∙ ap (λ t. take start (flat_map items (take 1 (drop i ls))) ++ t) (append_assoc mid (drop end (flat_map items (take 1 (drop i ls)))) B))
+        ∙ sym (append_assoc A (take start (flat_map items (take 1 (drop i ls)))) (mid ++ (drop end (flat_map items (take 1 (drop i ls))) ++ B)))
+
+    -- and one that has the entries that it had
+    pub all_kept : items other ≡ items l → flat_map items (set ls i other) ≡ flat_map items ls
+    all_kept same = all_set ls i inside other (items l) same ∙ sym (all_around (take i ls) l (drop (i + 1) ls)) ∙ ap (flat_map items) (sym (around ls i l inside is))
+
   -- all entries, cut at a place of a leaf
   pub all_cut : (ls : List L) (i w : ℕ)
       → flat_map items ls ≡ (flat_map items (take i ls) ++ take w (flat_map items (take 1 (drop i ls)))) ++ (drop w (flat_map items (take 1 (drop i ls))) ++ flat_map items (drop (i + 1) ls))
@@ -57,3 +75,9 @@ module _ {E L : Type 0} (items : L → List E) where
       ap (flat_map items) (sym (take-append-drop i ls)) ∙ flat_map-append items (take i ls) (drop i ls)
       ∙ ap (λ t. A ++ t) (rest ∙ ap (λ t. t ++ B) (sym (take-append-drop w own)) ∙ append_assoc (take w own) (drop w own) B)
       ∙ sym (append_assoc A (take w own) (drop w own ++ B))
+
+-- an element set in the place of another
+pub put_split : {E : Type 0} (xs : List E) (start end : ℕ) (e : E) → start < length xs → start + 1 ≡ end → set xs start e ≡ take start xs ++ e ∷ drop end xs
+put_split xs start end e inside is =
+    let one : suc start ≡ start + 1 = omega arith in
+    set_split xs start e inside ∙ ap (λ n. take start xs ++ e ∷ drop n xs) (one ∙ is)

@@ -27,7 +27,7 @@ pub(crate) fn set_in<K: Ord + Copy, V: Copy>(
     ensures rises { Rises K.cmp (all_entries leaves.new.items) }
     ensures full { EachHasEntries leaves.new.items }
     ensures len { IfOk result (λ old. length (all_entries leaves.new.items) ≡ length (all_entries leaves.old.items) + (if is_some old then 0 else 1)) }
-    ensures err { OnErr result (leaves.new.items ≡ leaves.old.items) }
+    ensures err { OnErr result (all_entries leaves.new.items ≡ all_entries leaves.old.items) }
 {
     let Some(spot) = find(leaves.as_slice(), &key) else {
         put_last(alloc, leaves, (key, value))?;
@@ -62,7 +62,7 @@ pub(crate) fn remove_in<K: Ord + Copy, V: Copy>(
     ensures full { EachHasEntries leaves.new.items }
     ensures len { IfOk result (λ old. length (all_entries leaves.new.items) + (if is_some old then 1 else 0) ≡ length (all_entries leaves.old.items)) }
     ensures wanted { OnErr result (IsSome (value_at K.cmp (all_entries leaves.old.items) key.now)) }
-    ensures err { OnErr result (leaves.new.items ≡ leaves.old.items) }
+    ensures err { OnErr result (all_entries leaves.new.items ≡ all_entries leaves.old.items) }
 {
     let Some(spot) = find(leaves.as_slice(), key) else {
         return Ok(None);

@@ -1,7 +1,7 @@
 //! The leaves of a map: runs of its entries, of which none is empty. Nothing here knows of the order of keys.
 
-ghost use Rattle.std.specs.Prelude.{◌≡◌, ◌≤◌, ◌<◌, ◌+◌, ◌++◌, ◌∷◌, [], length, take, drop, IfOk, OnOk, OnErr, option_to_list};
-ghost use Rattle.tl_state.specs.Leaves.{all_entries, entries_of, entries_ahead, entries_behind, EachHasEntries};
+ghost use Rattle.std.specs.Prelude.{◌≡◌, ◌≤◌, ◌<◌, ◌+◌, ◌++◌, ◌∷◌, [], length, take, drop, true, false, IfOk, OnOk, OnErr, option_to_list};
+ghost use Rattle.tl_state.specs.Leaves.{leaf_entries, all_entries, entries_of, entries_ahead, entries_behind, EachHasEntries};
 
 use std::alloc::{AllocError, Global};
 use std::sync::Arc;
@@ -34,6 +34,57 @@ fn spliced<K: Copy, V: Copy>(
     Ok(made)
 }
 
+/// Puts an entry, or none, in the place of the one from `start` to `end`, or of none. At want of memory nothing has changed.
+fn put_in<K: Copy, V: Copy>(
+    entries: &mut Vec<(K, V)>,
+    start: usize,
+    end: usize,
+    entry: Option<(K, V)>,
+) -> Result<(), AllocError>
+    requires start { start ≤ end }
+    requires near { end ≤ start + 1 }
+    requires end { end ≤ length entries.old.items }
+    ensures ok { OnOk result (entries.new.items ≡ take start entries.old.items ++ (option_to_list entry ++ drop end entries.old.items)) }
+    ensures err { OnErr result (entries.new.items ≡ entries.old.items) }
+{
+    match entry {
+        Some(entry) if start < end => entries[start] = entry,
+        Some(entry) => entries.insert(start, entry)?,
+        None if start < end => {
+            entries.remove(start);
+        }
+        None => {}
+    }
+    Ok(())
+}
+
+/// The same in a leaf that no other map has, where it then has from 1 to 64 entries; answers whether that is so. False changes nothing,
+/// and at want of memory the entries are the same.
+fn edit<K: Copy, V: Copy>(
+    leaf: &mut Arc<Vec<(K, V)>>,
+    start: usize,
+    end: usize,
+    entry: Option<(K, V)>,
+) -> Result<bool, AllocError>
+    requires start { start ≤ end }
+    requires end { end ≤ length (leaf_entries leaf.old) }
+    ensures done { IfOk result (λ done. done ≡ true → leaf_entries leaf.new ≡ take start (leaf_entries leaf.old) ++ (option_to_list entry ++ drop end (leaf_entries leaf.old))) }
+    ensures some { 0 < length (leaf_entries leaf.old) → 0 < length (leaf_entries leaf.new) }
+    ensures not { IfOk result (λ done. done ≡ false → leaf.new ≡ leaf.old) }
+    ensures err { OnErr result (leaf_entries leaf.new ≡ leaf_entries leaf.old) }
+{
+    let taken = end - start;
+    let count = leaf.len() - taken + usize::from(entry.is_some());
+    if taken > 1 || count == 0 || count > LEAF {
+        return Ok(false);
+    }
+    let Some(entries) = Arc::get_mut(leaf) else {
+        return Ok(false);
+    };
+    put_in(entries, start, end, entry)?;
+    Ok(true)
+}
+
 /// Puts the entries in the place of a leaf, as one leaf or as two. At want of memory nothing has changed.
 fn put_leaf<K: Copy, V: Copy>(
     alloc: Global,
@@ -61,9 +112,28 @@ fn put_leaf<K: Copy, V: Copy>(
     Ok(())
 }
 
-/// Puts an entry, or none, in the place of those from `start` to `end` of a leaf. A leaf that is left without entries goes. At
-/// want of memory nothing has changed.
-pub(crate) fn replace<K: Copy, V: Copy>(
+/// Puts an entry, or none, in the place of those from `start` to `end` of a leaf that stands where it is, if `edit` may do so.
+fn edit_at<K: Copy, V: Copy>(
+    leaves: &mut Vec<Arc<Vec<(K, V)>>>,
+    at: usize,
+    start: usize,
+    end: usize,
+    entry: Option<(K, V)>,
+) -> Result<bool, AllocError>
+    requires at { at < length leaves.old.items }
+    requires start { start ≤ end }
+    requires end { end ≤ length (entries_of leaves.old.items at) }
+    ensures done { IfOk result (λ done. done ≡ true → all_entries leaves.new.items ≡ entries_ahead leaves.old.items at start ++ (option_to_list entry ++ entries_behind leaves.old.items at end)) }
+    ensures full { EachHasEntries leaves.old.items → EachHasEntries leaves.new.items }
+    ensures not { IfOk result (λ done. done ≡ false → leaves.new.items ≡ leaves.old.items) }
+    ensures err { OnErr result (all_entries leaves.new.items ≡ all_entries leaves.old.items) }
+{
+    edit(&mut leaves[at], start, end, entry)
+}
+
+/// The same by a leaf that is made anew, as one or as two. A leaf that is left without entries goes. At want of memory nothing has
+/// changed.
+fn remake_at<K: Copy, V: Copy>(
     alloc: Global,
     leaves: &mut Vec<Arc<Vec<(K, V)>>>,
     at: usize,
@@ -85,6 +155,29 @@ pub(crate) fn replace<K: Copy, V: Copy>(
         return Ok(());
     }
     put_leaf(alloc, leaves, at, made)
+}
+
+/// Puts an entry, or none, in the place of those from `start` to `end` of a leaf: where it stands if no other map has it, and else in
+/// one made anew. A leaf that is left without entries goes. At want of memory the entries are the same.
+pub(crate) fn replace<K: Copy, V: Copy>(
+    alloc: Global,
+    leaves: &mut Vec<Arc<Vec<(K, V)>>>,
+    at: usize,
+    start: usize,
+    end: usize,
+    entry: Option<(K, V)>,
+) -> Result<(), AllocError>
+    requires at { at < length leaves.old.items }
+    requires start { start ≤ end }
+    requires end { end ≤ length (entries_of leaves.old.items at) }
+    ensures ok { OnOk result (all_entries leaves.new.items ≡ entries_ahead leaves.old.items at start ++ (option_to_list entry ++ entries_behind leaves.old.items at end)) }
+    ensures full { EachHasEntries leaves.old.items → EachHasEntries leaves.new.items }
+    ensures err { OnErr result (all_entries leaves.new.items ≡ all_entries leaves.old.items) }
+{
+    if edit_at(leaves, at, start, end, entry)? {
+        return Ok(());
+    }
+    remake_at(alloc, leaves, at, start, end, entry)
 }
 
 /// Puts an entry after all others. At want of memory nothing has changed.

@@ -9,6 +9,9 @@ use std::sync::Arc;
 /// The most entries of a leaf.
 const LEAF: usize = 64;
 
+/// A leaf has room for a multiple of so many, so that some can come where it stands.
+const ROOM: usize = 8;
+
 /// The entries before `start` and those from `end` on, with an entry between them.
 fn spliced<K: Copy, V: Copy>(
     alloc: Global,
@@ -25,7 +28,8 @@ fn spliced<K: Copy, V: Copy>(
     let after = &entries[end..];
     let count = before.len().saturating_add(after.len());
     let count = count.saturating_add(usize::from(entry.is_some()));
-    let mut made = Vec::with_capacity(alloc, count)?;
+    let room = count.div_ceil(ROOM).saturating_mul(ROOM);
+    let mut made = Vec::with_capacity(alloc, room)?;
     made.extend_from_slice(before)?;
     if let Some(entry) = entry {
         made.push(entry)?;
@@ -58,8 +62,8 @@ fn put_in<K: Copy, V: Copy>(
     Ok(())
 }
 
-/// The same in a leaf that no other map has, where it then has from 1 to 64 entries; answers whether that is so. False changes nothing,
-/// and at want of memory the entries are the same.
+/// The same in a leaf that no other map has, where it then has an entry and no more than it has room for; answers whether that is so.
+/// False changes nothing, and at want of memory the entries are the same.
 fn edit<K: Copy, V: Copy>(
     leaf: &mut Arc<Vec<(K, V)>>,
     start: usize,
@@ -75,7 +79,7 @@ fn edit<K: Copy, V: Copy>(
 {
     let taken = end - start;
     let count = leaf.len() - taken + usize::from(entry.is_some());
-    if taken > 1 || count == 0 || count > LEAF {
+    if taken > 1 || count == 0 || count > LEAF.min(leaf.capacity()) {
         return Ok(false);
     }
     let Some(entries) = Arc::get_mut(leaf) else {

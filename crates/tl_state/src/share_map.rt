@@ -18,8 +18,9 @@ use std::marker::Model;
 use std::sync::Arc;
 
 /// A map from keys to values, in the order of its keys, of which a copy shares the entries with its source. They lie in leaves of
-/// up to 64. A copy costs a step for each leaf. A change makes the leaf anew that it touches, and leaves it as it was in every
-/// copy; so any change can be refused for want of memory. Leaves that removals leave with few entries are not joined.
+/// up to 64. A copy costs a step for each leaf. A change makes the leaf anew that it touches, unless no other map has it, and leaves it
+/// as it was in every copy; so any change can be refused for want of memory. Leaves that removals leave with few entries are not
+/// joined.
 #[derive(Drop)]
 pub struct ShareMap<K: Ord + Copy, V: Copy> {
     alloc: Global,

@@ -73,18 +73,18 @@ pub(crate) fn is_passed(alloc: Global, sieve: Sieve<'_>, text: &[u8]) -> Result<
 
 /// What came of reading some files, one after another.
 #[derive(Drop)]
-struct Part {
+pub(crate) struct Part {
     /// The fragments of those files that are checked, up to the first file that has a fault.
-    fragments: Vec<Arc<Fragment>>,
+    pub(crate) fragments: Vec<Arc<Fragment>>,
     /// How many files were read, and how many bytes they have.
-    files: usize,
-    bytes: u64,
-    fault: Option<Fault>,
+    pub(crate) files: usize,
+    pub(crate) bytes: u64,
+    pub(crate) fault: Option<Fault>,
 }
 
 impl Part {
     /// No file.
-    fn new(alloc: Global) -> Part {
+    pub(crate) fn new(alloc: Global) -> Part {
         Part {
             fragments: Vec::new(alloc),
             files: 0,
@@ -94,7 +94,7 @@ impl Part {
     }
 
     /// Reads a file, and parses it if it is checked.
-    fn read<R: Files + AllocGlobal>(
+    pub(crate) fn read<R: Files + AllocGlobal>(
         &mut self,
         rt: &R,
         path: &str,
@@ -142,7 +142,7 @@ fn join_parts<G: Gauge>(
 }
 
 /// Whether all of these are files of their own, which threads can read in any order; a pipe is read in its turn.
-fn are_files<R: Files + AllocGlobal>(rt: &R, paths: &[String]) -> bool {
+pub(crate) fn are_files<R: Files + AllocGlobal>(rt: &R, paths: &[String]) -> bool {
     for path in paths {
         match fs::metadata(rt, path.as_str()) {
             Ok(found) if found.is_file() => {}
@@ -180,7 +180,7 @@ fn fragments_in<R: Files + Threads + Sync + AllocGlobal, G: Gauge>(
 }
 
 /// The files that words stand for, up to the first word whose files can't be had, and why they can't.
-fn listed<R: Files + AllocGlobal + Clone + Drop>(
+pub(crate) fn listed<R: Files + AllocGlobal + Clone + Drop>(
     rt: &R,
     words: &[&str],
 ) -> Result<(Vec<String>, Option<Fault>), Fault> {

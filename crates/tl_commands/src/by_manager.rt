@@ -7,7 +7,7 @@ ghost use Rattle.tl_check.specs.Once.{AreRowsOf};
 ghost use Rattle.tl_commands.specs.Managers.{ManagersMakeTheWhole};
 
 use crate::fault::Fault;
-use crate::files::Part;
+use crate::files::{fragment_text, push_fragment};
 use crate::progress::{FilesRead, Gauge};
 use std::alloc::{AllocError, AllocFailed, Global};
 use std::rt::Files;
@@ -73,10 +73,11 @@ fn owned_in<R: Files + AllocGlobal, G: Gauge>(
     sieve: Sieve<'_>,
     read: &mut FilesRead<'_, G>,
 ) -> Result<Owned, Hitch> {
-    let mut part = Part::new(rt.alloc());
-    part.read(rt, path, sieve)?;
-    read.count(part.files, part.bytes);
-    let Some(fragment) = part.fragments.pop() else {
+    let text = fragment_text(rt, path)?;
+    read.count(&text);
+    let mut fragments = Vec::new(rt.alloc());
+    push_fragment(rt.alloc(), sieve, &text, &mut fragments)?;
+    let Some(fragment) = fragments.pop() else {
         return Err(Hitch::Together);
     };
     match manager_of(sieve.topo, &fragment) {

@@ -8,17 +8,17 @@ use crate::progress::{FilesRead, Gauge};
 use std::alloc::{AllocError, Global};
 use std::rt::Files;
 use std::sync::Arc;
-use std::thread::{Threads, map_chunks};
+use std::thread::Threads;
 use std::{fs, io};
 use tl_advice::Role;
 use tl_beats::{Fragment, FragmentFault, parse_whole_fragment};
 use tl_script::read_script;
-use tl_stream::{Share, Sieve};
+use tl_stream::{Parsers, Share, Sieve};
 use tl_text::{CountedReader, TextFault, read_text};
 use tl_topology::{Topo, TopoFault, read_topo};
 
-/// How many files each of several threads reads before it is told how many were read.
-const SHARE: usize = 16;
+/// How many bytes of fragments are read before they are parsed, where several threads do that.
+const MOST_HELD: usize = 16_777_216;
 
 /// The topology that a file's whole text is; bytes after its last line are BadLine of the next. FILE where it can't be opened or read.
 pub fn topology_of<R: Files + AllocGlobal>(rt: &R, path: &str) -> Result<Topo, Fault> {
@@ -52,7 +52,7 @@ pub(crate) fn whole_topology(alloc: Global, text: &[u8]) -> Result<Topo, TopoFau
 }
 
 /// The text of a fragment's file.
-fn fragment_text<R: Files + AllocGlobal>(rt: &R, path: &str) -> Result<Vec<u8>, Fault> {
+pub(crate) fn fragment_text<R: Files + AllocGlobal>(rt: &R, path: &str) -> Result<Vec<u8>, Fault> {
     let Ok(file) = fs::open(rt, path) else {
         return Err(Fault::FILE);
     };
@@ -71,112 +71,128 @@ pub(crate) fn is_passed(alloc: Global, sieve: Sieve<'_>, text: &[u8]) -> Result<
     }
 }
 
-/// What came of reading some files, one after another.
-#[derive(Drop)]
-pub(crate) struct Part {
-    /// The fragments of those files that are checked, up to the first file that has a fault.
-    pub(crate) fragments: Vec<Arc<Fragment>>,
-    /// How many files were read, and how many bytes they have.
-    pub(crate) files: usize,
-    pub(crate) bytes: u64,
-    pub(crate) fault: Option<Fault>,
-}
-
-impl Part {
-    /// No file.
-    pub(crate) fn new(alloc: Global) -> Part {
-        Part {
-            fragments: Vec::new(alloc),
-            files: 0,
-            bytes: 0,
-            fault: None,
-        }
-    }
-
-    /// Reads a file, and parses it if it is checked.
-    pub(crate) fn read<R: Files + AllocGlobal>(
-        &mut self,
-        rt: &R,
-        path: &str,
-        sieve: Sieve<'_>,
-    ) -> Result<(), Fault> {
-        let alloc = rt.alloc();
-        let text = fragment_text(rt, path)?;
-        self.files = self.files.saturating_add(1);
-        self.bytes = self.bytes.saturating_add(text.len() as u64);
-        if !is_passed(alloc, sieve, &text)? {
-            let fragment = parse_whole_fragment(alloc, &text)?;
-            self.fragments.push(Arc::new(alloc, fragment)?)?;
-        }
-        Ok(())
-    }
-}
-
-/// What these files have, each read and parsed before the next is opened, up to the first that has a fault.
-fn part_of<R: Files + AllocGlobal>(rt: &R, files: &[String], sieve: Sieve<'_>) -> Part {
-    let mut part = Part::new(rt.alloc());
-    for path in files {
-        if let Err(fault) = part.read(rt, path.as_str(), sieve) {
-            part.fault = Some(fault);
-            break;
-        }
-    }
-    part
-}
-
-/// Puts the fragments of parts after others, and tells of the files that were read. The fault is that of the first part that has one.
-fn join_parts<G: Gauge>(
-    parts: Vec<Part>,
+/// Puts the fragment that a whole text is after others, if it is checked.
+pub(crate) fn push_fragment(
+    alloc: Global,
+    sieve: Sieve<'_>,
+    text: &[u8],
     fragments: &mut Vec<Arc<Fragment>>,
-    read: &mut FilesRead<'_, G>,
 ) -> Result<(), Fault> {
-    for part in parts {
-        let mut part = part;
-        read.count(part.files, part.bytes);
-        fragments.append(&mut part.fragments)?;
-        if let Some(fault) = part.fault {
-            return Err(fault);
-        }
+    if !is_passed(alloc, sieve, text)? {
+        let fragment = parse_whole_fragment(alloc, text)?;
+        fragments.push(Arc::new(alloc, fragment)?)?;
     }
     Ok(())
 }
 
-/// Whether all of these are files of their own, which threads can read in any order; a pipe is read in its turn.
-pub(crate) fn are_files<R: Files + AllocGlobal>(rt: &R, paths: &[String]) -> bool {
-    for path in paths {
-        match fs::metadata(rt, path.as_str()) {
-            Ok(found) if found.is_file() => {}
-            _ => return false,
-        }
+/// The fragments of files that are checked, each read and parsed before the next is opened.
+fn fragments_in<R: Files + AllocGlobal, G: Gauge>(
+    rt: &R,
+    files: &[String],
+    sieve: Sieve<'_>,
+    read: &mut FilesRead<'_, G>,
+) -> Result<Vec<Arc<Fragment>>, Fault> {
+    let mut fragments = Vec::new(rt.alloc());
+    for path in files {
+        let text = fragment_text(rt, path.as_str())?;
+        read.count(&text);
+        push_fragment(rt.alloc(), sieve, &text, &mut fragments)?;
     }
-    true
+    Ok(fragments)
 }
 
-/// The fragments of files that are checked, read and parsed by this thread and so many beside it. The fault is that of the first file
-/// that has one.
-fn fragments_in<R: Files + Threads + Sync + AllocGlobal, G: Gauge>(
+/// The texts of some files, up to one that can't be read, and why it can't.
+#[derive(Drop)]
+struct Round {
+    texts: Vec<Vec<u8>>,
+    fault: Option<Fault>,
+}
+
+/// The texts of the first of these files, of one at least, until they have as many bytes as are read before any is parsed.
+fn next_round<R: Files + AllocGlobal, G: Gauge>(
+    rt: &R,
+    files: &[String],
+    read: &mut FilesRead<'_, G>,
+) -> Result<Round, Fault> {
+    let mut texts: Vec<Vec<u8>> = Vec::new(rt.alloc());
+    let mut held: usize = 0;
+    for path in files {
+        if held >= MOST_HELD {
+            break;
+        }
+        match fragment_text(rt, path.as_str()) {
+            Ok(text) => {
+                held = held.saturating_add(text.len());
+                read.count(&text);
+                texts.push(text)?;
+            }
+            Err(fault) => {
+                return Ok(Round {
+                    texts,
+                    fault: Some(fault),
+                });
+            }
+        }
+    }
+    Ok(Round { texts, fault: None })
+}
+
+/// The texts of the fragments that are checked.
+fn checked(
+    alloc: Global,
+    sieve: Sieve<'_>,
+    texts: Vec<Vec<u8>>,
+) -> Result<Vec<Vec<u8>>, AllocError> {
+    let mut kept = Vec::new(alloc);
+    for text in texts {
+        if !is_passed(alloc, sieve, &text)? {
+            kept.push(text)?;
+        }
+    }
+    Ok(kept)
+}
+
+/// The fragments that texts are, parsed by several threads. The fault is that of the first that is none.
+fn parsed_beside<R: Threads + Sync + AllocGlobal>(
+    parsers: &Parsers<'_, R>,
+    texts: &[Vec<u8>],
+) -> Result<Vec<Arc<Fragment>>, Fault> {
+    let parsed = parsers.parse(texts)?;
+    if let Some(fault) = parsed.fault {
+        return Err(fault.into());
+    }
+    let mut fragments = Vec::new(parsers.alloc());
+    for fragment in parsed.fragments {
+        fragments.push(Arc::new(parsers.alloc(), fragment)?)?;
+    }
+    Ok(fragments)
+}
+
+/// The fragments of files, parsed by so many threads beside this one, which reads them. The fault is that of the first file that has
+/// one.
+fn fragments_beside<R: Files + Threads + Sync + AllocGlobal, G: Gauge>(
     rt: &R,
     files: &[String],
     sieve: Sieve<'_>,
     workers: u8,
     read: &mut FilesRead<'_, G>,
 ) -> Result<Vec<Arc<Fragment>>, Fault> {
-    let (share, round) = match workers {
-        0 => (1, 1),
-        _ => (SHARE, SHARE * (usize::from(workers) + 1)),
-    };
-    let mut fragments = Vec::new(rt.alloc());
-    for paths in files.chunks(round) {
-        let parts = map_chunks(
-            rt,
-            rt.alloc(),
-            paths,
-            share,
-            &|_, part| part_of(rt, part, sieve),
-        )?;
-        join_parts(parts, &mut fragments, read)?;
+    let parsers = Parsers::new(rt, workers);
+    let mut all = Vec::new(rt.alloc());
+    let mut rest = files;
+    for _ in 0..files.len() {
+        let round = next_round(rt, rest, read)?;
+        rest = rest.get(round.texts.len()..).unwrap_or(&[]);
+        let texts = checked(rt.alloc(), sieve, round.texts)?;
+        all.append(&mut parsed_beside(&parsers, &texts)?)?;
+        if let Some(fault) = round.fault {
+            return Err(fault);
+        }
+        if rest.is_empty() {
+            break;
+        }
     }
-    Ok(fragments)
+    Ok(all)
 }
 
 /// The files that words stand for, up to the first word whose files can't be had, and why they can't.
@@ -194,6 +210,17 @@ pub(crate) fn listed<R: Files + AllocGlobal + Clone + Drop>(
     Ok((all, None))
 }
 
+/// Whether all of these are files of their own. What a pipe gives can't be had again, and may never come.
+pub(crate) fn are_files<R: Files + AllocGlobal>(rt: &R, paths: &[String]) -> bool {
+    for path in paths {
+        match fs::metadata(rt, path.as_str()) {
+            Ok(found) if found.is_file() => {}
+            _ => return false,
+        }
+    }
+    true
+}
+
 /// The fragments of the files that words stand for, of those that are checked, read by so many threads beside this one. The gauge is
 /// told of each file that was read. The fault is that of the first file or word that has one.
 pub(crate) fn fragments_of<R: Files + Threads + Sync + AllocGlobal + Clone + Drop, G: Gauge>(
@@ -205,12 +232,11 @@ pub(crate) fn fragments_of<R: Files + Threads + Sync + AllocGlobal + Clone + Dro
 ) -> Result<Vec<Arc<Fragment>>, Fault> {
     let (files, fault) = listed(rt, words)?;
     let mut read = FilesRead::none_of(files.len(), gauge);
-    let workers = if workers > 0 && are_files(rt, &files) {
-        workers
+    let fragments = if workers == 0 || !are_files(rt, &files) {
+        fragments_in(rt, &files, sieve, &mut read)?
     } else {
-        0
+        fragments_beside(rt, &files, sieve, workers, &mut read)?
     };
-    let fragments = fragments_in(rt, &files, sieve, workers, &mut read)?;
     match fault {
         Some(fault) => Err(fault),
         None => Ok(fragments),

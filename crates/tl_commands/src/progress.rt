@@ -189,10 +189,10 @@ impl<'g, G: Gauge> FilesRead<'g, G> {
         }
     }
 
-    /// Counts so many files of so many bytes, and tells how many were read.
-    pub(crate) fn count(&mut self, files: usize, bytes: u64) {
-        self.read = self.read.saturating_add(files);
-        self.bytes = self.bytes.saturating_add(bytes);
+    /// Counts the file of this text, and tells how many were read.
+    pub(crate) fn count(&mut self, text: &[u8]) {
+        self.read = self.read.saturating_add(1);
+        self.bytes = self.bytes.saturating_add(text.len() as u64);
         self.gauge.tell(SoFar::Files {
             read: self.read,
             all: self.all,

@@ -52,7 +52,7 @@ pub(crate) fn whole_topology(alloc: Global, text: &[u8]) -> Result<Topo, TopoFau
 }
 
 /// The text of a fragment's file.
-pub(crate) fn fragment_text<R: Files + AllocGlobal>(rt: &R, path: &str) -> Result<Vec<u8>, Fault> {
+fn fragment_text<R: Files + AllocGlobal>(rt: &R, path: &str) -> Result<Vec<u8>, Fault> {
     let Ok(file) = fs::open(rt, path) else {
         return Err(Fault::FILE);
     };
@@ -72,7 +72,7 @@ pub(crate) fn is_passed(alloc: Global, sieve: Sieve<'_>, text: &[u8]) -> Result<
 }
 
 /// Puts the fragment that a whole text is after others, if it is checked.
-pub(crate) fn push_fragment(
+fn push_fragment(
     alloc: Global,
     sieve: Sieve<'_>,
     text: &[u8],
@@ -196,7 +196,7 @@ fn fragments_beside<R: Files + Threads + Sync + AllocGlobal, G: Gauge>(
 }
 
 /// The files that words stand for, up to the first word whose files can't be had, and why they can't.
-pub(crate) fn listed<R: Files + AllocGlobal + Clone + Drop>(
+fn listed<R: Files + AllocGlobal + Clone + Drop>(
     rt: &R,
     words: &[&str],
 ) -> Result<(Vec<String>, Option<Fault>), Fault> {
@@ -210,17 +210,6 @@ pub(crate) fn listed<R: Files + AllocGlobal + Clone + Drop>(
     Ok((all, None))
 }
 
-/// Whether all of these are files of their own. What a pipe gives can't be had again, and may never come.
-pub(crate) fn are_files<R: Files + AllocGlobal>(rt: &R, paths: &[String]) -> bool {
-    for path in paths {
-        match fs::metadata(rt, path.as_str()) {
-            Ok(found) if found.is_file() => {}
-            _ => return false,
-        }
-    }
-    true
-}
-
 /// The fragments of the files that words stand for, of those that are checked, read by so many threads beside this one. The gauge is
 /// told of each file that was read. The fault is that of the first file or word that has one.
 pub(crate) fn fragments_of<R: Files + Threads + Sync + AllocGlobal + Clone + Drop, G: Gauge>(
@@ -232,7 +221,7 @@ pub(crate) fn fragments_of<R: Files + Threads + Sync + AllocGlobal + Clone + Dro
 ) -> Result<Vec<Arc<Fragment>>, Fault> {
     let (files, fault) = listed(rt, words)?;
     let mut read = FilesRead::none_of(files.len(), gauge);
-    let fragments = if workers == 0 || !are_files(rt, &files) {
+    let fragments = if workers == 0 {
         fragments_in(rt, &files, sieve, &mut read)?
     } else {
         fragments_beside(rt, &files, sieve, workers, &mut read)?

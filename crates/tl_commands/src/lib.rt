@@ -1,7 +1,6 @@
 //! What the commands of files do: files, reports of them, and the sentences of their faults.
 #![tactic(auto)]
 
-mod by_manager;
 mod chain;
 mod denial;
 mod doctor;
@@ -21,7 +20,6 @@ mod streams;
 mod telling;
 mod views;
 
-pub use by_manager::managers_make_the_whole;
 pub use denial::{Denial, denial_of_run, edits_in};
 pub use doctor::doctor_of_files;
 pub use fault::Fault;

@@ -1,31 +1,25 @@
 //! The reports of files: of fragments, and of what the first edits of a script leave.
 
-ghost use Rattle.std.specs.Prelude.{◌<◌, ◌^◌, length};
-ghost use Rattle.std.specs.List.{All};
+ghost use Rattle.std.specs.Prelude.{◌<◌, ◌^◌};
 
-use crate::by_manager::{Hitch, rows_by_manager};
 use crate::denial::{Denial, denial_of_audit, denial_of_fragments};
 use crate::fault::Fault;
-use crate::files::{are_files, fragments_of, listed, script_of, topology_of};
+use crate::files::{fragments_of, script_of, topology_of};
 use crate::picking::{Trouble, Written, order_of, write_audit, write_once};
-use crate::progress::{FilesRead, Gauge, SoFar};
+use crate::progress::{Gauge, SoFar};
 use crate::share::share_of;
-use std::alloc::Global;
 use std::rt::Files;
 use std::sync::Arc;
 use std::thread::Threads;
-use tl_beats::{Fragment, Row};
-use tl_check::{Judges, Plain, Report, report_text, run_once_beside};
+use tl_beats::Fragment;
+use tl_check::{Judges, Plain, run_once_beside};
 use tl_options::{Capture, How, View};
 use tl_rows::Format;
 use tl_script::{Outcome, audit_script_beside};
 use tl_show::Shown;
 use tl_stream::Sieve;
-use tl_text::{ByteOut, write_all};
+use tl_text::ByteOut;
 use tl_topology::Topo;
-
-/// The most fragments that can be added.
-const MOST_EDITS: usize = 65_536;
 
 /// What one report with so many rows comes to.
 pub fn report_of(rows: u64) -> Outcome {
@@ -96,16 +90,6 @@ impl Manner<'_, '_> {
     fn is_plain(self) -> bool {
         !self.how.summary && self.how.midway.is_none() && self.view.is_whole()
     }
-
-    /// Whether nothing is wanted but the lines of that, from this thread alone.
-    fn is_bare(self) -> bool {
-        let deny = self.how.deny;
-        self.is_plain()
-            && self.view.format == Format::Text
-            && self.how.workers == 0
-            && !deny.refused
-            && !deny.empty
-    }
 }
 
 /// How a command ends that wrote chosen rows.
@@ -165,46 +149,6 @@ fn once_denied<R: Files + Threads + Sync + AllocGlobal, O: ByteOut>(
     Ok(ending.denied_by(denial_of_fragments(manner.how.deny, fragments)))
 }
 
-/// Writes the report of fragments that have these rows.
-fn write_report<O: ByteOut>(
-    alloc: Global,
-    topo: &Topo,
-    edits: usize,
-    rows: Vec<Row>,
-    out: &mut O,
-) -> Result<Ending, Fault>
-    requires links { All (λ row. row.link < length topo.now.links) rows.items }
-    requires out { O.failure_count out.old < 2 ^ 63 }
-{
-    let report = Report::new(alloc, 1, edits as u64, rows)?;
-    let text = report_text(alloc, topo, &report)?;
-    write_all(out, text.as_bytes())?;
-    Ok(Ending::Came(report_of(report.rows().len() as u64)))
-}
-
-/// The report of the fragments of files, whose managers come one after another; None where that has to be made of all together.
-fn once_by_manager<R: Files + Threads + Sync + AllocGlobal + Clone + Drop, G: Gauge, O: ByteOut>(
-    rt: &R,
-    sieve: Sieve<'_>,
-    words: &[&str],
-    gauge: &mut G,
-    out: &mut O,
-) -> Result<Option<Ending>, Fault>
-    requires { O.failure_count out.old < 2 ^ 63 }
-{
-    let (files, fault) = listed(rt, words)?;
-    let is_one = sieve.topo.manager_count() < 2;
-    if is_one || fault.is_some() || files.len() > MOST_EDITS || !are_files(rt, &files) {
-        return Ok(None);
-    }
-    let mut read = FilesRead::none_of(files.len(), gauge);
-    match rows_by_manager(rt, sieve, &files, &mut read) {
-        Ok(rows) => Ok(Some(write_report(rt.alloc(), sieve.topo, files.len(), rows, out)?)),
-        Err(Hitch::Together) => Ok(None),
-        Err(Hitch::Fault(fault)) => Err(fault),
-    }
-}
-
 /// The report of the fragments of files on a topology, of those of a share; words stand for their files.
 fn once_shared<R: Files + Threads + Sync + AllocGlobal + Clone + Drop, G: Gauge, O: ByteOut>(
     rt: &R,
@@ -216,11 +160,6 @@ fn once_shared<R: Files + Threads + Sync + AllocGlobal + Clone + Drop, G: Gauge,
 ) -> Result<Ending, Fault>
     requires { O.failure_count out.old < 2 ^ 63 }
 {
-    if manner.is_bare()
-        && let Some(ending) = once_by_manager(rt, sieve, words, gauge, out)?
-    {
-        return Ok(ending);
-    }
     let fragments = fragments_of(rt, words, sieve, manner.how.workers, gauge)?;
     once_denied(rt, sieve.topo, &fragments, manner, out)
 }

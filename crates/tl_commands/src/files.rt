@@ -3,6 +3,7 @@
 ghost use Rattle.std.specs.Prelude.{◌≤◌, ◌^◌};
 
 use crate::fault::Fault;
+use crate::page::Page;
 use crate::paths::files_of;
 use crate::progress::{FilesRead, Gauge};
 use std::alloc::{AllocError, Global};
@@ -71,18 +72,35 @@ pub(crate) fn is_passed(alloc: Global, sieve: Sieve<'_>, text: &[u8]) -> Result<
     }
 }
 
-/// Puts the fragment that a whole text is after others, if it is checked.
-fn push_fragment(
+/// The fragment that a whole text is, if it is checked.
+fn fragment_in(
     alloc: Global,
     sieve: Sieve<'_>,
     text: &[u8],
-    fragments: &mut Vec<Arc<Fragment>>,
-) -> Result<(), Fault> {
-    if !is_passed(alloc, sieve, text)? {
-        let fragment = parse_whole_fragment(alloc, text)?;
-        fragments.push(Arc::new(alloc, fragment)?)?;
+) -> Result<Option<Arc<Fragment>>, Fault> {
+    if is_passed(alloc, sieve, text)? {
+        return Ok(None);
     }
-    Ok(())
+    let fragment = parse_whole_fragment(alloc, text)?;
+    Ok(Some(Arc::new(alloc, fragment)?))
+}
+
+/// The fragment of a file, if it is checked.
+pub(crate) fn fragment_at<R: Files + AllocGlobal, G: Gauge>(
+    rt: &R,
+    path: &str,
+    sieve: Sieve<'_>,
+    page: &mut Page,
+    read: &mut FilesRead<'_, G>,
+) -> Result<Option<Arc<Fragment>>, Fault> {
+    let Ok(file) = fs::open(rt, path) else {
+        return Err(Fault::FILE);
+    };
+    if let Err(fault) = page.fill(&mut CountedReader::new(file), Role::Fragment.most()) {
+        return Err(FragmentFault::from(fault).into());
+    }
+    read.count(page.text());
+    fragment_in(rt.alloc(), sieve, page.text())
 }
 
 /// The fragments of files that are checked, each read and parsed before the next is opened.
@@ -92,11 +110,12 @@ fn fragments_in<R: Files + AllocGlobal, G: Gauge>(
     sieve: Sieve<'_>,
     read: &mut FilesRead<'_, G>,
 ) -> Result<Vec<Arc<Fragment>>, Fault> {
+    let mut page = Page::new(rt.alloc());
     let mut fragments = Vec::new(rt.alloc());
     for path in files {
-        let text = fragment_text(rt, path.as_str())?;
-        read.count(&text);
-        push_fragment(rt.alloc(), sieve, &text, &mut fragments)?;
+        if let Some(fragment) = fragment_at(rt, path.as_str(), sieve, &mut page, read)? {
+            fragments.push(fragment)?;
+        }
     }
     Ok(fragments)
 }
@@ -195,8 +214,19 @@ fn fragments_beside<R: Files + Threads + Sync + AllocGlobal, G: Gauge>(
     Ok(all)
 }
 
+/// Whether all of these are files of their own. What a pipe gives can't be had again, and may never come.
+pub(crate) fn are_files<R: Files + AllocGlobal>(rt: &R, paths: &[String]) -> bool {
+    for path in paths {
+        match fs::metadata(rt, path.as_str()) {
+            Ok(found) if found.is_file() => {}
+            _ => return false,
+        }
+    }
+    true
+}
+
 /// The files that words stand for, up to the first word whose files can't be had, and why they can't.
-fn listed<R: Files + AllocGlobal + Clone + Drop>(
+pub(crate) fn listed<R: Files + AllocGlobal + Clone + Drop>(
     rt: &R,
     words: &[&str],
 ) -> Result<(Vec<String>, Option<Fault>), Fault> {
@@ -210,8 +240,8 @@ fn listed<R: Files + AllocGlobal + Clone + Drop>(
     Ok((all, None))
 }
 
-/// The fragments of the files that words stand for, of those that are checked, read by so many threads beside this one. The gauge is
-/// told of each file that was read. The fault is that of the first file or word that has one.
+/// The fragments of the files that words stand for, of those that are checked, read by so many threads beside this one, where none is a
+/// pipe. The gauge is told of each file that was read. The fault is that of the first file or word that has one.
 pub(crate) fn fragments_of<R: Files + Threads + Sync + AllocGlobal + Clone + Drop, G: Gauge>(
     rt: &R,
     words: &[&str],
@@ -221,7 +251,7 @@ pub(crate) fn fragments_of<R: Files + Threads + Sync + AllocGlobal + Clone + Dro
 ) -> Result<Vec<Arc<Fragment>>, Fault> {
     let (files, fault) = listed(rt, words)?;
     let mut read = FilesRead::none_of(files.len(), gauge);
-    let fragments = if workers == 0 {
+    let fragments = if workers == 0 || !are_files(rt, &files) {
         fragments_in(rt, &files, sieve, &mut read)?
     } else {
         fragments_beside(rt, &files, sieve, workers, &mut read)?

@@ -6,8 +6,10 @@ mod denial;
 mod doctor;
 mod fault;
 mod files;
+mod heads;
 mod merging;
 mod midway;
+mod page;
 mod pasts;
 mod paths;
 mod picking;
@@ -18,6 +20,7 @@ mod setup;
 mod share;
 mod streams;
 mod telling;
+mod turns;
 mod views;
 
 pub use denial::{Denial, denial_of_run, edits_in};

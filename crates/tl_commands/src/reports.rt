@@ -1,6 +1,8 @@
 //! The reports of files: of fragments, and of what the first edits of a script leave.
 
-ghost use Rattle.std.specs.Prelude.{◌<◌, ◌^◌};
+ghost use Rattle.std.specs.Prelude.{◌<◌, ◌^◌, List};
+ghost use Rattle.tl_definitions.specs.Positions.{Recorded};
+ghost use Rattle.tl_pass.specs.Reports.{AreReportOf};
 
 use crate::denial::{Denial, denial_of_audit, denial_of_fragments};
 use crate::fault::Fault;
@@ -8,17 +10,19 @@ use crate::files::{fragments_of, script_of, topology_of};
 use crate::picking::{Trouble, Written, order_of, write_audit, write_once};
 use crate::progress::{Gauge, SoFar};
 use crate::share::share_of;
+use crate::turns::{Turns, report_in_turn};
+use std::alloc::Global;
 use std::rt::Files;
 use std::sync::Arc;
 use std::thread::Threads;
 use tl_beats::Fragment;
-use tl_check::{Judges, Plain, run_once_beside};
+use tl_check::{Judges, Plain, Report, report_text, run_once_beside};
 use tl_options::{Capture, How, View};
 use tl_rows::Format;
 use tl_script::{Outcome, audit_script_beside};
 use tl_show::Shown;
 use tl_stream::Sieve;
-use tl_text::ByteOut;
+use tl_text::{ByteOut, write_all};
 use tl_topology::Topo;
 
 /// What one report with so many rows comes to.
@@ -90,6 +94,16 @@ impl Manner<'_, '_> {
     fn is_plain(self) -> bool {
         !self.how.summary && self.how.midway.is_none() && self.view.is_whole()
     }
+
+    /// Whether nothing is wanted but the lines of that, from this thread alone.
+    fn is_bare(self) -> bool {
+        let deny = self.how.deny;
+        self.is_plain()
+            && self.view.format == Format::Text
+            && self.how.workers == 0
+            && !deny.refused
+            && !deny.empty
+    }
 }
 
 /// How a command ends that wrote chosen rows.
@@ -149,6 +163,22 @@ fn once_denied<R: Files + Threads + Sync + AllocGlobal, O: ByteOut>(
     Ok(ending.denied_by(denial_of_fragments(manner.how.deny, fragments)))
 }
 
+/// Writes the report of fragments that have these rows.
+fn write_report<O: ByteOut>(
+    alloc: Global,
+    topo: &Topo,
+    turns: Turns,
+    out: &mut O,
+) -> Result<Ending, Fault>
+    requires rows { (fs : List Recorded) × AreReportOf topo.now fs turns.rows.items }
+    requires out { O.failure_count out.old < 2 ^ 63 }
+{
+    let report = Report::new(alloc, 1, turns.fragments, turns.rows)?;
+    let text = report_text(alloc, topo, &report)?;
+    write_all(out, text.as_bytes())?;
+    Ok(Ending::Came(report_of(report.rows().len() as u64)))
+}
+
 /// The report of the fragments of files on a topology, of those of a share; words stand for their files.
 fn once_shared<R: Files + Threads + Sync + AllocGlobal + Clone + Drop, G: Gauge, O: ByteOut>(
     rt: &R,
@@ -160,6 +190,11 @@ fn once_shared<R: Files + Threads + Sync + AllocGlobal + Clone + Drop, G: Gauge,
 ) -> Result<Ending, Fault>
     requires { O.failure_count out.old < 2 ^ 63 }
 {
+    if manner.is_bare()
+        && let Some(turns) = report_in_turn(rt, sieve, words, gauge)?
+    {
+        return write_report(rt.alloc(), sieve.topo, turns, out);
+    }
     let fragments = fragments_of(rt, words, sieve, manner.how.workers, gauge)?;
     once_denied(rt, sieve.topo, &fragments, manner, out)
 }
@@ -189,9 +224,9 @@ fn once_on<R: Files + Threads + Sync + AllocGlobal + Clone + Drop, G: Gauge, O: 
 
 /// Writes the report of the fragments of a capture's files on a file's topology. A word stands for its file, `-` for standard input, a
 /// folder for its files, and `@LIST` for the files that the lines of LIST name. Where managers are named, the fragments of other known
-/// links are passed over. With workers, so many threads read files and judge beside this one. The gauge is told of each file that was
-/// read. The fault of the first file that has one, that of the first fragment that is refused after those before it, want of memory, or
-/// a write that fails.
+/// links are passed over. With workers, so many threads parse and judge beside this one; without, where it can be, a file is forgotten
+/// once it is judged. The gauge is told of each file that was read. The fault of the first file that has one, that of the first fragment
+/// that is refused after those before it, want of memory, or a write that fails.
 pub fn once_of_files<R: Files + Threads + Sync + AllocGlobal + Clone + Drop, G: Gauge, O: ByteOut>(
     rt: &R,
     topology: &str,

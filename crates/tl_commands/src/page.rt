@@ -1,0 +1,55 @@
+//! Room for the text of one file after another.
+
+ghost use Rattle.std.specs.Prelude.{◌≤◌, ◌<◌, ◌^◌};
+
+use std::alloc::Global;
+use tl_text::{ByteIn, TextFault};
+
+/// How many bytes it has room for at first.
+const FIRST_BYTES: usize = 65_536;
+
+/// The text of the last file that was read into it. Its room is used again for the next.
+#[derive(Drop)]
+pub(crate) struct Page {
+    bytes: Vec<u8>,
+    used: usize,
+}
+
+impl Page {
+    /// It has no text.
+    pub(crate) fn new(alloc: Global) -> Page {
+        Page {
+            bytes: Vec::new(alloc),
+            used: 0,
+        }
+    }
+
+    /// The text.
+    pub(crate) fn text(&self) -> &[u8] {
+        self.bytes.get(..self.used).unwrap_or(&[])
+    }
+
+    /// Reads the input to its end, of at most so many bytes. The faults are those of `read_text`; then the text is that of no file.
+    pub(crate) fn fill<I: ByteIn>(&mut self, input: &mut I, limit: u64) -> Result<(), TextFault>
+        requires limit { limit ≤ 2 ^ 32 }
+        requires reads { I.read_count input.old < 2 ^ 63 }
+        requires failures { I.failure_count input.old < 2 ^ 63 }
+    {
+        self.used = 0;
+        for _ in 0..=limit + 1 {
+            if self.used >= self.bytes.len() {
+                let room = FIRST_BYTES.max(self.used.saturating_mul(2));
+                self.bytes.resize(room, 0)?;
+            }
+            match input.read(&mut self.bytes[self.used..]) {
+                Err(_) => return Err(TextFault::ReadFault),
+                Ok(0) => return Ok(()),
+                Ok(taken) => self.used = self.used.saturating_add(taken),
+            }
+            if self.used as u64 > limit {
+                return Err(TextFault::TooLong);
+            }
+        }
+        Err(TextFault::TooLong)
+    }
+}

@@ -1,0 +1,2 @@
+pub mod LinkPassLaws
+pub mod ManagerPassLaws

@@ -1,0 +1,3 @@
+pub mod LinkPass
+pub mod ManagerPass
+pub mod Reports

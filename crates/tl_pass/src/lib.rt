@@ -1,0 +1,10 @@
+//! One pass over the fragments of a capture, of which each is forgotten once it is judged.
+#![tactic(auto)]
+
+mod link_pass;
+mod manager_pass;
+mod pass;
+
+pub use link_pass::LinkPass;
+pub use manager_pass::ManagerPass;
+pub use pass::{Hitch, Pass};

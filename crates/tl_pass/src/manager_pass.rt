@@ -1,0 +1,57 @@
+//! Managers whose links come together: what is judged of them is forgotten.
+
+ghost use Rattle.std.specs.Prelude.{◌≡◌, [], IfOk};
+ghost use Rattle.std.specs.Arc.{arc_value};
+ghost use Rattle.tl_pass.specs.ManagerPass.{HasTold};
+
+use crate::pass::{Hitch, Pass};
+use std::alloc::{AllocError, Global};
+use std::sync::Arc;
+use tl_beats::{Fragment, Row};
+use tl_check::sort_rows;
+use tl_stream::Stream;
+use tl_topology::Topo;
+
+/// The rows of the fragments that came, those of each link with rising numbers and ranges. It holds the fragments of which a cycle is not
+/// complete on all links of their manager, and of all others what they leave.
+#[derive(Drop)]
+pub struct ManagerPass {
+    stream: Stream,
+    rows: Vec<Row>,
+}
+
+impl ManagerPass {
+    /// No fragment of a topology came. AllocError where memory is refused.
+    pub fn new(alloc: Global, topo: Arc<Topo>) -> Result<ManagerPass, AllocError>
+        ensures none { IfOk result (λ pass. HasTold [] pass.stream pass.rows.items) }
+        ensures topo { IfOk result (λ pass. pass.stream.topo ≡ arc_value topo) }
+    {
+        Ok(ManagerPass {
+            stream: Stream::new(alloc, topo, Vec::new(alloc), None)?,
+            rows: Vec::new(alloc),
+        })
+    }
+}
+
+impl Pass for ManagerPass {
+    ghost has_come = { λ topo fs pass. (pass.stream.topo ≡ topo) × HasTold fs pass.stream pass.rows.items };
+
+    fn accept(&mut self, alloc: Global, fragment: Arc<Fragment>) -> Result<(), Hitch> {
+        let topo = self.stream.topo();
+        let Some(link) = topo.link_of(&fragment.link()) else {
+            return Err(Hitch::Fault);
+        };
+        // The rows that come are those of this link's manager.
+        let _ = topo.link(link).unwrap();
+        let rows = self.stream.accept(alloc, fragment)?;
+        self.rows.extend_from_slice(&rows)?;
+        Ok(())
+    }
+
+    fn report(self, alloc: Global) -> Result<Vec<Row>, AllocError> {
+        let mut rows = self.rows;
+        let rest = self.stream.end(alloc)?;
+        rows.extend_from_slice(&rest)?;
+        Ok(sort_rows(rows))
+    }
+}

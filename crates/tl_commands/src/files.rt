@@ -53,7 +53,7 @@ pub(crate) fn whole_topology(alloc: Global, text: &[u8]) -> Result<Topo, TopoFau
 }
 
 /// The text of a fragment's file.
-fn fragment_text<R: Files + AllocGlobal>(rt: &R, path: &str) -> Result<Vec<u8>, Fault> {
+pub(crate) fn fragment_text<R: Files + AllocGlobal>(rt: &R, path: &str) -> Result<Vec<u8>, Fault> {
     let Ok(file) = fs::open(rt, path) else {
         return Err(Fault::FILE);
     };

@@ -1,5 +1,6 @@
 //! The first lines of the files of fragments, and an order in which few fragments are held at a time.
 
+use crate::fault::Fault;
 use std::alloc::{AllocError, Global};
 use std::fs;
 use std::rt::Files;
@@ -44,13 +45,35 @@ pub(crate) fn parts_of(topo: &Topo) -> Option<Parts> {
 #[derive(Clone, Copy, Debug, PartialEq, Eq, PartialOrd, Ord)]
 pub(crate) struct Head {
     /// The number of the manager, or of the link that is judged by itself.
-    part: u16,
+    pub(crate) part: u16,
     first: u64,
-    link: u16,
+    pub(crate) link: u16,
     number: u32,
     last: u64,
     /// The place of the file among all.
-    pub(crate) file: usize,
+    file: usize,
+}
+
+/// Files of fragments, in the order in which a pass takes them.
+#[derive(Clone, Copy)]
+pub(crate) struct Queue<'a> {
+    files: &'a [String],
+    pub(crate) heads: &'a [Head],
+}
+
+impl<'a> Queue<'a> {
+    /// The files of which these are the heads.
+    pub(crate) fn new(files: &'a [String], heads: &'a [Head]) -> Queue<'a> {
+        Queue { files, heads }
+    }
+
+    /// The path of the file with this head.
+    pub(crate) fn path(self, head: &Head) -> Result<&'a str, Fault> {
+        match self.files.get(head.file) {
+            Some(path) => Ok(path.as_str()),
+            None => Err(Fault::FILE),
+        }
+    }
 }
 
 /// The head of a fragment, if the topology has its link.

@@ -1,6 +1,7 @@
 //! What the commands of files do: files, reports of them, and the sentences of their faults.
 #![tactic(auto)]
 
+mod beside;
 mod chain;
 mod denial;
 mod doctor;

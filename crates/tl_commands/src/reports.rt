@@ -95,14 +95,10 @@ impl Manner<'_, '_> {
         !self.how.summary && self.how.midway.is_none() && self.view.is_whole()
     }
 
-    /// Whether nothing is wanted but the lines of that, from this thread alone.
+    /// Whether nothing is wanted but the lines of that.
     fn is_bare(self) -> bool {
         let deny = self.how.deny;
-        self.is_plain()
-            && self.view.format == Format::Text
-            && self.how.workers == 0
-            && !deny.refused
-            && !deny.empty
+        self.is_plain() && self.view.format == Format::Text && !deny.refused && !deny.empty
     }
 }
 
@@ -191,7 +187,7 @@ fn once_shared<R: Files + Threads + Sync + AllocGlobal + Clone + Drop, G: Gauge,
     requires { O.failure_count out.old < 2 ^ 63 }
 {
     if manner.is_bare()
-        && let Some(turns) = report_in_turn(rt, sieve, words, gauge)?
+        && let Some(turns) = report_in_turn(rt, sieve, words, manner.how.workers, gauge)?
     {
         return write_report(rt.alloc(), sieve.topo, turns, out);
     }

@@ -4,14 +4,16 @@ ghost use Rattle.std.specs.Prelude.{List, [], IfOk, IfSome};
 ghost use Rattle.tl_definitions.specs.Positions.{Recorded};
 ghost use Rattle.tl_pass.specs.Reports.{AreReportOf};
 
+use crate::beside::{groups_of, rows_beside, rows_parsed_beside};
 use crate::fault::Fault;
 use crate::files::{are_files, fragment_at, listed};
-use crate::heads::{Head, Parts, in_turn, parts_of};
+use crate::heads::{Head, Parts, Queue, in_turn, parts_of};
 use crate::page::Page;
 use crate::progress::{FilesRead, Gauge};
 use std::rt::Files;
 use std::sync::Arc;
-use tl_beats::Row;
+use std::thread::Threads;
+use tl_beats::{Fragment, Row};
 use tl_pass::{Hitch, LinkPass, ManagerPass, Pass};
 use tl_stream::Sieve;
 
@@ -27,7 +29,7 @@ pub(crate) struct Turns {
 
 /// Why a pass does not go on that needs a file with this fault. Which fault is told is found by looking at the files in the order of the
 /// words.
-fn hitch_of(fault: Fault) -> Hitch {
+pub(crate) fn hitch_of(fault: Fault) -> Hitch {
     if fault == Fault::MEMORY {
         Hitch::Memory
     } else {
@@ -35,12 +37,29 @@ fn hitch_of(fault: Fault) -> Hitch {
     }
 }
 
+/// The fragment of the file with this head, if it is checked.
+fn next_fragment<R: Files + AllocGlobal, G: Gauge>(
+    rt: &R,
+    sieve: Sieve<'_>,
+    queue: Queue<'_>,
+    head: &Head,
+    page: &mut Page,
+    read: &mut FilesRead<'_, G>,
+) -> Result<Option<Arc<Fragment>>, Hitch> {
+    let fragment = queue
+        .path(head)
+        .and_then(|path| fragment_at(rt, path, sieve, page, read));
+    match fragment {
+        Ok(fragment) => Ok(fragment),
+        Err(fault) => Err(hitch_of(fault)),
+    }
+}
+
 /// The rows of the fragments of files, which a pass takes in this order.
 fn rows_in_turn<R: Files + AllocGlobal, G: Gauge, P: Pass + Drop>(
     rt: &R,
     sieve: Sieve<'_>,
-    files: &[String],
-    heads: &[Head],
+    queue: Queue<'_>,
     pass: P,
     read: &mut FilesRead<'_, G>,
 ) -> Result<Turns, Hitch>
@@ -50,30 +69,42 @@ fn rows_in_turn<R: Files + AllocGlobal, G: Gauge, P: Pass + Drop>(
     let mut pass = pass;
     let mut page = Page::new(rt.alloc());
     let mut fragments = 0u64;
-    for head in heads {
-        let Some(path) = files.get(head.file) else {
-            return Err(Hitch::Fault);
-        };
-        match fragment_at(rt, path.as_str(), sieve, &mut page, read) {
-            Ok(Some(fragment)) => {
-                pass.accept(rt.alloc(), fragment)?;
-                fragments = fragments.saturating_add(1);
-            }
-            Ok(None) => {}
-            Err(fault) => return Err(hitch_of(fault)),
+    for head in queue.heads {
+        if let Some(fragment) = next_fragment(rt, sieve, queue, head, &mut page, read)? {
+            pass.accept(rt.alloc(), fragment)?;
+            fragments = fragments.saturating_add(1);
         }
     }
     let rows = pass.report(rt.alloc())?;
     Ok(Turns { fragments, rows })
 }
 
-/// The rows of the fragments of files, of which these parts are judged apart.
-fn rows_of_parts<R: Files + AllocGlobal, G: Gauge>(
+/// The same, where so many threads beside this one parse them.
+fn rows_taken<R: Files + Threads + Sync + AllocGlobal, G: Gauge, P: Pass + Drop>(
     rt: &R,
     sieve: Sieve<'_>,
-    files: &[String],
-    heads: &[Head],
+    queue: Queue<'_>,
+    pass: P,
+    workers: u8,
+    read: &mut FilesRead<'_, G>,
+) -> Result<Turns, Hitch>
+    requires { P.has_come sieve.topo.now [] pass }
+    ensures { IfOk result (λ turns. (fs : List Recorded) × AreReportOf sieve.entry.topo.now fs turns.rows.items) }
+{
+    if workers == 0 {
+        rows_in_turn(rt, sieve, queue, pass, read)
+    } else {
+        rows_parsed_beside(rt, sieve, queue, pass, workers, read)
+    }
+}
+
+/// The rows of the fragments of files, of which these parts are judged apart, one after another.
+fn rows_of_parts<R: Files + Threads + Sync + AllocGlobal, G: Gauge>(
+    rt: &R,
+    sieve: Sieve<'_>,
+    queue: Queue<'_>,
     parts: Parts,
+    workers: u8,
     read: &mut FilesRead<'_, G>,
 ) -> Result<Turns, Hitch>
     ensures { IfOk result (λ turns. (fs : List Recorded) × AreReportOf sieve.entry.topo.now fs turns.rows.items) }
@@ -83,22 +114,43 @@ fn rows_of_parts<R: Files + AllocGlobal, G: Gauge>(
     match parts {
         Parts::Managers => {
             let pass = ManagerPass::new(alloc, topo)?;
-            rows_in_turn(rt, sieve, files, heads, pass, read)
+            rows_taken(rt, sieve, queue, pass, workers, read)
         }
         Parts::Links => match LinkPass::new(alloc, topo) {
-            Some(pass) => rows_in_turn(rt, sieve, files, heads, pass, read),
+            Some(pass) => rows_taken(rt, sieve, queue, pass, workers, read),
             None => Err(Hitch::Fault),
         },
     }
 }
 
-/// The report of the fragments of the files that words stand for, which are read in an order in which few are held; None where they have
-/// to be held together: where some links have caches and others have none, a file can't be read again or has a fault, or fragments don't
-/// rise.
-pub(crate) fn report_in_turn<R: Files + AllocGlobal + Clone + Drop, G: Gauge>(
+/// The same, by so many threads beside this one, where there are several parts; else these threads parse.
+fn rows_by_parts<R: Files + Threads + Sync + AllocGlobal, G: Gauge>(
+    rt: &R,
+    sieve: Sieve<'_>,
+    queue: Queue<'_>,
+    parts: Parts,
+    workers: u8,
+    read: &mut FilesRead<'_, G>,
+) -> Result<Turns, Hitch>
+    ensures { IfOk result (λ turns. (fs : List Recorded) × AreReportOf sieve.entry.topo.now fs turns.rows.items) }
+{
+    if workers > 0 {
+        let groups = groups_of(rt.alloc(), sieve.topo, queue.heads, workers)?;
+        if groups.len() > 1 {
+            return rows_beside(rt, sieve, queue, &groups, workers, read);
+        }
+    }
+    rows_of_parts(rt, sieve, queue, parts, workers, read)
+}
+
+/// The report of the fragments of the files that words stand for, which are read in an order in which few are held, and judged by so many
+/// threads beside this one; None where they have to be held together: where some links have caches and others have none, a file can't be
+/// read again or has a fault, or fragments don't rise.
+pub(crate) fn report_in_turn<R: Files + Threads + Sync + AllocGlobal + Clone + Drop, G: Gauge>(
     rt: &R,
     sieve: Sieve<'_>,
     words: &[&str],
+    workers: u8,
     gauge: &mut G,
 ) -> Result<Option<Turns>, Fault>
     ensures { IfOk result (λ found. IfSome found (λ turns. (fs : List Recorded) × AreReportOf sieve.entry.topo.now fs turns.rows.items)) }
@@ -114,8 +166,9 @@ pub(crate) fn report_in_turn<R: Files + AllocGlobal + Clone + Drop, G: Gauge>(
     let Some(heads) = in_turn(rt, sieve.topo, parts, &files)? else {
         return Ok(None);
     };
+    let queue = Queue::new(&files, &heads);
     let mut read = FilesRead::none_of(files.len(), gauge);
-    match rows_of_parts(rt, sieve, &files, &heads, parts, &mut read) {
+    match rows_by_parts(rt, sieve, queue, parts, workers, &mut read) {
         Ok(turns) => Ok(Some(turns)),
         Err(Hitch::Memory) => Err(Fault::MEMORY),
         Err(Hitch::Fault) => Ok(None),

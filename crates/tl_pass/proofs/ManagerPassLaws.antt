@@ -141,6 +141,7 @@ module _ (fs : List Recorded) (s : StreamData) (rows rest sorted : List Row) (ha
 
   pub are_report : AreReportOf s.topo fs sorted
   are_report = record {
+    present = had.accepted.present;
     report = report;
     links = λ k d below. row_linked s.topo fs had.accepted.present [] [] (get_or sorted k d) ((report.members (get_or sorted k d)).0 (Contains-get_or sorted k d below));
   }

@@ -1,3 +1,4 @@
 pub mod LinkPass
 pub mod ManagerPass
+pub mod Parts
 pub mod Reports

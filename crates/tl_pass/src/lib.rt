@@ -3,8 +3,10 @@
 
 mod link_pass;
 mod manager_pass;
+mod part;
 mod pass;
 
 pub use link_pass::LinkPass;
 pub use manager_pass::ManagerPass;
+pub use part::{Links, Part, Whole, can_part};
 pub use pass::{Hitch, Pass};

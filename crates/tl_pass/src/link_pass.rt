@@ -5,7 +5,8 @@ ghost use Rattle.std.specs.Arc.{arc_value};
 ghost use Rattle.tl_definitions.specs.Positions.{Recorded};
 ghost use Rattle.tl_capture.specs.Present.{recorded, put_in};
 ghost use Rattle.tl_check.specs.Managers.{has_caches};
-ghost use Rattle.tl_pass.specs.LinkPass.{HasNoCaches, HasPassed};
+ghost use Rattle.tl_pass.specs.LinkPass.{HasPassed};
+ghost use Rattle.tl_pass.specs.Parts.{HasNoCaches};
 
 use crate::pass::{Hitch, Pass};
 use std::alloc::{AllocError, Global};
@@ -27,7 +28,7 @@ fn has_caches(topo: &Topo, link: u16) -> bool
 }
 
 /// Whether no link of a topology has caches.
-fn has_no_caches(topo: &Topo) -> bool
+pub(crate) fn has_no_caches(topo: &Topo) -> bool
     ensures { result ≡ true → HasNoCaches topo.now }
 {
     for link in 0..topo.link_count() {

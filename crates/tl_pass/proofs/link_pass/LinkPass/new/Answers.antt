@@ -1,7 +1,8 @@
 use Rattle.std.proofs.Common.{[], sym, subst}
 use Rattle.std.specs.Arc.{arc_value}
 use Rattle.tl_topology.specs.Topology.{Topology}
-use Rattle.tl_pass.specs.LinkPass.{HasNoCaches, HasPassed}
+use Rattle.tl_pass.specs.LinkPass.{HasPassed}
+use Rattle.tl_pass.specs.Parts.{HasNoCaches}
 use Rattle.tl_pass.proofs.LinkPassLaws.{none_passed}
 use Rattle.tl_pass.proofs.link_pass.LinkPass.new.Goals as goal
 

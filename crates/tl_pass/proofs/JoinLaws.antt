@@ -1,0 +1,372 @@
+-- What is found of some links and what is found of others is found of all of them, where nothing that is judged together is parted.
+use Rattle.std.proofs.Common.{◌≡◌, ℕ, ◌+◌, ◌<◌, ◌≤◌, inl, inr, Bool, true, false, ◌||◌, List, [], ◌∷◌, ◌++◌, length, get_or, refl, sym, ap, subst, ◌∙◌, arith}
+use Rattle.std.specs.Prelude.{◌==◌, ◌↔◌, ◌⊎◌, filter, not, nat_lt}
+use Rattle.std.specs.List.{Contains, list_any}
+use Rattle.std.specs.List.Sorted.{IsStrictlySortedBy}
+use Rattle.std.specs.Option.{option_map_or}
+use Rattle.std.specs.Ordering.{nat_cmp}
+use Rattle.std.specs.declared.cmp.Ordering.TheVariants.{Less}
+use Rattle.std.proofs.lemmas.Bool.Decides.{nat_tests}
+use Rattle.std.proofs.lemmas.List.{append-nil, length-map}
+use Rattle.std.proofs.lemmas.List.Elements.{Contains-append_left, Contains-append_right, Contains-append_cases, filter-append, All-append}
+use Rattle.std.proofs.lemmas.Option.{slice_get-get_or}
+use Rattle.tl_topology.specs.Regions.{Area}
+use Rattle.tl_topology.specs.Topology.{Topology}
+use Rattle.tl_topology.specs.declared.LinkDecl.{LinkDecl}
+use Rattle.tl_beats.specs.declared.Placed.{Placed}
+use Rattle.tl_beats.specs.declared.Row.{Row}
+use Rattle.tl_definitions.specs.Captures.{captures_from, manager_beats}
+use Rattle.tl_definitions.specs.Managers.{declared_links, manager_at}
+use Rattle.tl_definitions.specs.Positions.{Recorded, all_placed, beats_of, beats_of_all, by_range, clients_of, in_order, no_link}
+use Rattle.tl_definitions.specs.Report.{of_manager, Finds, FindsIn}
+use Rattle.tl_definitions.specs.Rules.{Manager}
+use Rattle.tl_definitions.proofs.Lists.{contains_none, contains_here, contains_there, contains_cases, none_kept, all_by, all_of}
+use Rattle.tl_definitions.proofs.OrderLaws.{then_less, below}
+use Rattle.tl_definitions.proofs.ReportLaws.{stands_in}
+use Rattle.tl_client_rules.proofs.ClientsLaws.{clients_below}
+use Rattle.tl_client_rules.proofs.DeclaredLaws.{client_is_declared}
+use Rattle.tl_capture.specs.Present.{IsCapture, IsPresent, AreNumbered, is_of, range_order}
+use Rattle.tl_capture.proofs.EntryLemmas.{all_kept}
+use Rattle.tl_capture.proofs.PresentLemmas.{no_ranges}
+use Rattle.tl_check.specs.Apart.{judged_rows, rows_of_links}
+use Rattle.tl_check.specs.Captured.{areas_at, captures_with}
+use Rattle.tl_check.specs.Managers.{has_caches, cached_links, plain_links, AreMerged}
+use Rattle.tl_check.proofs.CaptureLaws.{capture_with}
+use Rattle.tl_check.proofs.PassLaws.{links_are_found}
+use Rattle.tl_check.proofs.ScratchLaws.{finds_alone}
+use Rattle.tl_pass.specs.Parts.{HasNoCaches, manager_of, IsCut, CanPart, AreFrom, HasJudged}
+
+-- A list in strict order after another, all of it above.
+strict_both : (xs ys : List Recorded) → IsStrictlySortedBy range_order xs → IsStrictlySortedBy range_order ys → ((x y : Recorded) → Contains xs x → Contains ys y → range_order x y ≡ Less)
+    → IsStrictlySortedBy range_order (xs ++ ys)
+unfolding IsStrictlySortedBy
+strict_both [] ys s t above = t
+strict_both (x ∷ xs) ys s t above = (
+  all_by (λ y. range_order x y ≡ Less) (xs ++ ys) (λ y h. elim (Contains-append_cases xs ys y h) [
+    | inl a ↦ all_of (λ z. range_order x z ≡ Less) xs s.0 y a
+    | inr b ↦ above x y (contains_here x xs) b
+  ]),
+  strict_both xs ys s.1 t (λ z y h g. above z y (contains_there x xs z h) g),
+)
+
+-- ---- the captures of managers
+
+abbrev none : ℕ → List Area
+none = areas_at []
+
+capture_from : {X : Type 0} (topo : Topology) (fs : List Recorded) (number : ℕ) (managers : List X) (row : Row) → FindsIn (captures_from topo none fs number managers ++ []) row
+    → (k : ℕ) × (number ≤ k) × (k < number + length managers) × Finds (capture_with topo none fs k) row
+capture_from topo fs number [] row found = absurd (contains_none found.0 found.1)
+capture_from topo fs number (m ∷ managers) row found = elim (contains_cases (capture_with topo none fs number) (captures_from topo none fs (number + 1) managers ++ []) found.0 found.1) [
+  | inl is ↦ (number, omega arith, omega arith, subst (λ c. Finds c row) (sym is) found.2)
+  | inr there ↦ (let known = capture_from topo fs (number + 1) managers row (found.0, there, found.2) in
+      let from : number + 1 ≤ known.0 = known.1 in
+      let below : known.0 < (number + 1) + length managers = known.2 in
+      (known.0, omega arith, omega arith, known.3))
+]
+
+capture_there : {X : Type 0} (topo : Topology) (fs : List Recorded) (number : ℕ) (managers : List X) (row : Row) (k : ℕ) → number ≤ k → k < number + length managers
+    → Finds (capture_with topo none fs k) row → FindsIn (captures_from topo none fs number managers ++ []) row
+capture_there topo fs number [] row k from below h = absurd (let lt : k < number + 0 = below in omega arith)
+capture_there topo fs number (m ∷ managers) row k from below h = elim (k == number) as (λ t. (k == number) ≡ t → FindsIn (captures_from topo none fs number (m ∷ managers) ++ []) row) [
+  | true ↦ λ e. (let same : k ≡ number = grind (arith, nat_tests) in (
+    capture_with topo none fs number,
+    contains_here (capture_with topo none fs number) (captures_from topo none fs (number + 1) managers ++ []),
+    subst (λ n. Finds (capture_with topo none fs n) row) same h,
+  ))
+  | false ↦ λ e. (let above : number + 1 ≤ k = grind (arith, nat_tests) in
+      let known = capture_there topo fs (number + 1) managers row k above (let less : k < number + length (m ∷ managers) = below in omega arith) h in
+      (known.0, contains_there (capture_with topo none fs number) (captures_from topo none fs (number + 1) managers ++ []) known.0 known.1, known.2))
+] refl
+
+-- ---- a manager of links without caches
+
+some_link : (m : Manager) (fs : List Recorded) (links : List ℕ) (row : Row) → Contains (rows_of_links m fs links) row
+    → (link : ℕ) × Contains links link × Contains (judged_rows m (beats_of link fs)) row
+some_link m fs [] row h = absurd (contains_none row h)
+some_link m fs (link ∷ links) row h = elim (Contains-append_cases (judged_rows m (beats_of link fs)) (rows_of_links m fs links) row h) [
+  | inl a ↦ (link, contains_here link links, a)
+  | inr b ↦ (let known = some_link m fs links row b in (known.0, contains_there link links known.0 known.1, known.2))
+]
+
+each_link : (m : Manager) (fs : List Recorded) (links : List ℕ) (link : ℕ) (row : Row) → Contains links link → Contains (judged_rows m (beats_of link fs)) row
+    → Contains (rows_of_links m fs links) row
+each_link m fs [] link row has h = absurd (contains_none link has)
+each_link m fs (first ∷ links) link row has h = elim (contains_cases first links link has) [
+  | inl is ↦ Contains-append_left (judged_rows m (beats_of first fs)) (rows_of_links m fs links) row (subst (λ n. Contains (judged_rows m (beats_of n fs)) row) (sym is) h)
+  | inr there ↦ Contains-append_right (judged_rows m (beats_of first fs)) (rows_of_links m fs links) row (each_link m fs links link row there h)
+]
+
+module _ (topo : Topology) (plain : HasNoCaches topo) where
+  abbrev links : ℕ → List ℕ
+  links k = clients_of k (declared_links topo)
+
+  abbrev served : ℕ → Manager
+  served k = manager_at topo k (none k)
+
+  client_plain : (k link : ℕ) → Contains (links k) link → has_caches topo link ≡ false
+  client_plain k link h =
+      let below : link < 0 + length (declared_links topo) = clients_below k 0 (declared_links topo) link h in
+      let many = length-map topo.links (λ (p : List ℕ × LinkDecl). p.1) in
+      let less : link < length topo.links = omega (arith, below, many) in
+      plain link less
+
+  no_cached : (k : ℕ) → cached_links topo (links k) ≡ []
+  no_cached k = none_kept (has_caches topo) (links k) (client_plain k)
+
+  all_plain : (k : ℕ) → plain_links topo (links k) ≡ links k
+  all_plain k = all_kept (λ link. not (has_caches topo link)) (links k) (λ link h. ap not (client_plain k link h))
+
+  nothing_merged : (fs : List Recorded) (k : ℕ) → AreMerged (served k) (beats_of_all (cached_links topo (links k)) fs) []
+  nothing_merged fs k =
+      let no_beat : beats_of_all [] fs ≡ [] = none_placed fs in
+      subst (λ ls. AreMerged (served k) (beats_of_all ls fs) []) (sym (no_cached k))
+      (subst (λ (ps : List Placed). AreMerged (served k) ps []) (sym no_beat) (λ row. ((λ h. h), (λ h. h))))
+    where
+      none_placed : (fs : List Recorded) → beats_of_all [] fs ≡ []
+      none_placed [] = refl
+      none_placed (f ∷ fs) = none_placed fs
+
+  -- What a manager's capture finds is found of one of its links.
+  module _ (fs : List Recorded) (is : IsPresent fs) (k : ℕ) (row : Row) where
+    both_ways : Contains (rows_of_links (served k) fs (plain_links topo (links k))) row ↔ FindsIn (capture_with topo none fs k ∷ []) row
+    both_ways = links_are_found topo fs is k (none k) (rows_of_links (served k) fs (plain_links topo (links k))) [] (rows_of_links (served k) fs (plain_links topo (links k)))
+        refl (nothing_merged fs k) (sym (append-nil (rows_of_links (served k) fs (plain_links topo (links k))))) row
+
+    on_some : Finds (capture_with topo none fs k) row → (link : ℕ) × Contains (links k) link × Contains (judged_rows (served k) (beats_of link fs)) row
+    on_some h = some_link (served k) fs (links k) row
+        (subst (λ ls. Contains (rows_of_links (served k) fs ls) row) (all_plain k) (both_ways.1 (capture_with topo none fs k, contains_here (capture_with topo none fs k) [], h)))
+
+    from_link : (link : ℕ) → Contains (links k) link → Contains (judged_rows (served k) (beats_of link fs)) row → Finds (capture_with topo none fs k) row
+    from_link link on h = finds_alone (capture_with topo none fs k) row
+        (both_ways.0 (subst (λ ls. Contains (rows_of_links (served k) fs ls) row) (sym (all_plain k)) (each_link (served k) fs (links k) link row on h)))
+
+-- A link of a manager's is of that manager.
+manager_is : (topo : Topology) (k link : ℕ) → Contains (clients_of k (declared_links topo)) link → manager_of topo link ≡ k
+manager_is topo k link h =
+    let decls : List LinkDecl = declared_links topo in
+    let found = client_is_declared k link decls h in
+    let below : link < 0 + length decls = clients_below k 0 decls link h in
+    let within : link < length decls = omega arith in
+    let one : get_or decls link no_link ≡ found.0 = ap (λ o. option_map_or (λ (z : LinkDecl). z) o no_link) (sym (slice_get-get_or decls link no_link within) ∙ found.1) in
+    ap (λ (d : LinkDecl). d.manager) one ∙ found.2
+
+-- ---- some links, and others after them
+
+-- What is found of both is found of one of them.
+pub record Joins (topo : Topology) (fs gs : List Recorded) : Type 0 where
+  pub come : (k : ℕ) (row : Row) → Finds (capture_with topo none (fs ++ gs) k) row → Finds (capture_with topo none fs k) row ⊎ Finds (capture_with topo none gs k) row
+  pub first : (k : ℕ) (row : Row) → Finds (capture_with topo none fs k) row → Finds (capture_with topo none (fs ++ gs) k) row
+  pub second : (k : ℕ) (row : Row) → Finds (capture_with topo none gs k) row → Finds (capture_with topo none (fs ++ gs) k) row
+
+module _ (link : ℕ) (fs gs : List Recorded) (below_it : (f : Recorded) → Contains fs f → f.link < link) (from_it : AreFrom link gs) where
+  apart : IsPresent fs → IsPresent gs → IsPresent (fs ++ gs)
+  apart one two = record {
+    each = All-append IsCapture fs gs one.each two.each;
+    apart = strict_both fs gs one.apart two.apart (λ f g h k. let low : f.link < link = below_it f h in let high : link ≤ g.link = from_it g k in let less : f.link < g.link = omega arith in
+        then_less (nat_cmp f.link g.link) (nat_cmp f.last g.first) (below f.link g.link less));
+    numbers = numbered_both fs below_it one.numbers;
+  }
+    where
+      numbered_both : (hs : List Recorded) → ((f : Recorded) → Contains hs f → f.link < link) → AreNumbered hs → AreNumbered (hs ++ gs)
+      numbered_both [] lower n = two.numbers
+      numbered_both (h ∷ hs) lower n = (
+        all_by (λ (g : Recorded). is_of h.link h.number g ≡ false) (hs ++ gs) (λ g k. elim (Contains-append_cases hs gs g k) [
+          | inl a ↦ all_of (λ (g : Recorded). is_of h.link h.number g ≡ false) hs n.0 g a
+          | inr b ↦ (let high : link ≤ g.link = from_it g b in let less : h.link < link = lower h (contains_here h hs) in grind (arith, nat_tests))
+        ]),
+        numbered_both hs (λ f k. lower f (contains_there h hs f k)) n.1,
+      )
+
+  -- ---- links without caches
+
+  first_beats : (l : ℕ) → nat_lt l link ≡ true → beats_of l (fs ++ gs) ≡ beats_of l fs
+  first_beats l e = ap (λ hs. all_placed (by_range hs)) (filter-append (λ (f : Recorded). f.link == l) fs gs
+      ∙ ap (λ hs. filter (λ (f : Recorded). f.link == l) fs ++ hs) (none_kept (λ (f : Recorded). f.link == l) gs (λ g h. let high : link ≤ g.link = from_it g h in grind (arith, nat_tests)))
+      ∙ append-nil (filter (λ (f : Recorded). f.link == l) fs))
+
+  second_beats : (l : ℕ) → nat_lt l link ≡ false → beats_of l (fs ++ gs) ≡ beats_of l gs
+  second_beats l e = ap (λ hs. all_placed (by_range hs)) (filter-append (λ (f : Recorded). f.link == l) fs gs
+      ∙ ap (λ hs. hs ++ filter (λ (f : Recorded). f.link == l) gs)
+      (none_kept (λ (f : Recorded). f.link == l) fs (λ f h. let less : f.link < link = below_it f h in grind (arith, nat_tests))))
+
+  none_second : (l : ℕ) → nat_lt l link ≡ true → beats_of l gs ≡ []
+  none_second l e = ap (λ hs. all_placed (by_range hs)) (none_kept (λ (f : Recorded). f.link == l) gs (λ g h. let high : link ≤ g.link = from_it g h in grind (arith, nat_tests)))
+
+  none_first : (l : ℕ) → nat_lt l link ≡ false → beats_of l fs ≡ []
+  none_first l e = ap (λ hs. all_placed (by_range hs)) (none_kept (λ (f : Recorded). f.link == l) fs (λ f h. let less : f.link < link = below_it f h in grind (arith, nat_tests)))
+
+  one_of : (m : Manager) (l : ℕ) (row : Row) → Contains (judged_rows m (beats_of l (fs ++ gs))) row
+      → Contains (judged_rows m (beats_of l fs)) row ⊎ Contains (judged_rows m (beats_of l gs)) row
+  one_of m l row h = elim (nat_lt l link) as (λ t. nat_lt l link ≡ t → Contains (judged_rows m (beats_of l fs)) row ⊎ Contains (judged_rows m (beats_of l gs)) row) [
+    | true ↦ λ e. inl (subst (λ ps. Contains (judged_rows m ps) row) (first_beats l e) h)
+    | false ↦ λ e. inr (subst (λ ps. Contains (judged_rows m ps) row) (second_beats l e) h)
+  ] refl
+
+  of_first : (m : Manager) (l : ℕ) (row : Row) → Contains (judged_rows m (beats_of l fs)) row → Contains (judged_rows m (beats_of l (fs ++ gs))) row
+  of_first m l row h = elim (nat_lt l link) as (λ t. nat_lt l link ≡ t → Contains (judged_rows m (beats_of l (fs ++ gs))) row) [
+    | true ↦ λ e. subst (λ ps. Contains (judged_rows m ps) row) (sym (first_beats l e)) h
+    | false ↦ λ e. absurd (contains_none row (subst (λ ps. Contains (judged_rows m ps) row) (none_first l e) h))
+  ] refl
+
+  of_second : (m : Manager) (l : ℕ) (row : Row) → Contains (judged_rows m (beats_of l gs)) row → Contains (judged_rows m (beats_of l (fs ++ gs))) row
+  of_second m l row h = elim (nat_lt l link) as (λ t. nat_lt l link ≡ t → Contains (judged_rows m (beats_of l (fs ++ gs))) row) [
+    | true ↦ λ e. absurd (contains_none row (subst (λ ps. Contains (judged_rows m ps) row) (none_second l e) h))
+    | false ↦ λ e. subst (λ ps. Contains (judged_rows m ps) row) (sym (second_beats l e)) h
+  ] refl
+
+  plain_joins : (topo : Topology) → HasNoCaches topo → IsPresent fs → IsPresent gs → Joins topo fs gs
+  plain_joins topo plain one two = record {
+    come = λ k row h. (let on = on_some topo plain (fs ++ gs) (apart one two) k row h in elim (one_of (served topo plain k) on.0 row on.2) [
+      | inl a ↦ inl (from_link topo plain fs one k row on.0 on.1 a)
+      | inr b ↦ inr (from_link topo plain gs two k row on.0 on.1 b)
+    ]);
+    first = λ k row h. (let on = on_some topo plain fs one k row h in from_link topo plain (fs ++ gs) (apart one two) k row on.0 on.1 (of_first (served topo plain k) on.0 row on.2));
+    second = λ k row h. (let on = on_some topo plain gs two k row h in from_link topo plain (fs ++ gs) (apart one two) k row on.0 on.1 (of_second (served topo plain k) on.0 row on.2));
+  }
+
+  -- ---- managers whose links are on one side
+
+  module _ (topo : Topology) (k : ℕ) where
+    abbrev own : List ℕ
+    own = clients_of k (declared_links topo)
+
+    abbrev on_own : Recorded → Bool
+    on_own f = list_any (λ l. f.link == l) own
+
+    any_is : (n : ℕ) (ls : List ℕ) → list_any (λ l. n == l) ls ≡ true → Contains ls n
+    any_is n [] h = absurd (cc)
+    any_is n (l ∷ ls) h = elim (n == l) as (λ b. (n == l) ≡ b → (b || list_any (λ l. n == l) ls) ≡ true → Contains (l ∷ ls) n) [
+      | true ↦ λ e g. (let same : n ≡ l = grind (arith, nat_tests) in subst (Contains (l ∷ ls)) (sym same) (contains_here l ls))
+      | false ↦ λ e g. contains_there l ls n (any_is n ls g)
+    ] refl h
+
+    not_own : (f : Recorded) → (Contains own f.link → ⊥) → on_own f ≡ false
+    not_own f other = elim (on_own f) as (λ t. on_own f ≡ t → on_own f ≡ false) [
+      | true ↦ λ e. absurd (other (any_is f.link own e))
+      | false ↦ λ e. e
+    ] refl
+
+    on_first : ((l : ℕ) → Contains own l → l < link) → manager_beats topo (fs ++ gs) k ≡ manager_beats topo fs k
+    on_first low = ap (λ hs. in_order (all_placed hs)) (filter-append on_own fs gs
+        ∙ ap (λ hs. filter on_own fs ++ hs) (none_kept on_own gs (λ g h. not_own g (λ c. let less : g.link < link = low g.link c in let high : link ≤ g.link = from_it g h in omega arith)))
+        ∙ append-nil (filter on_own fs))
+
+    on_second : ((l : ℕ) → Contains own l → link ≤ l) → manager_beats topo (fs ++ gs) k ≡ manager_beats topo gs k
+    on_second high = ap (λ hs. in_order (all_placed hs)) (filter-append on_own fs gs
+        ∙ ap (λ hs. hs ++ filter on_own gs) (none_kept on_own fs (λ f h. not_own f (λ c. let above : link ≤ f.link = high f.link c in let less : f.link < link = below_it f h in omega arith))))
+
+    nothing_after : ((l : ℕ) → Contains own l → l < link) → manager_beats topo gs k ≡ []
+    nothing_after low = ap (λ hs. in_order (all_placed hs)) (none_kept on_own gs (λ g h. not_own g (λ c. let less : g.link < link = low g.link c in let high : link ≤ g.link = from_it g h in omega arith)))
+
+    nothing_before : ((l : ℕ) → Contains own l → link ≤ l) → manager_beats topo fs k ≡ []
+    nothing_before high = ap (λ hs. in_order (all_placed hs)) (none_kept on_own fs (λ f h. not_own f (λ c. let above : link ≤ f.link = high f.link c in let less : f.link < link = below_it f h in omega arith)))
+
+    abbrev found_of : List Placed → Row → Type 0
+    found_of beats row = Finds (of_manager (manager_at topo k (none k)) beats) row
+
+    no_row : (beats : List Placed) (row : Row) → beats ≡ [] → found_of beats row → ⊥
+    no_row beats row empty h = let stands = stands_in (of_manager (manager_at topo k (none k)) beats) row h in contains_none stands.0 (subst (λ ps. Contains ps stands.0) empty stands.1)
+
+    -- Either side has all of the manager's links.
+    side : IsCut topo link → ((l : ℕ) → Contains own l → l < link) ⊎ ((l : ℕ) → Contains own l → link ≤ l)
+    side cut = elim (list_any (λ l. nat_lt l link) own) as (λ t. list_any (λ l. nat_lt l link) own ≡ t → ((l : ℕ) → Contains own l → l < link) ⊎ ((l : ℕ) → Contains own l → link ≤ l)) [
+      | true ↦ λ e. (let low = some_low own e in inl (λ l h. elim (nat_lt l link) as (λ t. nat_lt l link ≡ t → l < link) [
+        | true ↦ λ e2. grind (arith, nat_tests)
+        | false ↦ λ e2. (let high : link ≤ l = grind (arith, nat_tests) in absurd (cut low.0 l low.2 high (within l h) (managed low.0 low.1 ∙ sym (managed l h))))
+      ] refl))
+      | false ↦ λ e. inr (λ l h. no_low own e l h)
+    ] refl
+      where
+        some_low : (ls : List ℕ) → list_any (λ l. nat_lt l link) ls ≡ true → (l : ℕ) × Contains ls l × (l < link)
+        some_low [] h = absurd (cc)
+        some_low (l ∷ ls) h = elim (nat_lt l link) as (λ b. nat_lt l link ≡ b → (b || list_any (λ l. nat_lt l link) ls) ≡ true → (n : ℕ) × Contains (l ∷ ls) n × (n < link)) [
+          | true ↦ λ e g. (let less : l < link = grind (arith, nat_tests) in (l, contains_here l ls, less))
+          | false ↦ λ e g. (let known = some_low ls g in (known.0, contains_there l ls known.0 known.1, known.2))
+        ] refl h
+
+        no_low : (ls : List ℕ) → list_any (λ l. nat_lt l link) ls ≡ false → (l : ℕ) → Contains ls l → link ≤ l
+        no_low [] h l c = absurd (contains_none l c)
+        no_low (n ∷ ls) h l c = elim (nat_lt n link) as (λ b. nat_lt n link ≡ b → (b || list_any (λ l. nat_lt l link) ls) ≡ false → link ≤ l) [
+          | true ↦ λ e g. absurd (let wrong : true ≡ false = g in cc)
+          | false ↦ λ e g. elim (contains_cases n ls l c) [ inl same ↦ (let high : link ≤ n = grind (arith, nat_tests) in subst (λ m. link ≤ m) same high) | inr there ↦ no_low ls g l there ]
+        ] refl h
+
+        within : (l : ℕ) → Contains own l → l < length topo.links
+        within l h =
+            let less : l < 0 + length (declared_links topo) = clients_below k 0 (declared_links topo) l h in
+            omega (arith, less, length-map topo.links (λ (p : List ℕ × LinkDecl). p.1))
+
+        managed : (l : ℕ) → Contains own l → manager_of topo l ≡ k
+        managed l h = manager_is topo k l h
+
+  cut_joins : (topo : Topology) → IsCut topo link → Joins topo fs gs
+  cut_joins topo cut = record {
+    come = λ k row h. elim (side topo k cut) [
+      | inl low ↦ inl (subst (λ ps. found_of topo k ps row) (on_first topo k low) h)
+      | inr high ↦ inr (subst (λ ps. found_of topo k ps row) (on_second topo k high) h)
+    ];
+    first = λ k row h. elim (side topo k cut) [
+      | inl low ↦ subst (λ ps. found_of topo k ps row) (sym (on_first topo k low)) h
+      | inr high ↦ absurd (no_row topo k (manager_beats topo fs k) row (nothing_before topo k high) h)
+    ];
+    second = λ k row h. elim (side topo k cut) [
+      | inl low ↦ absurd (no_row topo k (manager_beats topo gs k) row (nothing_after topo k low) h)
+      | inr high ↦ subst (λ ps. found_of topo k ps row) (sym (on_second topo k high)) h
+    ];
+  }
+
+  joins : (topo : Topology) → CanPart topo link → IsPresent fs → IsPresent gs → Joins topo fs gs
+  joins topo can one two = elim can [ inl plain ↦ plain_joins topo plain one two | inr cut ↦ cut_joins topo cut ]
+
+-- ---- both
+
+module _ (topo : Topology) (link next : ℕ) (fs gs : List Recorded) (rows more : List Row) (can : CanPart topo link) (had : HasJudged topo link fs rows) (two : IsPresent gs) (from_it : AreFrom link gs)
+    (short : (g : Recorded) → Contains gs g → g.link < next) (less : link ≤ next) (found : (row : Row) → Contains more row ↔ FindsIn (captures_with topo gs [] []) row) where
+  both : Joins topo fs gs
+  both = joins link fs gs had.below from_it topo can had.present two
+
+  come_from : (row : Row) → FindsIn (captures_with topo (fs ++ gs) [] []) row → Contains (rows ++ more) row
+  come_from row is =
+      let at = capture_from topo (fs ++ gs) 0 topo.managers row is in
+      elim (both.come at.0 row at.3) [
+        | inl a ↦ Contains-append_left rows more row ((had.found row).1 (capture_there topo fs 0 topo.managers row at.0 at.1 at.2 a))
+        | inr b ↦ Contains-append_right rows more row ((found row).1 (capture_there topo gs 0 topo.managers row at.0 at.1 at.2 b))
+      ]
+
+  go_to : (row : Row) → Contains (rows ++ more) row → FindsIn (captures_with topo (fs ++ gs) [] []) row
+  go_to row h = elim (Contains-append_cases rows more row h) [
+    | inl a ↦ (let at = capture_from topo fs 0 topo.managers row ((had.found row).0 a) in capture_there topo (fs ++ gs) 0 topo.managers row at.0 at.1 at.2 (both.first at.0 row at.3))
+    | inr b ↦ (let at = capture_from topo gs 0 topo.managers row ((found row).0 b) in capture_there topo (fs ++ gs) 0 topo.managers row at.0 at.1 at.2 (both.second at.0 row at.3))
+  ]
+
+  pub judged_both : HasJudged topo next (fs ++ gs) (rows ++ more)
+  judged_both = record {
+    present = apart link fs gs had.below from_it had.present two;
+    below = λ f h. elim (Contains-append_cases fs gs f h) [
+      | inl a ↦ (let lower : f.link < link = had.below f a in omega (arith, less, lower))
+      | inr b ↦ short f b
+    ];
+    found = λ row. (go_to row, come_from row);
+  }
+
+-- ---- nothing
+
+pub nothing : IsPresent []
+nothing = record { each = no_ranges.each; apart = no_ranges.apart; numbers = tt }
+
+no_beat : (topo : Topology) (k : ℕ) → manager_beats topo [] k ≡ []
+no_beat topo k = refl
+
+pub none_found : (topo : Topology) (row : Row) → FindsIn (captures_with topo [] [] []) row → ⊥
+none_found topo row is =
+    let at = capture_from topo [] 0 topo.managers row is in
+    let stands = stands_in (capture_with topo none [] at.0) row at.3 in
+    contains_none stands.0 (subst (λ ps. Contains ps stands.0) (no_beat topo at.0) stands.1)
+
+pub none_judged : (topo : Topology) (next : ℕ) → HasJudged topo next [] []
+none_judged topo next = record {
+  present = nothing;
+  below = λ f h. absurd (contains_none f h);
+  found = λ row. ((λ h. absurd (contains_none row h)), (λ is. absurd (none_found topo row is)));
+}

@@ -1,0 +1,194 @@
+//! Links that are judged apart from others.
+
+ghost use Rattle.std.specs.Prelude.{◌≡◌, ◌<◌, ◌≤◌, ℕ, List, [], true, length, IfOk, IfSome, OnOk};
+ghost use Rattle.tl_topology.specs.Topology.{Topology};
+ghost use Rattle.tl_definitions.specs.Positions.{Recorded};
+ghost use Rattle.tl_pass.specs.Parts.{manager_of, CanPart, IsCut, IsFoundBelow, IsPartReport};
+ghost use Rattle.tl_pass.specs.Reports.{AreReportOf};
+
+use crate::link_pass::{LinkPass, has_no_caches};
+use crate::manager_pass::ManagerPass;
+use crate::pass::{Hitch, Pass};
+use std::alloc::Global;
+use std::sync::Arc;
+use tl_beats::{Fragment, FragmentFault, Row, parse_whole_fragment};
+use tl_check::sort_rows;
+use tl_topology::Topo;
+
+/// Links with numbers in a row.
+#[derive(Clone, Copy, Debug, PartialEq, Eq)]
+pub struct Links {
+    /// The first of them.
+    pub first: u16,
+    /// The first link after them.
+    pub next: u16,
+}
+
+/// The number of a link's manager, if the topology has the link.
+fn manager_of(topo: &Topo, link: u16) -> Option<u16>
+    ensures { IfSome result (λ manager. manager ≡ manager_of topo.now link) }
+{
+    match topo.link(link) {
+        Some(decl) => Some(decl.manager),
+        None => None,
+    }
+}
+
+/// Whether no link from this one on is of the manager of another.
+fn is_alone(topo: &Topo, low: u16, first: u16) -> bool
+    ensures { result ≡ true → (high : ℕ) → first ≤ high → high < length topo.now.links → manager_of topo.now low ≡ manager_of topo.now high → ⊥ }
+{
+    let Some(own) = manager_of(topo, low) else {
+        return false;
+    };
+    for high in usize::from(first)..topo.link_count() {
+        match manager_of(topo, high as u16) {
+            Some(manager) if manager != own => {}
+            _ => return false,
+        }
+    }
+    true
+}
+
+/// Whether no manager has links below this one and others.
+fn is_cut(topo: &Topo, first: u16) -> bool
+    ensures { result ≡ true → IsCut topo.now first }
+{
+    for low in 0..first {
+        if !is_alone(topo, low, first) {
+            return false;
+        }
+    }
+    true
+}
+
+/// Whether the links below this one may be judged apart from the others.
+pub fn can_part(topo: &Topo, first: u16) -> bool
+    ensures { result ≡ true → CanPart topo.now first }
+{
+    has_no_caches(topo) || is_cut(topo, first)
+}
+
+/// The report of fragments of links in a row.
+#[derive(Drop)]
+pub struct Part {
+    links: Links,
+    /// How many fragments they are.
+    fragments: u64,
+    rows: Vec<Row>,
+}
+
+/// The report of the fragments that texts are, which a pass takes in this order. A hitch where a text is no fragment, or one of another
+/// link.
+fn judged<P: Pass + Drop>(
+    alloc: Global,
+    topo: &Topo,
+    links: Links,
+    texts: &[Vec<u8>],
+    pass: P,
+) -> Result<Vec<Row>, Hitch>
+    requires { P.has_come topo.now [] pass }
+    ensures { IfOk result (λ rows. IsPartReport topo.now links.first links.next rows.items) }
+{
+    let mut pass = pass;
+    for text in texts {
+        let fragment = fragment_in(alloc, text)?;
+        match topo.link_of(&fragment.link()) {
+            Some(link) if links.first <= link && link < links.next => {}
+            _ => return Err(Hitch::Fault),
+        }
+        pass.accept(alloc, Arc::new(alloc, fragment)?)?;
+    }
+    let rows = pass.report(alloc)?;
+    Ok(rows)
+}
+
+/// The fragment that a text is.
+fn fragment_in(alloc: Global, text: &[u8]) -> Result<Fragment, Hitch> {
+    match parse_whole_fragment(alloc, text) {
+        Ok(fragment) => Ok(fragment),
+        Err(FragmentFault::Memory) => Err(Hitch::Memory),
+        Err(_) => Err(Hitch::Fault),
+    }
+}
+
+/// The rows of the report of the fragments of these links that texts are, in the order in which a pass takes them.
+fn rows_of(alloc: Global, topo: &Topo, links: Links, texts: &[Vec<u8>]) -> Result<Vec<Row>, Hitch>
+    ensures { IfOk result (λ rows. IsPartReport topo.now links.first links.next rows.items) }
+{
+    let own = Arc::new(alloc, topo.copy(alloc)?)?;
+    if let Some(pass) = LinkPass::new(alloc, Arc::try_clone(&own)?) {
+        return judged(alloc, topo, links, texts, pass);
+    }
+    let pass = ManagerPass::new(alloc, own)?;
+    judged(alloc, topo, links, texts, pass)
+}
+
+impl Part {
+    /// The report of the fragments of these links that texts are, in the order in which a pass takes them. A hitch where memory is refused,
+    /// where a text is no fragment of these links, and where the pass has one.
+    pub fn of(alloc: Global, topo: &Topo, links: Links, texts: &[Vec<u8>]) -> Result<Part, Hitch>
+        ensures { IfOk result (λ part. IsPartReport topo.now part.links.first part.links.next part.rows.items) }
+    {
+        let rows = rows_of(alloc, topo, links, texts)?;
+        Ok(Part {
+            links,
+            fragments: texts.len() as u64,
+            rows,
+        })
+    }
+}
+
+/// The rows of links below one, of which each part came by itself.
+#[derive(Drop)]
+pub struct Whole {
+    next: u16,
+    fragments: u64,
+    rows: Vec<Row>,
+}
+
+impl Whole {
+    /// No part came.
+    pub fn new(alloc: Global) -> Whole
+        ensures { (topo : Topology) → IsFoundBelow topo result.next result.rows.items }
+    {
+        Whole {
+            next: 0,
+            fragments: 0,
+            rows: Vec::new(alloc),
+        }
+    }
+
+    /// Adds the next part. A hitch where its links come before those of another, or can't be judged apart from those below.
+    pub fn add(&mut self, topo: &Topo, part: Part) -> Result<(), Hitch>
+        requires { IsPartReport topo.now part.links.first part.links.next part.rows.items }
+        ensures { IsFoundBelow topo.now self.old.next self.old.rows.items → OnOk result (IsFoundBelow topo.now self.new.next self.new.rows.items) }
+    {
+        let Part {
+            links,
+            fragments,
+            rows,
+        } = part;
+        if links.first < self.next || links.next < links.first || !can_part(topo, links.first) {
+            return Err(Hitch::Fault);
+        }
+        self.rows.extend_from_slice(&rows)?;
+        self.next = links.next;
+        self.fragments = self.fragments.saturating_add(fragments);
+        Ok(())
+    }
+
+    /// How many fragments came.
+    pub fn fragments(&self) -> u64
+        ensures { result ≡ self.now.fragments }
+    {
+        self.fragments
+    }
+
+    /// The report of the fragments that came.
+    pub fn report(self) -> Vec<Row>
+        ensures { (topo : Topology) → IsFoundBelow topo self.next self.rows.items → (fs : List Recorded) × AreReportOf topo fs result.items }
+    {
+        sort_rows(self.rows)
+    }
+}

@@ -1,9 +1,9 @@
 //! A desk that takes calls one after the other, and what each of them answers.
 
 use crate::counting::{Calls, Counting};
-use crate::retries::{add, counters, open_desk, take};
+use crate::retries::{add, counters, found, open_desk, take};
 use crate::shelf::{Shelf, Shelved};
-use crate::texts::GETS;
+use crate::texts::FIRST_GET;
 use std::alloc::Global;
 use std::sync::Arc;
 use std::sync::atomic::Ordering;
@@ -102,7 +102,7 @@ pub(crate) enum Answer {
 
 /// The name of a link.
 pub(crate) fn name(word: &str) -> Result<Name, Fail> {
-    Ok(Name::new(word.as_bytes()).ok_or("a name")?)
+    found(Name::new(word.as_bytes()), "a name")
 }
 
 /// The change that a step asks for, if it asks for one.
@@ -128,6 +128,11 @@ fn edit(alloc: Global, desk: &mut Desk<Counting>, change: Change) -> Answer {
     }
 }
 
+/// A monitor of dma0 with a limit.
+pub(crate) fn monitor_of(alloc: Global, calls: &Calls, limit: u32) -> Result<Counting, Fail> {
+    Ok(Counting::new(alloc, name("dma0")?, limit, calls)?)
+}
+
 /// A monitor that is attached.
 fn attach(
     alloc: Global,
@@ -136,7 +141,7 @@ fn attach(
     number: u32,
     limit: u32,
 ) -> Result<Answer, Fail> {
-    let monitor = Counting::new(alloc, name("dma0")?, limit, calls)?;
+    let monitor = monitor_of(alloc, calls, limit)?;
     match desk.attach(alloc, number, monitor) {
         Ok(number) => Ok(Answer::Edit(number)),
         Err((fault, _)) => Ok(Answer::Refused(fault.code())),
@@ -260,8 +265,9 @@ fn back(shelf: &mut Shelf, place: usize) -> Answer {
 /// The first window of another desk, checked.
 fn stray(alloc: Global) -> Result<Shelved, Fail> {
     let mut desk = open_desk(alloc)?;
-    add(alloc, &mut desk, GETS[0]);
+    add(alloc, &mut desk, FIRST_GET);
     let job = take(alloc, &mut desk);
+    drop(desk);
     Ok(match job {
         Some(job) => match work(alloc, job) {
             Ok(done) => Shelved::Done(done),
@@ -360,5 +366,7 @@ pub(crate) fn wrong(alloc: Global, steps: &[(Step<'_>, Answer)]) -> Result<Optio
     let mut shelf = Shelf::new(alloc);
     let found = run(alloc, &mut desk, &calls, &mut shelf, steps);
     shelf.clear();
+    drop(desk);
+    drop(calls);
     found
 }

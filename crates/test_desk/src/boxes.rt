@@ -2,38 +2,41 @@
 
 use crate::bench::name;
 use crate::counting::GET;
-use crate::texts::ONE_MANAGER;
+use crate::retries::{found, open_desk};
 use std::alloc::Global;
 use std::sync::{Arc, OnceLock};
 use std::test::Fail;
 use tl_desk::Desk;
 use tl_edits::{Change, EditFault};
 use tl_monitor::{Budget, Settlement};
-use tl_topology::read_topo;
 
 /// A cell that a monitor leaves its settlement in when it is dropped.
-type Cell = Arc<OnceLock<Settlement>>;
+pub(crate) type Cell = Arc<OnceLock<Settlement>>;
+
+/// A cell; None where memory is refused.
+pub(crate) fn new_cell(alloc: Global) -> Option<Cell> {
+    match Arc::new(alloc, OnceLock::new()) {
+        Ok(cell) => Some(cell),
+        Err(_) => None,
+    }
+}
 
 /// A cell.
 fn cell(alloc: Global) -> Result<Cell, Fail> {
-    Ok(Arc::new(alloc, OnceLock::new())?)
+    found(new_cell(alloc), "a cell")
 }
 
 /// The edit that closed the monitor of a cell, or 0, once it is dropped.
 fn closed_at(cell: &Cell) -> Option<u64> {
-    let told = cell.get()?;
-    Some(told.closed_at)
+    match cell.get() {
+        Some(told) => Some(told.closed_at),
+        None => None,
+    }
 }
 
 /// A Budget of dma0 that lets no Get through.
 fn budget(cell: &Cell) -> Result<Budget, Fail> {
     Ok(Budget::new(name("dma0")?, GET, 0, Arc::try_clone(cell)?))
-}
-
-/// A desk without edits.
-fn new_desk(alloc: Global) -> Result<Desk<Budget>, Fail> {
-    let (topo, _) = read_topo(alloc, ONE_MANAGER.as_bytes())?;
-    Ok(Desk::new(alloc, topo)?)
 }
 
 /// Attaches a monitor 5 with a cell. Where it is refused: why, and what its cell tells once it is back, and once it is dropped there.
@@ -68,8 +71,10 @@ fn told_by_detach(
 
 /// The same on a desk of its own.
 fn told_by_one(alloc: Global, cell: &Cell) -> Result<(Option<u64>, Option<u64>), Fail> {
-    let mut desk = new_desk(alloc)?;
-    told_by_detach(alloc, &mut desk, cell)
+    let mut desk = open_desk(alloc)?;
+    let told = told_by_detach(alloc, &mut desk, cell);
+    drop(desk);
+    told
 }
 
 #[test]
@@ -88,8 +93,10 @@ fn told_by_second(
     first: &Cell,
     second: &Cell,
 ) -> Result<Option<(EditFault, Option<u64>, Option<u64>)>, Fail> {
-    attach(alloc, desk, first)?;
-    attach(alloc, desk, second)
+    match attach(alloc, desk, first) {
+        Ok(_) => attach(alloc, desk, second),
+        Err(fail) => Err(fail),
+    }
 }
 
 /// The same on a desk of its own.
@@ -98,8 +105,10 @@ fn told_by_two(
     first: &Cell,
     second: &Cell,
 ) -> Result<Option<(EditFault, Option<u64>, Option<u64>)>, Fail> {
-    let mut desk = new_desk(alloc)?;
-    told_by_second(alloc, &mut desk, first, second)
+    let mut desk = open_desk(alloc)?;
+    let told = told_by_second(alloc, &mut desk, first, second);
+    drop(desk);
+    told
 }
 
 #[test]

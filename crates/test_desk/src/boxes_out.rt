@@ -1,7 +1,7 @@
 //! Monitors that go out with a job, while edits go on, and come back or end.
 
 use crate::bench::{Answer, Step, wrong};
-use crate::texts::{GETS, ONE_GET};
+use crate::texts::{FIRST_GET, ONE_GET, SECOND_GET};
 use std::test::Fail;
 use tl_beats::Row;
 use tl_desk::Piece;
@@ -20,8 +20,8 @@ fn a_tally_goes_from_job_to_job(rt: HostRuntime) -> Result<(), Fail> {
         line: 2,
     };
     let steps = [
-        (Step::Add(GETS[0]), Answer::Edit(1)),
-        (Step::Add(GETS[1]), Answer::Edit(2)),
+        (Step::Add(FIRST_GET), Answer::Edit(1)),
+        (Step::Add(SECOND_GET), Answer::Edit(2)),
         (Step::Attach(6, 1), Answer::Edit(3)),
         (Step::Take, Answer::Out(1, Piece::Manager(0, 0))),
         (Step::Work(0), Answer::Worked),

@@ -1,7 +1,7 @@
 //! How many beats a monitor is given.
 
 use crate::bench::{Answer, Step, wrong};
-use crate::texts::{GETS, OTHER_GET, TWO_GETS};
+use crate::texts::{FIRST_GET, OTHER_GET, SECOND_GET, THIRD_GET, TWO_GETS};
 use std::test::Fail;
 
 #[test]
@@ -11,9 +11,9 @@ fn a_monitor_is_given_a_later_window_again_where_its_tally_changes(
     // Each window has two beats. One Get for another: its window of the manager and of the monitor. One more: the later window of the
     // monitor too.
     let steps = [
-        (Step::Add(GETS[0]), Answer::Edit(1)),
-        (Step::Add(GETS[1]), Answer::Edit(2)),
-        (Step::Add(GETS[2]), Answer::Edit(3)),
+        (Step::Add(FIRST_GET), Answer::Edit(1)),
+        (Step::Add(SECOND_GET), Answer::Edit(2)),
+        (Step::Add(THIRD_GET), Answer::Edit(3)),
         (Step::Attach(5, 9), Answer::Edit(4)),
         (Step::Calls, Answer::Calls(0, 0)),
         (Step::Recheck, Answer::Checked(6)),

@@ -14,14 +14,17 @@ pub(crate) const GET: Class = Class {
     opcode: 4,
 };
 
-/// How often the monitors of a desk were called, by all of them.
+/// How often monitors were called.
 #[derive(Drop)]
-pub(crate) struct Calls {
+pub(crate) struct Counts {
     /// With a beat.
-    pub(crate) beats: Arc<AtomicU64>,
+    pub(crate) beats: AtomicU64,
     /// With the edit that ends it.
-    pub(crate) ends: Arc<AtomicU64>,
+    pub(crate) ends: AtomicU64,
 }
+
+/// How often the monitors of a desk were called, by all of them.
+pub(crate) type Calls = Arc<Counts>;
 
 /// A Budget that counts its calls.
 #[derive(Drop)]
@@ -30,21 +33,15 @@ pub(crate) struct Counting {
     calls: Calls,
 }
 
-impl Calls {
-    /// None.
-    pub(crate) fn new(alloc: Global) -> Result<Calls, AllocError> {
-        Ok(Calls {
-            beats: Arc::new(alloc, AtomicU64::new(0))?,
-            ends: Arc::new(alloc, AtomicU64::new(0))?,
-        })
-    }
-
-    /// The same counters.
-    fn share(&self) -> Result<Calls, AllocError> {
-        Ok(Calls {
-            beats: Arc::try_clone(&self.beats)?,
-            ends: Arc::try_clone(&self.ends)?,
-        })
+/// No calls; None where memory is refused.
+pub(crate) fn no_calls(alloc: Global) -> Option<Calls> {
+    let none = Counts {
+        beats: AtomicU64::new(0),
+        ends: AtomicU64::new(0),
+    };
+    match Arc::new(alloc, none) {
+        Ok(calls) => Some(calls),
+        Err(_) => None,
     }
 }
 
@@ -59,7 +56,7 @@ impl Counting {
         let cell = Arc::new(alloc, OnceLock::new())?;
         Ok(Counting {
             inner: Budget::new(link, GET, limit, cell),
-            calls: calls.share()?,
+            calls: Arc::try_clone(calls)?,
         })
     }
 }

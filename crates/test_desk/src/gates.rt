@@ -1,6 +1,7 @@
 //! A script that is run beside workers with a gate: two windows are checked at once.
 
 use crate::hall_bench::topology;
+use crate::retries::found;
 use std::alloc::Global;
 use std::sync::Wait;
 use std::sync::atomic::{AtomicBool, Ordering};
@@ -86,13 +87,14 @@ fn run_two<R: Threads + Wait + Sync>(
 #[test]
 fn a_run_checks_two_windows_at_once(rt: HostRuntime) -> Result<(), Fail> {
     let alloc = rt.alloc();
-    let topo = topology(alloc).ok_or("a topology")?;
+    let topo = found(topology(alloc), "a topology")?;
     let mut written = Vec::new(alloc);
     let gate = SecondFirst {
         second: AtomicBool::new(false),
         late: AtomicBool::new(false),
     };
     let is_whole = run_two(&rt, alloc, &topo, &mut written, &gate);
+    drop(topo);
     assert!(rt; is_whole && written.as_slice() == LINES.as_bytes());
     assert!(rt; !gate.late.load(Ordering::SeqCst));
     Ok(())

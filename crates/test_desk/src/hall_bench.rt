@@ -2,15 +2,16 @@
 
 ghost use Rattle.std.specs.Prelude.{◌≡◌, IfSome};
 
+use crate::retries::{fragment_of, topology_of};
 use std::alloc::Global;
-use std::sync::{Arc, Wait};
-use tl_beats::{Fragment, Row, parse_whole_fragment};
+use std::sync::Wait;
+use tl_beats::Row;
 use tl_desk::{Done, HandIn, Job, Piece, Report, work};
-use tl_edits::Change;
+use tl_edits::{Change, EditFault};
 use tl_hall::{Hall, Pass};
 use tl_monitor::Budget;
 use tl_tables::{Chan, Rule};
-use tl_topology::{Topo, read_topo};
+use tl_topology::Topo;
 
 /// One manager with one reader.
 const TOPOLOGY: &str = "topo 1\nmanager m0 64\nlink dma0 m0 ul 8 3 2\nend\n";
@@ -28,15 +29,20 @@ end\n";
 
 /// The topology; None where memory is refused.
 pub(crate) fn topology(alloc: Global) -> Option<Topo> {
-    let (topo, _) = read_topo(alloc, TOPOLOGY.as_bytes()).ok()?;
-    Some(topo)
+    topology_of(alloc, TOPOLOGY)
 }
 
 /// A hall without edits, and its first pass; None where memory is refused. Its monitors are Budgets.
 fn new_hall(alloc: Global) -> Option<(Hall<Budget>, Pass<Budget>)>
     ensures { IfSome result (λ r. r.1.hall ≡ r.0.hall) }
 {
-    Hall::new(alloc, topology(alloc)?).ok()
+    match topology(alloc) {
+        Some(topo) => match Hall::new(alloc, topo) {
+            Ok(made) => Some(made),
+            Err(_) => None,
+        },
+        None => None,
+    }
 }
 
 /// The same, and again where memory is refused.
@@ -49,10 +55,12 @@ pub(crate) fn opened(alloc: Global) -> Option<(Hall<Budget>, Pass<Budget>)>
     }
 }
 
-/// The fragment with a text.
-fn fragment(alloc: Global, text: &str) -> Option<Arc<Fragment>> {
-    let fragment = parse_whole_fragment(alloc, text.as_bytes()).ok()?;
-    Arc::new(alloc, fragment).ok()
+/// The number of an edit; None where it was refused.
+pub(crate) fn number_of(answer: Result<u64, EditFault>) -> Option<u64> {
+    match answer {
+        Ok(number) => Some(number),
+        Err(_) => None,
+    }
 }
 
 /// Adds the fragment with a text: the number of the edit, or None where memory is refused.
@@ -66,10 +74,10 @@ pub(crate) fn add<R: Wait>(
     requires { pass.hall ≡ hall.now.hall }
     ensures { result.0.hall ≡ pass.hall }
 {
-    match fragment(alloc, text) {
+    match fragment_of(alloc, text) {
         Some(get) => {
-            let (pass, number) = hall.submit(rt, alloc, pass, Change::Add(get));
-            (pass, number.ok())
+            let (pass, answer) = hall.submit(rt, alloc, pass, Change::Add(get));
+            (pass, number_of(answer))
         }
         None => (pass, None),
     }
@@ -205,6 +213,23 @@ pub(crate) fn check_one<R: Wait>(
     }
 }
 
+/// Publishes: the version; None where memory is refused.
+pub(crate) fn publish<R: Wait>(
+    rt: &R,
+    alloc: Global,
+    hall: &Hall<Budget>,
+    pass: Pass<Budget>,
+) -> (Pass<Budget>, Option<u64>)
+    requires { pass.hall ≡ hall.now.hall }
+    ensures { result.0.hall ≡ pass.hall }
+{
+    let (pass, version) = hall.publish(rt, alloc, pass);
+    match version {
+        Ok(version) => (pass, Some(version)),
+        Err(_) => (pass, None),
+    }
+}
+
 /// What a report tells: its version and edit, how many rows it has, and the first of them.
 #[derive(Clone, Copy, PartialEq)]
 pub(crate) struct Told {
@@ -214,15 +239,14 @@ pub(crate) struct Told {
     pub(crate) first: Option<Row>,
 }
 
-/// What a report tells, if there is one.
-fn summary_of(report: Option<&Report>) -> Option<Told> {
-    let report = report?;
-    Some(Told {
+/// What a report tells.
+fn told_by(report: &Report) -> Told {
+    Told {
         version: report.version(),
         edit: report.edit(),
         rows: report.rows().len(),
         first: report.rows().first().copied(),
-    })
+    }
 }
 
 /// What the latest report tells; None where there is none, or memory is refused.
@@ -236,8 +260,12 @@ pub(crate) fn read<R: Wait>(
 {
     let (pass, found) = hall.read(rt, pass);
     match found {
-        Ok(report) => (pass, summary_of(report.as_ref())),
-        Err(_) => (pass, None),
+        Ok(Some(report)) => {
+            let told = told_by(&report);
+            drop(report);
+            (pass, Some(told))
+        }
+        Ok(None) | Err(_) => (pass, None),
     }
 }
 

@@ -4,7 +4,8 @@
 ghost use Rattle.std.specs.Prelude.{◌≡◌};
 
 use crate::hall_bench::{
-    Fate, MISALIGNED_GET, OF_MISALIGNED_GET, Told, Trip, add, finish, hand_in, opened, read, take,
+    Fate, MISALIGNED_GET, OF_MISALIGNED_GET, Told, Trip, add, finish, hand_in, opened, publish,
+    read, take,
 };
 use std::alloc::Global;
 use std::sync::Wait;
@@ -79,13 +80,10 @@ fn publishes<R: Wait>(
     requires { pass.hall ≡ hall.now.hall }
     ensures { result.0.hall ≡ pass.hall }
 {
-    let (pass, version) = hall.publish(rt, alloc, pass);
+    let (pass, version) = publish(rt, alloc, hall, pass);
     match version {
-        Ok(version) => (pass, Some(version)),
-        Err(_) => {
-            let (pass, version) = hall.publish(rt, alloc, pass);
-            (pass, version.ok())
-        }
+        Some(version) => (pass, Some(version)),
+        None => publish(rt, alloc, hall, pass),
     }
 }
 
@@ -172,6 +170,8 @@ fn a_report_reaches_another_thread(rt: HostRuntime) -> Result<(), Fail> {
         version: Some(1),
         read: Some(OF_MISALIGNED_GET),
     };
-    assert!(rt; report(&rt, alloc, &hall, pass) == wanted);
+    let course = report(&rt, alloc, &hall, pass);
+    drop(hall);
+    assert!(rt; course == wanted);
     Ok(())
 }

@@ -1,6 +1,9 @@
 //! Tests of a desk, alone and in a hall: how often it calls its monitors, windows that go out and come back, lists of steps, when a
 //! monitor is dropped, calls that are refused memory and made again; what one thread tells another, workers at once and alone, and
 //! windows that come back late or to another hall.
+//!
+//! A desk or a hall is let go by `drop`, and what it answers is taken apart by `match`. Each of these is proved in about a second; a
+//! desk that ends with its function, an answer's `is_ok` or `ok()?`, or an index into an array of texts took ten and more.
 #![tactic(auto)]
 
 #[cfg(test)]

@@ -4,7 +4,7 @@ ghost use Rattle.std.specs.Ordering.{nat_cmp};
 ghost use Rattle.std.specs.List.Sorted.{IsStrictlySortedBy};
 
 use crate::retries::{add, open_desk};
-use crate::texts::{BLOCK_ASKED, BLOCK_GRANTED, GETS};
+use crate::texts::{BLOCK_ASKED, BLOCK_GRANTED, FIRST_GET};
 use std::alloc::Global;
 use std::test::Fail;
 use tl_capture::Present;
@@ -13,7 +13,9 @@ use tl_edits::{Inputs, Log};
 /// A copy of what stands after a copy of a log.
 fn copied(log: &Log) -> Result<Inputs, Fail> {
     let copy = log.copy()?;
-    Ok(copy.inputs().copy()?)
+    let inputs = copy.inputs().copy();
+    drop(copy);
+    Ok(inputs?)
 }
 
 /// A copy of what stands on a desk with three fragments, the later one of cpu0 added first.
@@ -21,8 +23,10 @@ fn standing(alloc: Global) -> Result<Inputs, Fail> {
     let mut desk = open_desk(alloc)?;
     add(alloc, &mut desk, BLOCK_GRANTED);
     add(alloc, &mut desk, BLOCK_ASKED);
-    add(alloc, &mut desk, GETS[0]);
-    copied(desk.log())
+    add(alloc, &mut desk, FIRST_GET);
+    let copy = copied(desk.log());
+    drop(desk);
+    copy
 }
 
 /// The links cpu0 and dma0.
@@ -53,7 +57,8 @@ fn is_listed(alloc: Global, present: &Present) -> Result<bool, Fail> {
 #[test]
 fn a_copy_of_a_log_lists_what_stands_there(rt: HostRuntime) -> Result<(), Fail> {
     let inputs = standing(rt.alloc())?;
-    let is_listed = is_listed(rt.alloc(), inputs.present())?;
-    assert!(rt; is_listed);
+    let is_listed = is_listed(rt.alloc(), inputs.present());
+    drop(inputs);
+    assert!(rt; is_listed?);
     Ok(())
 }

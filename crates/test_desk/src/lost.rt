@@ -3,8 +3,8 @@
 ghost use Rattle.std.specs.Prelude.{◌≡◌};
 
 use crate::hall_bench::{
-    Fate, MISALIGNED_GET, TWO_WINDOWS, Told, Trip, abandon, add, check_one, finish, opened, read,
-    take,
+    Fate, MISALIGNED_GET, TWO_WINDOWS, Told, Trip, abandon, add, check_one, finish, opened,
+    publish, read, take,
 };
 use std::alloc::Global;
 use std::sync::Wait;
@@ -67,12 +67,12 @@ fn call_back<R: Wait>(rt: &R, alloc: Global, hall: &Hall<Budget>, pass: Pass<Bud
     let (pass, none) = hall.oldest_live(rt, pass);
     let (pass, first) = check_one(rt, alloc, hall, pass);
     let (pass, second) = check_one(rt, alloc, hall, pass);
-    let (_, version) = hall.publish(rt, alloc, pass);
+    let (_, version) = publish(rt, alloc, hall, pass);
     Rescue {
         oldest: (both, left, none),
         were_live: (one, again, two),
         trips: (first, second),
-        version: version.ok(),
+        version,
     }
 }
 
@@ -136,7 +136,9 @@ fn windows_that_were_called_back_come_to_nothing(rt: HostRuntime) -> Result<(), 
             first: None,
         }),
     };
-    assert!(rt; come_late(&rt, alloc, &hall, pass) == wanted);
+    let course = come_late(&rt, alloc, &hall, pass);
+    drop(hall);
+    assert!(rt; course == wanted);
     Ok(())
 }
 
@@ -146,7 +148,9 @@ fn astray<R: Wait>(rt: &R, alloc: Global, job: Option<Job<Budget>>) -> Option<Tr
         give_up(job);
         return None;
     };
-    let (_, trip) = bring(rt, alloc, &hall, pass, job, Late::HandsIn);
+    let (pass, trip) = bring(rt, alloc, &hall, pass, job, Late::HandsIn);
+    drop(pass);
+    drop(hall);
     trip
 }
 
@@ -197,6 +201,8 @@ fn a_window_of_another_hall_is_not_taken(rt: HostRuntime) -> Result<(), Fail> {
         was_live: true,
         again: trip(2, 0, Fate::Taken),
     };
-    assert!(rt; lose(&rt, alloc, &hall, pass) == wanted);
+    let loss = lose(&rt, alloc, &hall, pass);
+    drop(hall);
+    assert!(rt; loss == wanted);
     Ok(())
 }

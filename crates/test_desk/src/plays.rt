@@ -1,30 +1,79 @@
 //! Lists of steps that a desk runs by itself.
 
-use crate::bench::{Answer, Step, change_of, name, run};
+use crate::bench::{Answer, Step, change_of, monitor_of, run};
 use crate::counting::{Calls, Counting};
 use crate::retries::{counters, open_desk};
 use crate::shelf::Shelf;
-use crate::texts::{GETS, MISALIGNED_GET};
+use crate::texts::{FIRST_GET, MISALIGNED_GET};
 use std::alloc::Global;
 use std::test::Fail;
 use tl_desk::{Desk, Piece, PublishFault, Reply, Step as Played};
 use tl_edits::EditFault;
 
+/// A monitor that is attached, as a list has it.
+fn attached(
+    alloc: Global,
+    calls: &Calls,
+    number: u32,
+    limit: u32,
+) -> Result<Played<Counting>, Fail> {
+    match monitor_of(alloc, calls, limit) {
+        Ok(monitor) => Ok(Played::Attach(number, monitor)),
+        Err(fail) => Err(fail),
+    }
+}
+
+/// A change as a list has it.
+fn changed(alloc: Global, step: Step<'_>) -> Result<Played<Counting>, Fail> {
+    match change_of(alloc, step) {
+        Ok(Some(change)) => Ok(Played::Edit(change)),
+        Ok(None) => Err(Fail::new("no step of a list")),
+        Err(fail) => Err(fail),
+    }
+}
+
 /// A step as a list has it.
 fn played(alloc: Global, calls: &Calls, step: Step<'_>) -> Result<Played<Counting>, Fail> {
-    Ok(match step {
-        Step::Attach(number, limit) => {
-            let monitor = Counting::new(alloc, name("dma0")?, limit, calls)?;
-            Played::Attach(number, monitor)
+    match step {
+        Step::Attach(number, limit) => attached(alloc, calls, number, limit),
+        Step::Take => Ok(Played::Take),
+        Step::Work(place) => Ok(Played::Work(place)),
+        Step::HandIn(place) => Ok(Played::HandIn(place)),
+        Step::Abandon(place) => Ok(Played::Abandon(place)),
+        Step::Recall(ticket) => Ok(Played::Recall(ticket)),
+        Step::Publish => Ok(Played::Publish),
+        _ => changed(alloc, step),
+    }
+}
+
+/// Puts one more step into a list.
+fn add_step(
+    alloc: Global,
+    calls: &Calls,
+    list: &mut Vec<Played<Counting>>,
+    step: Step<'_>,
+) -> Result<(), Fail> {
+    let step = played(alloc, calls, step)?;
+    match list.push(step) {
+        Ok(()) => Ok(()),
+        Err(failed) => {
+            drop(failed);
+            Err(Fail::new("memory"))
         }
-        Step::Take => Played::Take,
-        Step::Work(place) => Played::Work(place),
-        Step::HandIn(place) => Played::HandIn(place),
-        Step::Abandon(place) => Played::Abandon(place),
-        Step::Recall(ticket) => Played::Recall(ticket),
-        Step::Publish => Played::Publish,
-        _ => Played::Edit(change_of(alloc, step)?.ok_or("no step of a list")?),
-    })
+    }
+}
+
+/// Puts some steps into a list.
+fn add_steps(
+    alloc: Global,
+    calls: &Calls,
+    list: &mut Vec<Played<Counting>>,
+    steps: &[(Step<'_>, Reply)],
+) -> Result<(), Fail> {
+    for (step, _) in steps {
+        add_step(alloc, calls, list, *step)?;
+    }
+    Ok(())
 }
 
 /// The list of some steps.
@@ -34,10 +83,13 @@ fn list_of(
     steps: &[(Step<'_>, Reply)],
 ) -> Result<Vec<Played<Counting>>, Fail> {
     let mut list = Vec::new(alloc);
-    for (step, _) in steps {
-        list.push(played(alloc, calls, *step)?)?;
+    match add_steps(alloc, calls, &mut list, steps) {
+        Ok(()) => Ok(list),
+        Err(fail) => {
+            drop(list);
+            Err(fail)
+        }
     }
-    Ok(list)
 }
 
 /// The first step whose reply is another, by its place, and None where there is none.
@@ -60,7 +112,10 @@ fn play(
     let list = list_of(alloc, calls, steps)?;
     match desk.play(alloc, list) {
         Ok(replies) => Ok(first_other(&replies, steps)),
-        Err(_) => Err(Fail::new("memory")),
+        Err(list) => {
+            drop(list);
+            Err(Fail::new("memory"))
+        }
     }
 }
 
@@ -90,6 +145,8 @@ fn wrong_of_list(
     let mut shelf = Shelf::new(alloc);
     let found = play_and_run(alloc, &mut desk, &calls, &mut shelf, list, behind);
     shelf.clear();
+    drop(desk);
+    drop(calls);
     found
 }
 
@@ -97,7 +154,7 @@ fn wrong_of_list(
 fn a_place_stays_empty(rt: HostRuntime) -> Result<(), Fail> {
     // An abandon of what was checked, and of what was spent, is nothing; the next job has a place of its own.
     let list = [
-        (Step::Add(GETS[0]), Reply::Edited(1)),
+        (Step::Add(FIRST_GET), Reply::Edited(1)),
         (Step::Take, Reply::Took(1)),
         (Step::Work(0), Reply::Worked),
         (Step::Abandon(0), Reply::Nothing),
@@ -138,7 +195,7 @@ fn what_a_list_refuses_is_dropped_and_what_it_leaves_abandoned(
         ),
         (Step::Add(MISALIGNED_GET), Reply::Edited(2)),
         (
-            Step::Add(GETS[0]),
+            Step::Add(FIRST_GET),
             Reply::EditRefused(EditFault::FragmentExists),
         ),
         (Step::Detach(5), Reply::Edited(3)),

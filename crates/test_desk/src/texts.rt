@@ -14,21 +14,23 @@ pub(crate) const ONE_GET: &str = "fragment dma0 1 0 99999\n\
 10 D 1 0 3 0 0 0 0\n\
 end\n";
 
-/// A Get of dma0 with its reply, in each of the windows 0 to 2.
-pub(crate) const GETS: [&str; 3] = [
-    "fragment dma0 1 0 4095\n\
+/// A Get of dma0 with its reply, in window 0.
+pub(crate) const FIRST_GET: &str = "fragment dma0 1 0 4095\n\
 10 A 4 0 3 0 1000 ff 0\n\
 10 D 1 0 3 0 0 0 0\n\
-end\n",
-    "fragment dma0 2 4096 8191\n\
+end\n";
+
+/// The same in window 1.
+pub(crate) const SECOND_GET: &str = "fragment dma0 2 4096 8191\n\
 5000 A 4 0 3 0 1000 ff 0\n\
 5000 D 1 0 3 0 0 0 0\n\
-end\n",
-    "fragment dma0 3 8192 12287\n\
+end\n";
+
+/// The same in window 2.
+pub(crate) const THIRD_GET: &str = "fragment dma0 3 8192 12287\n\
 9000 A 4 0 3 0 1000 ff 0\n\
 9000 D 1 0 3 0 0 0 0\n\
-end\n",
-];
+end\n";
 
 /// In place of the second: a Get of another address with its reply.
 pub(crate) const OTHER_GET: &str = "fragment dma0 2 4096 8191\n\

@@ -1,7 +1,7 @@
 //! Windows that go out under tickets while edits go on, and what comes back.
 
 use crate::bench::{Answer, Step, wrong};
-use crate::texts::{GETS, MISALIGNED_GET};
+use crate::texts::{FIRST_GET, MISALIGNED_GET, SECOND_GET, THIRD_GET};
 use std::test::Fail;
 use tl_desk::Piece;
 
@@ -9,7 +9,7 @@ use tl_desk::Piece;
 fn a_recalled_ticket_is_void_and_its_window_goes_out_again(rt: HostRuntime) -> Result<(), Fail> {
     let steps = [
         (Step::Recall(1), Answer::None),
-        (Step::Add(GETS[0]), Answer::Edit(1)),
+        (Step::Add(FIRST_GET), Answer::Edit(1)),
         (Step::Publish, Answer::Refused(31)),
         (Step::Take, Answer::Out(1, Piece::Manager(0, 0))),
         (Step::Take, Answer::None),
@@ -34,9 +34,9 @@ fn a_recalled_ticket_is_void_and_its_window_goes_out_again(rt: HostRuntime) -> R
 fn the_oldest_ticket_is_the_lowest_that_is_live(rt: HostRuntime) -> Result<(), Fail> {
     let steps = [
         (Step::Oldest, Answer::None),
-        (Step::Add(GETS[0]), Answer::Edit(1)),
-        (Step::Add(GETS[1]), Answer::Edit(2)),
-        (Step::Add(GETS[2]), Answer::Edit(3)),
+        (Step::Add(FIRST_GET), Answer::Edit(1)),
+        (Step::Add(SECOND_GET), Answer::Edit(2)),
+        (Step::Add(THIRD_GET), Answer::Edit(3)),
         (Step::Oldest, Answer::None),
         (Step::Take, Answer::Out(1, Piece::Manager(0, 0))),
         (Step::Take, Answer::Out(2, Piece::Manager(0, 1))),
@@ -61,7 +61,7 @@ fn the_oldest_ticket_is_the_lowest_that_is_live(rt: HostRuntime) -> Result<(), F
 #[test]
 fn what_another_desk_gave_out_is_a_stranger(rt: HostRuntime) -> Result<(), Fail> {
     let steps = [
-        (Step::Add(GETS[0]), Answer::Edit(1)),
+        (Step::Add(FIRST_GET), Answer::Edit(1)),
         (Step::Stray, Answer::Back),
         (Step::HandIn(0), Answer::Stranger),
         (Step::Settled, Answer::Settled(false)),

@@ -2,12 +2,14 @@
 
 ghost use Rattle.std.specs.Prelude.{◌≡◌};
 
-use crate::hall_bench::{TWO_WINDOWS, Told, add, opened, read};
+use crate::boxes::new_cell;
+use crate::counting::GET;
+use crate::hall_bench::{TWO_WINDOWS, Told, add, number_of, opened, publish, read};
 use std::alloc::Global;
+use std::sync::Wait;
 use std::sync::atomic::{AtomicU64, Ordering};
-use std::sync::{Arc, OnceLock, Wait};
 use std::test::Fail;
-use tl_beats::{Class, Row};
+use tl_beats::Row;
 use tl_desk::Desk;
 use tl_edits::Change;
 use tl_hall::{Gate, Hall, Pass, WorkCount, worker};
@@ -34,14 +36,20 @@ impl Gate for Enough {
     }
 }
 
-/// A monitor of the Gets that lets one through; None where memory is refused.
+/// A monitor of the Gets of a link that lets one through; None where memory is refused.
+fn budget_of(alloc: Global, link: Name) -> Option<Budget> {
+    match new_cell(alloc) {
+        Some(cell) => Some(Budget::new(link, GET, 1, cell)),
+        None => None,
+    }
+}
+
+/// The same of dma0.
 fn budget(alloc: Global) -> Option<Budget> {
-    let get = Class {
-        chan: Chan::A,
-        opcode: 4,
-    };
-    let cell = Arc::new(alloc, OnceLock::new()).ok()?;
-    Some(Budget::new(Name::new(b"dma0")?, get, 1, cell))
+    match Name::new(b"dma0") {
+        Some(link) => budget_of(alloc, link),
+        None => None,
+    }
 }
 
 /// Attaches it as monitor 5: the number of the edit.
@@ -88,22 +96,24 @@ fn work_through<R: Wait>(
     let (pass, _) = add(rt, alloc, hall, pass, TWO_WINDOWS);
     let (pass, attached) = attach(rt, alloc, hall, pass);
     let (pass, count) = worker(rt, alloc, hall, pass, gate);
-    let (pass, _) = hall.publish(rt, alloc, pass);
+    let (pass, _) = publish(rt, alloc, hall, pass);
     let (pass, read) = read(rt, hall, pass);
-    let (pass, detached) = hall.submit(rt, alloc, pass, Change::Detach(5));
+    let (pass, answer) = hall.submit(rt, alloc, pass, Change::Detach(5));
     let shift = Shift {
         attached,
         count,
         read,
-        detached: detached.ok(),
+        detached: number_of(answer),
     };
     (pass, shift)
 }
 
 /// The number of the first monitor that ended, and of the edit that ended it.
 fn first_end(desk: &Desk<Budget>) -> Option<(u32, u64)> {
-    let (number, told) = desk.settlements().first()?;
-    Some((*number, told.closed_at))
+    match desk.settlements().first() {
+        Some((number, told)) => Some((*number, told.closed_at)),
+        None => None,
+    }
 }
 
 #[test]
@@ -140,8 +150,10 @@ fn a_monitor_goes_through_the_hands_of_a_worker(rt: HostRuntime) -> Result<(), F
         detached: Some(3),
     };
     let (pass, shift) = work_through(&rt, alloc, &hall, pass, &gate);
-    assert!(rt; shift == wanted);
     let desk = hall.close(&rt, pass);
-    assert!(rt; first_end(&desk) == Some((5, 3)));
+    let end = first_end(&desk);
+    drop(desk);
+    assert!(rt; shift == wanted);
+    assert!(rt; end == Some((5, 3)));
     Ok(())
 }

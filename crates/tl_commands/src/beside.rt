@@ -8,17 +8,18 @@ ghost use Rattle.tl_pass.specs.Parts.{IsFoundBelow, IsPartReport};
 ghost use Rattle.tl_pass.specs.Reports.{AreReportOf};
 
 use crate::fault::Fault;
-use crate::files::{fragment_text, is_passed};
+use crate::files::{fill_page, fragment_in, is_passed};
 use crate::heads::{Head, Queue};
+use crate::page::Page;
 use crate::progress::{FilesRead, Gauge};
 use crate::turns::{Turns, hitch_of};
 use std::alloc::{AllocError, Global};
 use std::rt::Files;
 use std::sync::Arc;
-use std::thread::{Threads, map_indices};
+use std::thread::{Threads, map_chunks, map_indices};
 use tl_beats::Fragment;
 use tl_pass::{Hitch, Links, Part, Pass, Whole, can_part};
-use tl_stream::{Parsers, Sieve};
+use tl_stream::Sieve;
 use tl_topology::Topo;
 
 /// How many groups of parts, or files, each thread takes, about: where one is long, the others go on with the rest.
@@ -127,48 +128,102 @@ pub(crate) fn groups_of(
     }
 }
 
-/// The texts of a group, of those fragments that are checked.
+/// Pages for the texts of several files, whose room is used again.
 #[derive(Drop)]
-struct Load {
-    links: Links,
-    texts: Vec<Vec<u8>>,
+pub(crate) struct Pages {
+    all: Vec<Page>,
+    used: usize,
 }
 
-/// The texts of files, of those fragments that are checked.
-fn texts_of<R: Files + AllocGlobal, G: Gauge>(
+impl Pages {
+    /// None has a text.
+    pub(crate) fn new(alloc: Global) -> Pages {
+        Pages {
+            all: Vec::new(alloc),
+            used: 0,
+        }
+    }
+
+    /// Those that have a text, from a place on.
+    fn texts(&self, from: usize, count: usize) -> &[Page] {
+        let end = from.saturating_add(count);
+        self.all.get(from..end).unwrap_or(&[])
+    }
+
+    /// Reads a file into the next page. One of a fragment that is not checked leaves the page to the file after it.
+    fn read<R: Files + AllocGlobal, G: Gauge>(
+        &mut self,
+        rt: &R,
+        sieve: Sieve<'_>,
+        path: &str,
+        read: &mut FilesRead<'_, G>,
+    ) -> Result<(), Fault> {
+        if self.used >= self.all.len() {
+            self.all.push(Page::new(rt.alloc()))?;
+        }
+        let Some(page) = self.all.get_mut(self.used) else {
+            return Err(Fault::MEMORY);
+        };
+        fill_page(rt, path, page, read)?;
+        if !is_passed(rt.alloc(), sieve, page.text())? {
+            self.used = self.used.saturating_add(1);
+        }
+        Ok(())
+    }
+}
+
+/// Reads the files with these heads, and answers how many pages they take.
+fn read_all<R: Files + AllocGlobal, G: Gauge>(
     rt: &R,
     sieve: Sieve<'_>,
     queue: Queue<'_>,
     heads: &[Head],
+    pages: &mut Pages,
     read: &mut FilesRead<'_, G>,
-) -> Result<Vec<Vec<u8>>, Fault> {
-    let mut texts = Vec::new(rt.alloc());
+) -> Result<usize, Fault> {
+    let before = pages.used;
     for head in heads {
-        let text = fragment_text(rt, queue.path(head)?)?;
-        read.count(&text);
-        if !is_passed(rt.alloc(), sieve, &text)? {
-            texts.push(text)?;
-        }
+        pages.read(rt, sieve, queue.path(head)?, read)?;
     }
-    Ok(texts)
+    Ok(pages.used.saturating_sub(before))
 }
 
-/// The texts of some groups.
+/// A group whose texts stand on pages in a row.
+#[derive(Clone, Copy)]
+struct Load {
+    links: Links,
+    from: usize,
+    count: usize,
+}
+
+/// Reads the files of some groups.
 fn loads_of<R: Files + AllocGlobal, G: Gauge>(
     rt: &R,
     sieve: Sieve<'_>,
     queue: Queue<'_>,
     groups: &[Group],
+    pages: &mut Pages,
     read: &mut FilesRead<'_, G>,
 ) -> Result<Vec<Load>, Fault> {
     let mut loads = Vec::new(rt.alloc());
+    pages.used = 0;
     for group in groups {
+        let from = pages.used;
+        let count = read_all(rt, sieve, queue, group.heads(queue.heads), pages, read)?;
         loads.push(Load {
             links: group.links,
-            texts: texts_of(rt, sieve, queue, group.heads(queue.heads), read)?,
+            from,
+            count,
         })?;
     }
     Ok(loads)
+}
+
+/// The report of a group.
+fn part_of(alloc: Global, topo: &Topo, load: Load, pages: &Pages) -> Result<Part, Hitch>
+    ensures { IfOk result (λ part. IsPartReport topo.now part.links.first part.links.next part.rows.items) }
+{
+    Part::of(alloc, topo, load.links, pages.texts(load.from, load.count))
 }
 
 /// The reports of groups, each made by a thread of its own.
@@ -176,6 +231,7 @@ fn parts_of_loads<R: Threads + Sync + AllocGlobal>(
     rt: &R,
     topo: &Topo,
     loads: &[Load],
+    pages: &Pages,
 ) -> Result<Vec<Result<Part, Hitch>>, AllocError>
     ensures { IfOk result (λ parts. All (λ found. IfOk found (λ part. IsPartReport topo.now part.links.first part.links.next part.rows.items)) parts.items) }
 {
@@ -184,7 +240,7 @@ fn parts_of_loads<R: Threads + Sync + AllocGlobal>(
         rt,
         alloc,
         loads.len(),
-        &|place| Part::of(alloc, topo, loads[place].links, &loads[place].texts),
+        &|place| part_of(alloc, topo, loads[place], pages),
     )
 }
 
@@ -210,13 +266,14 @@ pub(crate) fn rows_beside<R: Files + Threads + Sync + AllocGlobal, G: Gauge>(
 ) -> Result<Turns, Hitch>
     ensures { IfOk result (λ turns. (fs : List Recorded) × AreReportOf sieve.entry.topo.now fs turns.rows.items) }
 {
+    let mut pages = Pages::new(rt.alloc());
     let mut whole = Whole::new(rt.alloc());
     for round in groups.chunks(usize::from(workers) + 1) {
-        let loads = match loads_of(rt, sieve, queue, round, read) {
+        let loads = match loads_of(rt, sieve, queue, round, &mut pages, read) {
             Ok(loads) => loads,
             Err(fault) => return Err(hitch_of(fault)),
         };
-        let parts = parts_of_loads(rt, sieve.topo, &loads)?;
+        let parts = parts_of_loads(rt, sieve.topo, &loads, &pages)?;
         add_all(sieve.topo, &mut whole, parts)?;
     }
     let fragments = whole.fragments();
@@ -224,34 +281,67 @@ pub(crate) fn rows_beside<R: Files + Threads + Sync + AllocGlobal, G: Gauge>(
     Ok(Turns { fragments, rows })
 }
 
-/// The fragments of files, parsed by several threads.
-fn parsed_of<R: Files + Threads + Sync + AllocGlobal, G: Gauge>(
+/// The fragments that texts are, of those that are checked.
+fn parsed(alloc: Global, sieve: Sieve<'_>, texts: &[Page]) -> Result<Vec<Arc<Fragment>>, Fault> {
+    let mut fragments = Vec::new(alloc);
+    for page in texts {
+        if let Some(fragment) = fragment_in(alloc, sieve, page.text())? {
+            fragments.push(fragment)?;
+        }
+    }
+    Ok(fragments)
+}
+
+/// The fragments that texts are, of which each thread parsed an equal share, in their order.
+fn parsed_beside<R: Threads + Sync + AllocGlobal>(
     rt: &R,
     sieve: Sieve<'_>,
-    queue: Queue<'_>,
-    heads: &[Head],
+    texts: &[Page],
     workers: u8,
-    read: &mut FilesRead<'_, G>,
-) -> Result<Vec<Fragment>, Hitch> {
-    let texts = match texts_of(rt, sieve, queue, heads, read) {
-        Ok(texts) => texts,
-        Err(fault) => return Err(hitch_of(fault)),
-    };
-    let parsed = Parsers::new(rt, workers).parse(&texts)?;
-    match parsed.fault {
-        Some(_) => Err(Hitch::Fault),
-        None => Ok(parsed.fragments),
-    }
+) -> Result<Vec<Result<Vec<Arc<Fragment>>, Fault>>, AllocError> {
+    let alloc = rt.alloc();
+    let share = texts.len().div_ceil(usize::from(workers) + 1).max(1);
+    map_chunks(
+        rt,
+        alloc,
+        texts,
+        share,
+        &|_, part| parsed(alloc, sieve, part),
+    )
 }
 
 /// A pass takes these fragments.
-fn accept_all<P: Pass>(alloc: Global, pass: &mut P, fragments: Vec<Fragment>) -> Result<(), Hitch>
+fn accept_all<P: Pass>(
+    alloc: Global,
+    pass: &mut P,
+    fragments: Vec<Arc<Fragment>>,
+) -> Result<(), Hitch>
     ensures { (topo : Topology) (fs : List Recorded) → P.has_come topo fs pass.old → OnOk result ((gs : List Recorded) × P.has_come topo gs pass.new) }
 {
     for fragment in fragments {
-        pass.accept(alloc, Arc::new(alloc, fragment)?)?;
+        pass.accept(alloc, fragment)?;
     }
     Ok(())
+}
+
+/// A pass takes the fragments of some shares, and it is answered how many they are.
+fn accept_shares<P: Pass>(
+    alloc: Global,
+    pass: &mut P,
+    shares: Vec<Result<Vec<Arc<Fragment>>, Fault>>,
+) -> Result<u64, Hitch>
+    ensures { (topo : Topology) (fs : List Recorded) → P.has_come topo fs pass.old → OnOk result ((gs : List Recorded) × P.has_come topo gs pass.new) }
+{
+    let mut count = 0u64;
+    for share in shares {
+        let fragments = match share {
+            Ok(fragments) => fragments,
+            Err(fault) => return Err(hitch_of(fault)),
+        };
+        count = count.saturating_add(fragments.len() as u64);
+        accept_all(alloc, pass, fragments)?;
+    }
+    Ok(count)
 }
 
 /// The rows of the fragments of files, which a pass takes in this order, and which so many threads beside this one parse.
@@ -267,11 +357,17 @@ pub(crate) fn rows_parsed_beside<R: Files + Threads + Sync + AllocGlobal, G: Gau
     ensures { IfOk result (λ turns. (fs : List Recorded) × AreReportOf sieve.entry.topo.now fs turns.rows.items) }
 {
     let mut pass = pass;
+    let mut pages = Pages::new(rt.alloc());
     let mut fragments = 0u64;
     for round in queue.heads.chunks((usize::from(workers) + 1) * ROUNDS) {
-        let parsed = parsed_of(rt, sieve, queue, round, workers, read)?;
-        fragments = fragments.saturating_add(parsed.len() as u64);
-        accept_all(rt.alloc(), &mut pass, parsed)?;
+        pages.used = 0;
+        let count = match read_all(rt, sieve, queue, round, &mut pages, read) {
+            Ok(count) => count,
+            Err(fault) => return Err(hitch_of(fault)),
+        };
+        let shares = parsed_beside(rt, sieve, pages.texts(0, count), workers)?;
+        let accepted = accept_shares(rt.alloc(), &mut pass, shares)?;
+        fragments = fragments.saturating_add(accepted);
     }
     let rows = pass.report(rt.alloc())?;
     Ok(Turns { fragments, rows })

@@ -53,7 +53,7 @@ pub(crate) fn whole_topology(alloc: Global, text: &[u8]) -> Result<Topo, TopoFau
 }
 
 /// The text of a fragment's file.
-pub(crate) fn fragment_text<R: Files + AllocGlobal>(rt: &R, path: &str) -> Result<Vec<u8>, Fault> {
+fn fragment_text<R: Files + AllocGlobal>(rt: &R, path: &str) -> Result<Vec<u8>, Fault> {
     let Ok(file) = fs::open(rt, path) else {
         return Err(Fault::FILE);
     };
@@ -73,7 +73,7 @@ pub(crate) fn is_passed(alloc: Global, sieve: Sieve<'_>, text: &[u8]) -> Result<
 }
 
 /// The fragment that a whole text is, if it is checked.
-fn fragment_in(
+pub(crate) fn fragment_in(
     alloc: Global,
     sieve: Sieve<'_>,
     text: &[u8],
@@ -85,6 +85,23 @@ fn fragment_in(
     Ok(Some(Arc::new(alloc, fragment)?))
 }
 
+/// Reads a fragment's file into a page.
+pub(crate) fn fill_page<R: Files + AllocGlobal, G: Gauge>(
+    rt: &R,
+    path: &str,
+    page: &mut Page,
+    read: &mut FilesRead<'_, G>,
+) -> Result<(), Fault> {
+    let Ok(file) = fs::open(rt, path) else {
+        return Err(Fault::FILE);
+    };
+    if let Err(fault) = page.fill(&mut CountedReader::new(file), Role::Fragment.most()) {
+        return Err(FragmentFault::from(fault).into());
+    }
+    read.count(page.text());
+    Ok(())
+}
+
 /// The fragment of a file, if it is checked.
 pub(crate) fn fragment_at<R: Files + AllocGlobal, G: Gauge>(
     rt: &R,
@@ -93,13 +110,7 @@ pub(crate) fn fragment_at<R: Files + AllocGlobal, G: Gauge>(
     page: &mut Page,
     read: &mut FilesRead<'_, G>,
 ) -> Result<Option<Arc<Fragment>>, Fault> {
-    let Ok(file) = fs::open(rt, path) else {
-        return Err(Fault::FILE);
-    };
-    if let Err(fault) = page.fill(&mut CountedReader::new(file), Role::Fragment.most()) {
-        return Err(FragmentFault::from(fault).into());
-    }
-    read.count(page.text());
+    fill_page(rt, path, page, read)?;
     fragment_in(rt.alloc(), sieve, page.text())
 }
 

@@ -3,6 +3,7 @@
 ghost use Rattle.std.specs.Prelude.{◌≤◌, ◌<◌, ◌^◌};
 
 use std::alloc::Global;
+use tl_pass::Text;
 use tl_text::{ByteIn, TextFault};
 
 /// How many bytes it has room for at first.
@@ -51,5 +52,11 @@ impl Page {
             }
         }
         Err(TextFault::TooLong)
+    }
+}
+
+impl Text for Page {
+    fn bytes(&self) -> &[u8] {
+        self.text()
     }
 }

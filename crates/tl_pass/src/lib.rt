@@ -8,5 +8,5 @@ mod pass;
 
 pub use link_pass::LinkPass;
 pub use manager_pass::ManagerPass;
-pub use part::{Links, Part, Whole, can_part};
+pub use part::{Links, Part, Text, Whole, can_part};
 pub use pass::{Hitch, Pass};

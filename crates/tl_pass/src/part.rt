@@ -69,6 +69,12 @@ pub fn can_part(topo: &Topo, first: u16) -> bool
     has_no_caches(topo) || is_cut(topo, first)
 }
 
+/// What holds the text of a fragment.
+pub trait Text {
+    /// Its bytes.
+    fn bytes(&self) -> &[u8];
+}
+
 /// The report of fragments of links in a row.
 #[derive(Drop)]
 pub struct Part {
@@ -80,11 +86,11 @@ pub struct Part {
 
 /// The report of the fragments that texts are, which a pass takes in this order. A hitch where a text is no fragment, or one of another
 /// link.
-fn judged<P: Pass + Drop>(
+fn judged<P: Pass + Drop, T: Text>(
     alloc: Global,
     topo: &Topo,
     links: Links,
-    texts: &[Vec<u8>],
+    texts: &[T],
     pass: P,
 ) -> Result<Vec<Row>, Hitch>
     requires { P.has_come topo.now [] pass }
@@ -92,7 +98,7 @@ fn judged<P: Pass + Drop>(
 {
     let mut pass = pass;
     for text in texts {
-        let fragment = fragment_in(alloc, text)?;
+        let fragment = fragment_in(alloc, text.bytes())?;
         match topo.link_of(&fragment.link()) {
             Some(link) if links.first <= link && link < links.next => {}
             _ => return Err(Hitch::Fault),
@@ -103,7 +109,7 @@ fn judged<P: Pass + Drop>(
     Ok(rows)
 }
 
-/// The fragment that a text is.
+/// The fragment that a text is. A hitch where it is none, or memory is refused.
 fn fragment_in(alloc: Global, text: &[u8]) -> Result<Fragment, Hitch> {
     match parse_whole_fragment(alloc, text) {
         Ok(fragment) => Ok(fragment),
@@ -113,7 +119,12 @@ fn fragment_in(alloc: Global, text: &[u8]) -> Result<Fragment, Hitch> {
 }
 
 /// The rows of the report of the fragments of these links that texts are, in the order in which a pass takes them.
-fn rows_of(alloc: Global, topo: &Topo, links: Links, texts: &[Vec<u8>]) -> Result<Vec<Row>, Hitch>
+fn rows_of<T: Text>(
+    alloc: Global,
+    topo: &Topo,
+    links: Links,
+    texts: &[T],
+) -> Result<Vec<Row>, Hitch>
     ensures { IfOk result (λ rows. IsPartReport topo.now links.first links.next rows.items) }
 {
     let own = Arc::new(alloc, topo.copy(alloc)?)?;
@@ -127,7 +138,7 @@ fn rows_of(alloc: Global, topo: &Topo, links: Links, texts: &[Vec<u8>]) -> Resul
 impl Part {
     /// The report of the fragments of these links that texts are, in the order in which a pass takes them. A hitch where memory is refused,
     /// where a text is no fragment of these links, and where the pass has one.
-    pub fn of(alloc: Global, topo: &Topo, links: Links, texts: &[Vec<u8>]) -> Result<Part, Hitch>
+    pub fn of<T: Text>(alloc: Global, topo: &Topo, links: Links, texts: &[T]) -> Result<Part, Hitch>
         ensures { IfOk result (λ part. IsPartReport topo.now part.links.first part.links.next part.rows.items) }
     {
         let rows = rows_of(alloc, topo, links, texts)?;

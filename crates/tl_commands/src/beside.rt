@@ -1,28 +1,25 @@
 //! Files whose parts are judged by several threads.
 
-ghost use Rattle.std.specs.Prelude.{◌<◌, List, [], IfOk, OnOk};
-ghost use Rattle.tl_topology.specs.Topology.{Topology};
+ghost use Rattle.std.specs.Prelude.{◌<◌, List, IfOk, OnOk};
 ghost use Rattle.std.specs.List.{All};
 ghost use Rattle.tl_definitions.specs.Positions.{Recorded};
 ghost use Rattle.tl_pass.specs.Parts.{IsFoundBelow, IsPartReport};
 ghost use Rattle.tl_pass.specs.Reports.{AreReportOf};
 
 use crate::fault::Fault;
-use crate::files::{fill_page, fragment_in, is_passed};
+use crate::files::{fill_page, is_passed};
 use crate::heads::{Head, Queue};
 use crate::page::Page;
 use crate::progress::{FilesRead, Gauge};
 use crate::turns::{Turns, hitch_of};
 use std::alloc::{AllocError, Global};
 use std::rt::Files;
-use std::sync::Arc;
-use std::thread::{Threads, map_chunks, map_indices};
-use tl_beats::Fragment;
-use tl_pass::{Hitch, Links, Part, Pass, Whole, can_part};
+use std::thread::{Threads, map_indices};
+use tl_pass::{Hitch, Links, Part, Whole, can_part};
 use tl_stream::Sieve;
 use tl_topology::Topo;
 
-/// How many groups of parts, or files, each thread takes, about: where one is long, the others go on with the rest.
+/// How many groups of parts each thread takes, about: where one is long, the others go on with the rest.
 const ROUNDS: usize = 4;
 
 /// Fragments of links that are judged apart from all others, by their heads.
@@ -130,14 +127,14 @@ pub(crate) fn groups_of(
 
 /// Pages for the texts of several files, whose room is used again.
 #[derive(Drop)]
-pub(crate) struct Pages {
+struct Pages {
     all: Vec<Page>,
     used: usize,
 }
 
 impl Pages {
     /// None has a text.
-    pub(crate) fn new(alloc: Global) -> Pages {
+    fn new(alloc: Global) -> Pages {
         Pages {
             all: Vec::new(alloc),
             used: 0,
@@ -278,97 +275,5 @@ pub(crate) fn rows_beside<R: Files + Threads + Sync + AllocGlobal, G: Gauge>(
     }
     let fragments = whole.fragments();
     let rows = whole.report();
-    Ok(Turns { fragments, rows })
-}
-
-/// The fragments that texts are, of those that are checked.
-fn parsed(alloc: Global, sieve: Sieve<'_>, texts: &[Page]) -> Result<Vec<Arc<Fragment>>, Fault> {
-    let mut fragments = Vec::new(alloc);
-    for page in texts {
-        if let Some(fragment) = fragment_in(alloc, sieve, page.text())? {
-            fragments.push(fragment)?;
-        }
-    }
-    Ok(fragments)
-}
-
-/// The fragments that texts are, of which each thread parsed an equal share, in their order.
-fn parsed_beside<R: Threads + Sync + AllocGlobal>(
-    rt: &R,
-    sieve: Sieve<'_>,
-    texts: &[Page],
-    workers: u8,
-) -> Result<Vec<Result<Vec<Arc<Fragment>>, Fault>>, AllocError> {
-    let alloc = rt.alloc();
-    let share = texts.len().div_ceil(usize::from(workers) + 1).max(1);
-    map_chunks(
-        rt,
-        alloc,
-        texts,
-        share,
-        &|_, part| parsed(alloc, sieve, part),
-    )
-}
-
-/// A pass takes these fragments.
-fn accept_all<P: Pass>(
-    alloc: Global,
-    pass: &mut P,
-    fragments: Vec<Arc<Fragment>>,
-) -> Result<(), Hitch>
-    ensures { (topo : Topology) (fs : List Recorded) → P.has_come topo fs pass.old → OnOk result ((gs : List Recorded) × P.has_come topo gs pass.new) }
-{
-    for fragment in fragments {
-        pass.accept(alloc, fragment)?;
-    }
-    Ok(())
-}
-
-/// A pass takes the fragments of some shares, and it is answered how many they are.
-fn accept_shares<P: Pass>(
-    alloc: Global,
-    pass: &mut P,
-    shares: Vec<Result<Vec<Arc<Fragment>>, Fault>>,
-) -> Result<u64, Hitch>
-    ensures { (topo : Topology) (fs : List Recorded) → P.has_come topo fs pass.old → OnOk result ((gs : List Recorded) × P.has_come topo gs pass.new) }
-{
-    let mut count = 0u64;
-    for share in shares {
-        let fragments = match share {
-            Ok(fragments) => fragments,
-            Err(fault) => return Err(hitch_of(fault)),
-        };
-        count = count.saturating_add(fragments.len() as u64);
-        accept_all(alloc, pass, fragments)?;
-    }
-    Ok(count)
-}
-
-/// The rows of the fragments of files, which a pass takes in this order, and which so many threads beside this one parse.
-pub(crate) fn rows_parsed_beside<R: Files + Threads + Sync + AllocGlobal, G: Gauge, P: Pass + Drop>(
-    rt: &R,
-    sieve: Sieve<'_>,
-    queue: Queue<'_>,
-    pass: P,
-    workers: u8,
-    read: &mut FilesRead<'_, G>,
-) -> Result<Turns, Hitch>
-    requires { P.has_come sieve.topo.now [] pass }
-    ensures { IfOk result (λ turns. (fs : List Recorded) × AreReportOf sieve.entry.topo.now fs turns.rows.items) }
-{
-    let mut pass = pass;
-    let mut pages = Pages::new(rt.alloc());
-    let mut fragments = 0u64;
-    for round in queue.heads.chunks((usize::from(workers) + 1) * ROUNDS) {
-        pages.used = 0;
-        let count = match read_all(rt, sieve, queue, round, &mut pages, read) {
-            Ok(count) => count,
-            Err(fault) => return Err(hitch_of(fault)),
-        };
-        let shares = parsed_beside(rt, sieve, pages.texts(0, count), workers)?;
-        let accepted = accept_shares(rt.alloc(), &mut pass, shares)?;
-        fragments = fragments.saturating_add(accepted);
-    }
-    let rows = pass.report(rt.alloc())?;
     Ok(Turns { fragments, rows })
 }

@@ -73,7 +73,7 @@ pub(crate) fn is_passed(alloc: Global, sieve: Sieve<'_>, text: &[u8]) -> Result<
 }
 
 /// The fragment that a whole text is, if it is checked.
-pub(crate) fn fragment_in(
+fn fragment_in(
     alloc: Global,
     sieve: Sieve<'_>,
     text: &[u8],

@@ -4,7 +4,7 @@ ghost use Rattle.std.specs.Prelude.{List, [], IfOk, IfSome};
 ghost use Rattle.tl_definitions.specs.Positions.{Recorded};
 ghost use Rattle.tl_pass.specs.Reports.{AreReportOf};
 
-use crate::beside::{groups_of, rows_beside, rows_parsed_beside};
+use crate::beside::{groups_of, rows_beside};
 use crate::fault::Fault;
 use crate::files::{are_files, fragment_at, listed};
 use crate::heads::{Head, Parts, Queue, in_turn, parts_of};
@@ -79,32 +79,12 @@ fn rows_in_turn<R: Files + AllocGlobal, G: Gauge, P: Pass + Drop>(
     Ok(Turns { fragments, rows })
 }
 
-/// The same, where so many threads beside this one parse them.
-fn rows_taken<R: Files + Threads + Sync + AllocGlobal, G: Gauge, P: Pass + Drop>(
-    rt: &R,
-    sieve: Sieve<'_>,
-    queue: Queue<'_>,
-    pass: P,
-    workers: u8,
-    read: &mut FilesRead<'_, G>,
-) -> Result<Turns, Hitch>
-    requires { P.has_come sieve.topo.now [] pass }
-    ensures { IfOk result (λ turns. (fs : List Recorded) × AreReportOf sieve.entry.topo.now fs turns.rows.items) }
-{
-    if workers == 0 {
-        rows_in_turn(rt, sieve, queue, pass, read)
-    } else {
-        rows_parsed_beside(rt, sieve, queue, pass, workers, read)
-    }
-}
-
 /// The rows of the fragments of files, of which these parts are judged apart, one after another.
-fn rows_of_parts<R: Files + Threads + Sync + AllocGlobal, G: Gauge>(
+fn rows_of_parts<R: Files + AllocGlobal, G: Gauge>(
     rt: &R,
     sieve: Sieve<'_>,
     queue: Queue<'_>,
     parts: Parts,
-    workers: u8,
     read: &mut FilesRead<'_, G>,
 ) -> Result<Turns, Hitch>
     ensures { IfOk result (λ turns. (fs : List Recorded) × AreReportOf sieve.entry.topo.now fs turns.rows.items) }
@@ -114,16 +94,16 @@ fn rows_of_parts<R: Files + Threads + Sync + AllocGlobal, G: Gauge>(
     match parts {
         Parts::Managers => {
             let pass = ManagerPass::new(alloc, topo)?;
-            rows_taken(rt, sieve, queue, pass, workers, read)
+            rows_in_turn(rt, sieve, queue, pass, read)
         }
         Parts::Links => match LinkPass::new(alloc, topo) {
-            Some(pass) => rows_taken(rt, sieve, queue, pass, workers, read),
+            Some(pass) => rows_in_turn(rt, sieve, queue, pass, read),
             None => Err(Hitch::Fault),
         },
     }
 }
 
-/// The same, by so many threads beside this one, where there are several parts; else these threads parse.
+/// The same, by so many threads beside this one, where there are several parts.
 fn rows_by_parts<R: Files + Threads + Sync + AllocGlobal, G: Gauge>(
     rt: &R,
     sieve: Sieve<'_>,
@@ -140,7 +120,7 @@ fn rows_by_parts<R: Files + Threads + Sync + AllocGlobal, G: Gauge>(
             return rows_beside(rt, sieve, queue, &groups, workers, read);
         }
     }
-    rows_of_parts(rt, sieve, queue, parts, workers, read)
+    rows_of_parts(rt, sieve, queue, parts, read)
 }
 
 /// The report of the fragments of the files that words stand for, which are read in an order in which few are held, and judged by so many

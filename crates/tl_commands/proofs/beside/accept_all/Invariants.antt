@@ -1,7 +1,0 @@
-use Rattle.std.proofs.Common.{List}
-use Rattle.tl_topology.specs.Topology.{Topology}
-use Rattle.tl_definitions.specs.Positions.{Recorded}
-use Rattle.tl_commands.proofs.beside.accept_all.Given as goal
-
-abbrev pub invariant-loop-fragment : goal.invariant-loop-fragment
-invariant-loop-fragment g l = (topo : Topology) (fs : List Recorded) → g.P.Pass.has_come topo fs l.fn.pass → (gs : List Recorded) × g.P.Pass.has_come topo gs l.pass

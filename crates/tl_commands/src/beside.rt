@@ -11,11 +11,11 @@ use crate::files::{fill_page, is_passed};
 use crate::heads::{Head, Queue};
 use crate::page::Page;
 use crate::progress::{FilesRead, Gauge};
-use crate::turns::{Turns, hitch_of};
+use crate::turns::hitch_of;
 use std::alloc::{AllocError, Global};
 use std::rt::Files;
 use std::thread::{Threads, map_indices};
-use tl_pass::{Hitch, Links, Part, Whole, can_part};
+use tl_pass::{Hitch, Links, Part, Taken, Whole, can_part};
 use tl_stream::Sieve;
 use tl_topology::Topo;
 
@@ -180,7 +180,7 @@ fn read_all<R: Files + AllocGlobal, G: Gauge>(
 ) -> Result<usize, Fault> {
     let before = pages.used;
     for head in heads {
-        pages.read(rt, sieve, queue.path(head)?, read)?;
+        pages.read(rt, sieve, queue.path_of(head)?, read)?;
     }
     Ok(pages.used.saturating_sub(before))
 }
@@ -260,8 +260,8 @@ pub(crate) fn rows_beside<R: Files + Threads + Sync + AllocGlobal, G: Gauge>(
     groups: &[Group],
     workers: u8,
     read: &mut FilesRead<'_, G>,
-) -> Result<Turns, Hitch>
-    ensures { IfOk result (λ turns. (fs : List Recorded) × AreReportOf sieve.entry.topo.now fs turns.rows.items) }
+) -> Result<Taken, Hitch>
+    ensures { IfOk result (λ taken. (fs : List Recorded) × AreReportOf sieve.entry.topo.now fs taken.rows.items) }
 {
     let mut pages = Pages::new(rt.alloc());
     let mut whole = Whole::new(rt.alloc());
@@ -275,5 +275,5 @@ pub(crate) fn rows_beside<R: Files + Threads + Sync + AllocGlobal, G: Gauge>(
     }
     let fragments = whole.fragments();
     let rows = whole.report();
-    Ok(Turns { fragments, rows })
+    Ok(Taken { fragments, rows })
 }

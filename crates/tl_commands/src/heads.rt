@@ -67,8 +67,16 @@ impl<'a> Queue<'a> {
         Queue { files, heads }
     }
 
+    /// The path of the file with the head at this place.
+    pub(crate) fn path(self, place: usize) -> Result<&'a str, Fault> {
+        match self.heads.get(place) {
+            Some(head) => self.path_of(head),
+            None => Err(Fault::FILE),
+        }
+    }
+
     /// The path of the file with this head.
-    pub(crate) fn path(self, head: &Head) -> Result<&'a str, Fault> {
+    pub(crate) fn path_of(self, head: &Head) -> Result<&'a str, Fault> {
         match self.files.get(head.file) {
             Some(path) => Ok(path.as_str()),
             None => Err(Fault::FILE),

@@ -10,7 +10,7 @@ use crate::files::{fragments_of, script_of, topology_of};
 use crate::picking::{Trouble, Written, order_of, write_audit, write_once};
 use crate::progress::{Gauge, SoFar};
 use crate::share::share_of;
-use crate::turns::{Turns, report_in_turn};
+use crate::turns::report_in_turn;
 use std::alloc::Global;
 use std::rt::Files;
 use std::sync::Arc;
@@ -18,6 +18,7 @@ use std::thread::Threads;
 use tl_beats::Fragment;
 use tl_check::{Judges, Plain, Report, report_text, run_once_beside};
 use tl_options::{Capture, How, View};
+use tl_pass::Taken;
 use tl_rows::Format;
 use tl_script::{Outcome, audit_script_beside};
 use tl_show::Shown;
@@ -163,13 +164,13 @@ fn once_denied<R: Files + Threads + Sync + AllocGlobal, O: ByteOut>(
 fn write_report<O: ByteOut>(
     alloc: Global,
     topo: &Topo,
-    turns: Turns,
+    taken: Taken,
     out: &mut O,
 ) -> Result<Ending, Fault>
-    requires rows { (fs : List Recorded) × AreReportOf topo.now fs turns.rows.items }
+    requires rows { (fs : List Recorded) × AreReportOf topo.now fs taken.rows.items }
     requires out { O.failure_count out.old < 2 ^ 63 }
 {
-    let report = Report::new(alloc, 1, turns.fragments, turns.rows)?;
+    let report = Report::new(alloc, 1, taken.fragments, taken.rows)?;
     let text = report_text(alloc, topo, &report)?;
     write_all(out, text.as_bytes())?;
     Ok(Ending::Came(report_of(report.rows().len() as u64)))
@@ -187,9 +188,9 @@ fn once_shared<R: Files + Threads + Sync + AllocGlobal + Clone + Drop, G: Gauge,
     requires { O.failure_count out.old < 2 ^ 63 }
 {
     if manner.is_bare()
-        && let Some(turns) = report_in_turn(rt, sieve, words, manner.how.workers, gauge)?
+        && let Some(taken) = report_in_turn(rt, sieve, words, manner.how.workers, gauge)?
     {
-        return write_report(rt.alloc(), sieve.topo, turns, out);
+        return write_report(rt.alloc(), sieve.topo, taken, out);
     }
     let fragments = fragments_of(rt, words, sieve, manner.how.workers, gauge)?;
     once_denied(rt, sieve.topo, &fragments, manner, out)

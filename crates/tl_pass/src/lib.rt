@@ -5,8 +5,10 @@ mod link_pass;
 mod manager_pass;
 mod part;
 mod pass;
+mod supply;
 
 pub use link_pass::LinkPass;
 pub use manager_pass::ManagerPass;
 pub use part::{Links, Part, Text, Whole, can_part};
 pub use pass::{Hitch, Pass};
+pub use supply::{Supply, Taken, report_of};

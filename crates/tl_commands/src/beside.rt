@@ -1,10 +1,10 @@
 //! Files whose parts are judged by several threads.
 
-ghost use Rattle.std.specs.Prelude.{◌<◌, List, IfOk, OnOk};
-ghost use Rattle.std.specs.List.{All};
-ghost use Rattle.tl_definitions.specs.Positions.{Recorded};
-ghost use Rattle.tl_pass.specs.Parts.{IsFoundBelow, IsPartReport};
-ghost use Rattle.tl_pass.specs.Reports.{AreReportOf};
+ghost use Rattle.std.specs.Prelude.{◌≡◌, ◌<◌, List, IfOk};
+ghost use Rattle.tl_beats.specs.Fragments.{Frag};
+ghost use Rattle.tl_pass.specs.Parts.{IsPartOf};
+ghost use Rattle.tl_pass.specs.Reports.{IsTaken};
+ghost use Rattle.tl_commands.specs.Beside.{run_of, texts_of, AreJudged};
 
 use crate::fault::Fault;
 use crate::files::{fill_page, is_passed};
@@ -141,10 +141,14 @@ impl Pages {
         }
     }
 
-    /// Those that have a text, from a place on.
-    fn texts(&self, from: usize, count: usize) -> &[Page] {
-        let end = from.saturating_add(count);
-        self.all.get(from..end).unwrap_or(&[])
+    /// So many from a place on; none where they aren't all there.
+    fn texts(&self, from: usize, count: usize) -> &[Page]
+        ensures { result.now ≡ run_of self.now.all.items from count }
+    {
+        match from.checked_add(count) {
+            Some(end) if end <= self.all.len() => &self.all[from..end],
+            _ => &[],
+        }
     }
 
     /// Reads a file into the next page. One of a fragment that is not checked leaves the page to the file after it.
@@ -218,7 +222,7 @@ fn loads_of<R: Files + AllocGlobal, G: Gauge>(
 
 /// The report of a group.
 fn part_of(alloc: Global, topo: &Topo, load: Load, pages: &Pages) -> Result<Part, Hitch>
-    ensures { IfOk result (λ part. IsPartReport topo.now part.links.first part.links.next part.rows.items) }
+    ensures { IfOk result (IsPartOf topo.now (texts_of pages.now load)) }
 {
     Part::of(alloc, topo, load.links, pages.texts(load.from, load.count))
 }
@@ -230,7 +234,7 @@ fn parts_of_loads<R: Threads + Sync + AllocGlobal>(
     loads: &[Load],
     pages: &Pages,
 ) -> Result<Vec<Result<Part, Hitch>>, AllocError>
-    ensures { IfOk result (λ parts. All (λ found. IfOk found (λ part. IsPartReport topo.now part.links.first part.links.next part.rows.items)) parts.items) }
+    ensures { IfOk result (λ parts. AreJudged topo.now pages.now loads.now parts.items) }
 {
     let alloc = rt.alloc();
     map_indices(
@@ -239,17 +243,6 @@ fn parts_of_loads<R: Threads + Sync + AllocGlobal>(
         loads.len(),
         &|place| part_of(alloc, topo, loads[place], pages),
     )
-}
-
-/// Adds the reports of groups to those before.
-fn add_all(topo: &Topo, whole: &mut Whole, parts: Vec<Result<Part, Hitch>>) -> Result<(), Hitch>
-    requires { All (λ found. IfOk found (λ part. IsPartReport topo.now part.links.first part.links.next part.rows.items)) parts.items }
-    ensures { IsFoundBelow topo.now whole.old.next whole.old.rows.items → OnOk result (IsFoundBelow topo.now whole.new.next whole.new.rows.items) }
-{
-    for part in parts {
-        whole.add(topo, part?)?;
-    }
-    Ok(())
 }
 
 /// The rows of the fragments of files, of which so many threads beside this one judge a group each; this one reads the files.
@@ -261,7 +254,7 @@ pub(crate) fn rows_beside<R: Files + Threads + Sync + AllocGlobal, G: Gauge>(
     workers: u8,
     read: &mut FilesRead<'_, G>,
 ) -> Result<Taken, Hitch>
-    ensures { IfOk result (λ taken. (fs : List Recorded) × AreReportOf sieve.entry.topo.now fs taken.rows.items) }
+    ensures { IfOk result (λ taken. (fs : List Frag) × IsTaken sieve.entry.topo.now fs taken) }
 {
     let mut pages = Pages::new(rt.alloc());
     let mut whole = Whole::new(rt.alloc());
@@ -271,9 +264,7 @@ pub(crate) fn rows_beside<R: Files + Threads + Sync + AllocGlobal, G: Gauge>(
             Err(fault) => return Err(hitch_of(fault)),
         };
         let parts = parts_of_loads(rt, sieve.topo, &loads, &pages)?;
-        add_all(sieve.topo, &mut whole, parts)?;
+        whole.add_all(sieve.topo, &parts)?;
     }
-    let fragments = whole.fragments();
-    let rows = whole.report();
-    Ok(Taken { fragments, rows })
+    Ok(whole.report())
 }

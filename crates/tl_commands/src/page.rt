@@ -1,6 +1,7 @@
 //! Room for the text of one file after another.
 
-ghost use Rattle.std.specs.Prelude.{◌≤◌, ◌<◌, ◌^◌};
+ghost use Rattle.std.specs.Prelude.{◌≡◌, ◌≤◌, ◌<◌, ◌^◌};
+ghost use Rattle.tl_commands.specs.Beside.{text_of};
 
 use std::alloc::Global;
 use tl_pass::Text;
@@ -26,8 +27,14 @@ impl Page {
     }
 
     /// The text.
-    pub(crate) fn text(&self) -> &[u8] {
-        self.bytes.get(..self.used).unwrap_or(&[])
+    pub(crate) fn text(&self) -> &[u8]
+        ensures { result.now ≡ text_of self.now }
+    {
+        if self.used <= self.bytes.len() {
+            &self.bytes[..self.used]
+        } else {
+            &[]
+        }
     }
 
     /// Reads the input to its end, of at most so many bytes. The faults are those of `read_text`; then the text is that of no file.
@@ -56,6 +63,8 @@ impl Page {
 }
 
 impl Text for Page {
+    ghost contents = { text_of };
+
     fn bytes(&self) -> &[u8] {
         self.text()
     }

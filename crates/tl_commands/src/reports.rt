@@ -1,8 +1,10 @@
 //! The reports of files: of fragments, and of what the first edits of a script leave.
 
-ghost use Rattle.std.specs.Prelude.{◌<◌, ◌^◌, List};
-ghost use Rattle.tl_definitions.specs.Positions.{Recorded};
-ghost use Rattle.tl_pass.specs.Reports.{AreReportOf};
+ghost use Rattle.std.specs.Prelude.{◌<◌, ◌^◌, List, length, OnOk};
+ghost use Rattle.std.specs.Io.KnownBytes.{Appends};
+ghost use Rattle.tl_beats.specs.Fragments.{Frag};
+ghost use Rattle.tl_check.specs.Once.{text_once};
+ghost use Rattle.tl_pass.specs.Reports.{IsTaken};
 
 use crate::denial::{Denial, denial_of_audit, denial_of_fragments};
 use crate::fault::Fault;
@@ -167,8 +169,10 @@ fn write_report<O: ByteOut>(
     taken: Taken,
     out: &mut O,
 ) -> Result<Ending, Fault>
-    requires rows { (fs : List Recorded) × AreReportOf topo.now fs taken.rows.items }
+    requires rows { (fs : List Frag) × IsTaken topo.now fs taken }
     requires out { O.failure_count out.old < 2 ^ 63 }
+    ensures { (fs : List Frag) → IsTaken topo.now fs taken
+        → OnOk result (Appends (O.contents out.old) (O.contents out.new) (text_once topo.now (length fs) taken.rows.items)) }
 {
     let report = Report::new(alloc, 1, taken.fragments, taken.rows)?;
     let text = report_text(alloc, topo, &report)?;

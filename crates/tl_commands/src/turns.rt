@@ -1,8 +1,8 @@
 //! The report of files of which each is judged as it is read, and forgotten.
 
-ghost use Rattle.std.specs.Prelude.{List, [], IfOk, IfSome};
-ghost use Rattle.tl_definitions.specs.Positions.{Recorded};
-ghost use Rattle.tl_pass.specs.Reports.{AreReportOf};
+ghost use Rattle.std.specs.Prelude.{List, IfOk, IfSome};
+ghost use Rattle.tl_beats.specs.Fragments.{Frag};
+ghost use Rattle.tl_pass.specs.Reports.{IsTaken};
 
 use crate::beside::{groups_of, rows_beside};
 use crate::fault::Fault;
@@ -52,6 +52,8 @@ impl<'r, 'a, 'p, 'g, R: Files + AllocGlobal, G: Gauge> FileSupply<'r, 'a, 'p, 'g
 }
 
 impl<'r, 'a, 'p, 'g, R: Files + AllocGlobal, G: Gauge> Supply for FileSupply<'r, 'a, 'p, 'g, R, G> {
+    ghost has_given = { λ _ _ _. Unit {0} };
+
     fn next(&mut self, _alloc: Global) -> Result<Option<Arc<Fragment>>, Hitch> {
         match self.next_fragment() {
             Ok(fragment) => Ok(fragment),
@@ -68,7 +70,7 @@ fn taken_of<R: Files + Threads + Sync + AllocGlobal, G: Gauge>(
     workers: u8,
     read: &mut FilesRead<'_, G>,
 ) -> Result<Taken, Hitch>
-    ensures { IfOk result (λ taken. (fs : List Recorded) × AreReportOf sieve.entry.topo.now fs taken.rows.items) }
+    ensures { IfOk result (λ taken. (fs : List Frag) × IsTaken sieve.entry.topo.now fs taken) }
 {
     if workers > 0 {
         let groups = groups_of(rt.alloc(), sieve.topo, queue.heads, workers)?;
@@ -97,7 +99,7 @@ pub(crate) fn report_in_turn<R: Files + Threads + Sync + AllocGlobal + Clone + D
     workers: u8,
     gauge: &mut G,
 ) -> Result<Option<Taken>, Fault>
-    ensures { IfOk result (λ found. IfSome found (λ taken. (fs : List Recorded) × AreReportOf sieve.entry.topo.now fs taken.rows.items)) }
+    ensures { IfOk result (λ found. IfSome found (λ taken. (fs : List Frag) × IsTaken sieve.entry.topo.now fs taken)) }
 {
     let (files, fault) = listed(rt, words)?;
     let Some(parts) = parts_of(sieve.topo) else {

@@ -1,3 +1,4 @@
 pub mod JoinLaws
 pub mod LinkPassLaws
 pub mod ManagerPassLaws
+pub mod StandingLaws

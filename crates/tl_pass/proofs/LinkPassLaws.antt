@@ -1,11 +1,8 @@
 -- Links without caches that come one after the other.
-use Rattle.std.proofs.Common.{◌≡◌, ℕ, ◌+◌, ◌<◌, inl, inr, cond, List, [], ◌∷◌, ◌++◌, get_or, refl, sym, ap, subst, ◌∙◌, arith}
+use Rattle.std.proofs.Common.{◌≡◌, ℕ, ◌+◌, ◌<◌, inl, inr, List, [], ◌++◌, get_or, refl, sym, ap, subst, ◌∙◌, arith}
 use Rattle.std.specs.Prelude.{◌↔◌}
 use Rattle.std.specs.List.{Contains}
 use Rattle.std.specs.List.Sorted.{IsStrictlySortedBy}
-use Rattle.std.specs.Ordering.{nat_cmp, is_lt, ordering_then}
-use Rattle.std.specs.Cmp.{nat_cmp_is}
-use Rattle.std.specs.declared.cmp.Ordering.TheVariants.{Greater}
 use Rattle.std.proofs.lemmas.List.{append-nil}
 use Rattle.std.proofs.lemmas.List.Elements.{Contains-get_or}
 use Rattle.tl_topology.specs.Topology.{Topology}
@@ -13,9 +10,9 @@ use Rattle.tl_beats.specs.Fragments.{Frag}
 use Rattle.tl_beats.specs.declared.Row.{Row}
 use Rattle.tl_definitions.specs.Positions.{Recorded}
 use Rattle.tl_definitions.specs.Report.{FindsIn, IsReport, row_order}
-use Rattle.tl_definitions.proofs.Lists.{contains_none, contains_here, contains_there}
+use Rattle.tl_definitions.proofs.Lists.{contains_none}
 use Rattle.tl_definitions.proofs.ReportLaws.{found_rows_are_the_report}
-use Rattle.tl_capture.specs.Present.{IsPresent, range_order, recorded, put_in}
+use Rattle.tl_capture.specs.Present.{IsPresent, recorded, put_in}
 use Rattle.tl_capture.proofs.PutLemmas.{put_from}
 use Rattle.tl_check.specs.Captured.{captures_with}
 use Rattle.tl_check.proofs.CaptureLaws.{one_place, row_linked}
@@ -23,6 +20,7 @@ use Rattle.tl_pass.specs.LinkPass.{HasPassed}
 use Rattle.tl_pass.specs.Parts.{HasNoCaches, HasJudged}
 use Rattle.tl_pass.specs.Reports.{AreReportOf}
 use Rattle.tl_pass.proofs.JoinLaws.{judged_both, none_judged, nothing}
+use Rattle.tl_pass.proofs.StandingLaws.{put_last}
 
 -- What is found of links, in the order of reports, is their report.
 pub judged_report : (topo : Topology) (next : ℕ) (fs : List Recorded) (rows sorted : List Row) → HasJudged topo next fs rows → IsStrictlySortedBy row_order sorted
@@ -67,14 +65,6 @@ module _ (topo : Topology) (link : ℕ) (present fs : List Recorded) (rows : Lis
         (judged_report topo (link + 1) (had.done ++ present) (rows ++ more) sorted (judged_more (link + 1) (omega arith)) rises same)
 
   module _ (f : Frag) (there : IsPresent (put_in (recorded link f) present)) where
-    put_last : (done : List Recorded) → ((g : Recorded) → Contains done g → g.link < link) → put_in (recorded link f) (done ++ present) ≡ done ++ put_in (recorded link f) present
-    put_last [] lower = refl
-    put_last (g ∷ gs) lower =
-        let less : g.link < link = lower g (contains_here g gs) in
-        let greater : range_order (recorded link f) g ≡ Greater = ap (λ o. ordering_then o (nat_cmp f.last g.first)) (sym (nat_cmp_is link g.link Greater less)) in
-        ap (λ o. cond (is_lt o) (recorded link f ∷ g ∷ gs ++ present) (g ∷ put_in (recorded link f) (gs ++ present))) greater
-        ∙ ap (λ hs. g ∷ hs) (put_last gs (λ h k. lower h (contains_there g gs h k)))
-
     pub one_more : HasPassed topo link (put_in (recorded link f) present) rows (put_in (recorded link f) fs)
     one_more = record {
       done = had.done;
@@ -82,5 +72,5 @@ module _ (topo : Topology) (link : ℕ) (present fs : List Recorded) (rows : Lis
       judged = had.judged;
       kept = there;
       own = λ g h. elim (put_from (recorded link f) present g h) [ inl same ↦ ap (λ (x : Recorded). x.link) (sym same) | inr before ↦ had.own g before ];
-      all = ap (put_in (recorded link f)) had.all ∙ put_last had.done had.judged.below;
+      all = ap (put_in (recorded link f)) had.all ∙ put_last link f had.done present had.judged.below;
     }

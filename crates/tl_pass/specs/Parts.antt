@@ -1,7 +1,9 @@
 -- Links that are judged apart, and what is found of them.
-use Rattle.std.specs.Prelude.{ℕ, ◌≡◌, ◌<◌, ◌≤◌, ◌⊎◌, ◌↔◌, false, List, [], length}
-use Rattle.std.specs.List.{Contains}
-use Rattle.tl_topology.specs.Topology.{Topology}
+use Rattle.std.specs.Prelude.{ℕ, ◌≡◌, ◌<◌, ◌≤◌, ◌⊎◌, ◌↔◌, false, List, [], Some, length, map, IfOk, Result}
+use Rattle.std.specs.List.{All, AllZip, Contains}
+use Rattle.tl_topology.specs.Topology.{Topology, number_of_name}
+use Rattle.tl_beats.specs.Fragments.{Frag}
+use Rattle.tl_beats.specs.Text.{fragment_text}
 use Rattle.tl_beats.specs.declared.Row.{Row}
 use Rattle.tl_definitions.specs.Managers.{declared_links}
 use Rattle.tl_definitions.specs.Positions.{Recorded, links_of}
@@ -9,7 +11,10 @@ use Rattle.tl_definitions.specs.Report.{FindsIn}
 use Rattle.tl_capture.specs.Present.{IsPresent}
 use Rattle.tl_check.specs.Captured.{captures_with}
 use Rattle.tl_check.specs.Managers.{has_caches}
-use Rattle.tl_pass.specs.Reports.{AreReportOf}
+use Rattle.tl_pass.specs.Reports.{AreReportOf, standing}
+use Rattle.tl_pass.specs.declared.pass.Hitch.{Hitch}
+use Rattle.tl_pass.specs.declared.part.Part.{Part}
+use Rattle.tl_pass.specs.declared.part.Whole.{Whole}
 
 -- No link of the topology has caches.
 abbrev pub HasNoCaches : Topology → Type 0
@@ -36,14 +41,25 @@ pub record HasJudged (topo : Topology) (next : ℕ) (fs : List Recorded) (rows :
   pub below : (f : Recorded) → Contains fs f → f.link < next
   pub found : (row : Row) → Contains rows row ↔ FindsIn (captures_with topo fs [] []) row
 
--- The fragments are of this link or later ones, below that one.
-abbrev pub AreWithin : ℕ → ℕ → List Recorded → Type 0
-AreWithin first next fs = (f : Recorded) → Contains fs f → (first ≤ f.link) × (f.link < next)
+-- The fragment's link is one of these.
+abbrev pub IsWithin : Topology → ℕ → ℕ → Frag → Type 0
+IsWithin topo first next f = (link : ℕ) × (number_of_name topo.links f.link ≡ Some link) × (first ≤ link) × (link < next)
 
--- The rows are the report of fragments of links in a row.
-abbrev pub IsPartReport : Topology → ℕ → ℕ → List Row → Type 0
-IsPartReport topo first next rows = (fs : List Recorded) × AreReportOf topo fs rows × AreWithin first next fs
+-- The part is the report of these fragments, which are of its links.
+pub record IsPart (topo : Topology) (fs : List Frag) (part : Part) : Type 0 where
+  pub within : All (IsWithin topo part.links.first part.links.next) fs
+  pub count : part.fragments ≡ length fs
+  pub report : AreReportOf topo (standing topo fs) part.rows.items
 
--- They are what is found of links below this one.
-abbrev pub IsFoundBelow : Topology → ℕ → List Row → Type 0
-IsFoundBelow topo next rows = (fs : List Recorded) × HasJudged topo next fs rows
+-- The part is the report of the fragments that have these texts.
+abbrev pub IsPartOf : Topology → List (List ℕ) → Part → Type 0
+IsPartOf topo texts part = (fs : List Frag) × (map fragment_text fs ≡ texts) × IsPart topo fs part
+
+-- Each part is the report of its fragments, or a hitch.
+abbrev pub AreParts : Topology → List (List Frag) → List (Result Part Hitch) → Type 0
+AreParts topo each parts = AllZip (λ found fs. IfOk found (IsPart topo fs)) parts each
+
+-- What came are these fragments, of links below the next part's, and the rows are what is found in them.
+pub record IsWhole (topo : Topology) (fs : List Frag) (whole : Whole) : Type 0 where
+  pub count : whole.fragments ≡ length fs
+  pub judged : HasJudged topo whole.next (standing topo fs) whole.rows.items

@@ -1,14 +1,17 @@
 //! Links that are judged apart from others.
 
-ghost use Rattle.std.specs.Prelude.{◌≡◌, ◌<◌, ◌≤◌, ℕ, List, [], true, length, IfOk, IfSome, OnOk};
+ghost use Rattle.std.specs.Prelude.{◌≡◌, ◌<◌, ◌≤◌, ◌++◌, ℕ, List, [], true, length, map, IfOk, IfSome, OnOk};
+ghost use Rattle.std.specs.List.{flat_map};
 ghost use Rattle.tl_topology.specs.Topology.{Topology};
-ghost use Rattle.tl_definitions.specs.Positions.{Recorded};
-ghost use Rattle.tl_pass.specs.Parts.{manager_of, CanPart, IsCut, IsFoundBelow, IsPartReport};
-ghost use Rattle.tl_pass.specs.Reports.{AreReportOf};
+ghost use Rattle.tl_beats.specs.Fragments.{Frag};
+ghost use Rattle.tl_beats.specs.Text.{fragment_text};
+ghost use Rattle.tl_pass.specs.Parts.{manager_of, AreParts, CanPart, IsCut, IsPart, IsPartOf, IsWhole};
+ghost use Rattle.tl_pass.specs.Reports.{IsTaken};
 
 use crate::link_pass::{LinkPass, has_no_caches};
 use crate::manager_pass::ManagerPass;
 use crate::pass::{Hitch, Pass};
+use crate::supply::Taken;
 use std::alloc::Global;
 use std::sync::Arc;
 use tl_beats::{Fragment, FragmentFault, Row, parse_whole_fragment};
@@ -72,7 +75,11 @@ pub fn can_part(topo: &Topo, first: u16) -> bool
 /// What holds the text of a fragment.
 pub trait Text {
     /// Its bytes.
-    fn bytes(&self) -> &[u8];
+    ghost contents: { Self → List ℕ };
+
+    /// Its bytes.
+    fn bytes(&self) -> &[u8]
+        ensures { result.now ≡ contents self.now };
 }
 
 /// The report of fragments of links in a row.
@@ -92,9 +99,9 @@ fn judged<P: Pass + Drop, T: Text>(
     links: Links,
     texts: &[T],
     pass: P,
-) -> Result<Vec<Row>, Hitch>
+) -> Result<Part, Hitch>
     requires { P.has_come topo.now [] pass }
-    ensures { IfOk result (λ rows. IsPartReport topo.now links.first links.next rows.items) }
+    ensures { IfOk result (λ part. IsPartOf topo.now (map T.contents texts.now) part) }
 {
     let mut pass = pass;
     for text in texts {
@@ -106,11 +113,17 @@ fn judged<P: Pass + Drop, T: Text>(
         pass.accept(alloc, Arc::new(alloc, fragment)?)?;
     }
     let rows = pass.report(alloc)?;
-    Ok(rows)
+    Ok(Part {
+        links,
+        fragments: texts.len() as u64,
+        rows,
+    })
 }
 
 /// The fragment that a text is. A hitch where it is none, or memory is refused.
-fn fragment_in(alloc: Global, text: &[u8]) -> Result<Fragment, Hitch> {
+fn fragment_in(alloc: Global, text: &[u8]) -> Result<Fragment, Hitch>
+    ensures { IfOk result (λ fragment. fragment_text fragment ≡ text.now) }
+{
     match parse_whole_fragment(alloc, text) {
         Ok(fragment) => Ok(fragment),
         Err(FragmentFault::Memory) => Err(Hitch::Memory),
@@ -118,35 +131,18 @@ fn fragment_in(alloc: Global, text: &[u8]) -> Result<Fragment, Hitch> {
     }
 }
 
-/// The rows of the report of the fragments of these links that texts are, in the order in which a pass takes them.
-fn rows_of<T: Text>(
-    alloc: Global,
-    topo: &Topo,
-    links: Links,
-    texts: &[T],
-) -> Result<Vec<Row>, Hitch>
-    ensures { IfOk result (λ rows. IsPartReport topo.now links.first links.next rows.items) }
-{
-    let own = Arc::new(alloc, topo.copy(alloc)?)?;
-    if let Some(pass) = LinkPass::new(alloc, Arc::try_clone(&own)?) {
-        return judged(alloc, topo, links, texts, pass);
-    }
-    let pass = ManagerPass::new(alloc, own)?;
-    judged(alloc, topo, links, texts, pass)
-}
-
 impl Part {
     /// The report of the fragments of these links that texts are, in the order in which a pass takes them. A hitch where memory is refused,
     /// where a text is no fragment of these links, and where the pass has one.
     pub fn of<T: Text>(alloc: Global, topo: &Topo, links: Links, texts: &[T]) -> Result<Part, Hitch>
-        ensures { IfOk result (λ part. IsPartReport topo.now part.links.first part.links.next part.rows.items) }
+        ensures { IfOk result (λ part. IsPartOf topo.now (map T.contents texts.now) part) }
     {
-        let rows = rows_of(alloc, topo, links, texts)?;
-        Ok(Part {
-            links,
-            fragments: texts.len() as u64,
-            rows,
-        })
+        let own = Arc::new(alloc, topo.copy(alloc)?)?;
+        if let Some(pass) = LinkPass::new(alloc, Arc::try_clone(&own)?) {
+            return judged(alloc, topo, links, texts, pass);
+        }
+        let pass = ManagerPass::new(alloc, own)?;
+        judged(alloc, topo, links, texts, pass)
     }
 }
 
@@ -161,7 +157,7 @@ pub struct Whole {
 impl Whole {
     /// No part came.
     pub fn new(alloc: Global) -> Whole
-        ensures { (topo : Topology) → IsFoundBelow topo result.next result.rows.items }
+        ensures { (topo : Topology) → IsWhole topo [] result }
     {
         Whole {
             next: 0,
@@ -170,36 +166,45 @@ impl Whole {
         }
     }
 
-    /// Adds the next part. A hitch where its links come before those of another, or can't be judged apart from those below.
-    pub fn add(&mut self, topo: &Topo, part: Part) -> Result<(), Hitch>
-        requires { IsPartReport topo.now part.links.first part.links.next part.rows.items }
-        ensures { IsFoundBelow topo.now self.old.next self.old.rows.items → OnOk result (IsFoundBelow topo.now self.new.next self.new.rows.items) }
+    /// Adds parts one after the other. A hitch where one of them is, or can't be added.
+    pub fn add_all(&mut self, topo: &Topo, parts: &[Result<Part, Hitch>]) -> Result<(), Hitch>
+        ensures { (fs : List Frag) (each : List (List Frag)) → IsWhole topo.now fs self.old → AreParts topo.now each parts.now
+            → OnOk result (IsWhole topo.now (fs ++ flat_map (λ gs. gs) each) self.new) }
     {
-        let Part {
-            links,
-            fragments,
-            rows,
-        } = part;
-        if links.first < self.next || links.next < links.first || !can_part(topo, links.first) {
-            return Err(Hitch::Fault);
+        for part in parts {
+            match part {
+                Ok(part) => self.add(topo, part)?,
+                Err(hitch) => return Err(*hitch),
+            }
         }
-        self.rows.extend_from_slice(&rows)?;
-        self.next = links.next;
-        self.fragments = self.fragments.saturating_add(fragments);
         Ok(())
     }
 
-    /// How many fragments came.
-    pub fn fragments(&self) -> u64
-        ensures { result ≡ self.now.fragments }
+    /// Adds the next part. A hitch where memory is refused, and where its links come before those of another or can't be judged apart from
+    /// those below.
+    fn add(&mut self, topo: &Topo, part: &Part) -> Result<(), Hitch>
+        ensures { (fs gs : List Frag) → IsWhole topo.now fs self.old → IsPart topo.now gs part.now → OnOk result (IsWhole topo.now (fs ++ gs) self.new) }
     {
-        self.fragments
+        let links = part.links;
+        if links.first < self.next || links.next < links.first || !can_part(topo, links.first) {
+            return Err(Hitch::Fault);
+        }
+        let Some(count) = self.fragments.checked_add(part.fragments) else {
+            return Err(Hitch::Memory);
+        };
+        self.rows.extend_from_slice(&part.rows)?;
+        self.next = links.next;
+        self.fragments = count;
+        Ok(())
     }
 
     /// The report of the fragments that came.
-    pub fn report(self) -> Vec<Row>
-        ensures { (topo : Topology) → IsFoundBelow topo self.next self.rows.items → (fs : List Recorded) × AreReportOf topo fs result.items }
+    pub fn report(self) -> Taken
+        ensures { (topo : Topology) (fs : List Frag) → IsWhole topo fs self → IsTaken topo fs result }
     {
-        sort_rows(self.rows)
+        Taken {
+            fragments: self.fragments,
+            rows: sort_rows(self.rows),
+        }
     }
 }

@@ -1,8 +1,8 @@
 //! Fragments that a pass takes one after another, from wherever they come.
 
-ghost use Rattle.std.specs.Prelude.{List, [], IfOk};
-ghost use Rattle.tl_definitions.specs.Positions.{Recorded};
-ghost use Rattle.tl_pass.specs.Reports.{AreReportOf};
+ghost use Rattle.std.specs.Prelude.{◌≡◌, ◌≤◌, ◌+◌, List, [], length, IfOk};
+ghost use Rattle.tl_beats.specs.Fragments.{Frag};
+ghost use Rattle.tl_pass.specs.Reports.{standing, with_next, IsTaken};
 
 use crate::link_pass::LinkPass;
 use crate::manager_pass::ManagerPass;
@@ -14,8 +14,12 @@ use tl_topology::Topo;
 
 /// Where fragments come from.
 pub trait Supply {
+    /// From what it was first to what it is now, it gave these fragments.
+    ghost has_given: { Self → Self → List Frag → Type 0 };
+
     /// The next fragment; None where the next one is passed over.
-    fn next(&mut self, alloc: Global) -> Result<Option<Arc<Fragment>>, Hitch>;
+    fn next(&mut self, alloc: Global) -> Result<Option<Arc<Fragment>>, Hitch>
+        ensures { IfOk result (λ next. (first : Self) (before : List Frag) → has_given first self.old before → has_given first self.new (with_next before next)) };
 }
 
 /// The report of so many fragments.
@@ -27,6 +31,28 @@ pub struct Taken {
     pub rows: Vec<Row>,
 }
 
+/// Has a pass take the next fragment, where it isn't passed over, and answers how many that are.
+fn take_next<P: Pass>(
+    alloc: Global,
+    topo: &Topo,
+    pass: &mut P,
+    next: Option<Arc<Fragment>>,
+) -> Result<u64, Hitch>
+    ensures few { IfOk result (λ count. count ≤ 1) }
+    ensures came { (fs : List Frag) → P.has_come topo.now (standing topo.now fs) pass.old → IfOk result (λ count.
+        (length (with_next fs next) ≡ length fs + count) × P.has_come topo.now (standing topo.now (with_next fs next)) pass.new) }
+{
+    // Only the contract speaks of it.
+    let _ = topo;
+    match next {
+        Some(fragment) => {
+            pass.accept(alloc, fragment)?;
+            Ok(1)
+        }
+        None => Ok(0),
+    }
+}
+
 /// The report of the fragments that a pass takes of the next so many.
 fn all_taken<P: Pass + Drop, S: Supply>(
     alloc: Global,
@@ -35,18 +61,15 @@ fn all_taken<P: Pass + Drop, S: Supply>(
     pass: P,
     supply: &mut S,
 ) -> Result<Taken, Hitch>
-    requires { P.has_come topo.now [] pass }
-    ensures { IfOk result (λ taken. (fs : List Recorded) × AreReportOf topo.now fs taken.rows.items) }
+    requires pass { P.has_come topo.now [] pass }
+    requires supply { S.has_given supply.old supply.old [] }
+    ensures { IfOk result (λ taken. (fs : List Frag) × S.has_given supply.old supply.new fs × IsTaken topo.now fs taken) }
 {
-    // Only the contract speaks of it.
-    let _ = topo;
     let mut pass = pass;
     let mut fragments = 0u64;
     for _ in 0..count {
-        if let Some(fragment) = supply.next(alloc)? {
-            pass.accept(alloc, fragment)?;
-            fragments = fragments.saturating_add(1);
-        }
+        let next = supply.next(alloc)?;
+        fragments += take_next(alloc, topo, &mut pass, next)?;
     }
     let rows = pass.report(alloc)?;
     Ok(Taken { fragments, rows })
@@ -60,7 +83,8 @@ pub fn report_of<S: Supply>(
     count: usize,
     supply: &mut S,
 ) -> Result<Taken, Hitch>
-    ensures { IfOk result (λ taken. (fs : List Recorded) × AreReportOf topo.now fs taken.rows.items) }
+    requires { S.has_given supply.old supply.old [] }
+    ensures { IfOk result (λ taken. (fs : List Frag) × S.has_given supply.old supply.new fs × IsTaken topo.now fs taken) }
 {
     let own = Arc::new(alloc, topo.copy(alloc)?)?;
     if let Some(pass) = LinkPass::new(alloc, Arc::try_clone(&own)?) {

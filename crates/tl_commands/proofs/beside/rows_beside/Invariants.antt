@@ -1,5 +1,7 @@
-use Rattle.tl_pass.specs.Parts.{IsFoundBelow}
+use Rattle.std.proofs.Common.{List}
+use Rattle.tl_beats.specs.Fragments.{Frag}
+use Rattle.tl_pass.specs.Parts.{IsWhole}
 use Rattle.tl_commands.proofs.beside.rows_beside.Given as goal
 
 abbrev pub invariant-loop-round : goal.invariant-loop-round
-invariant-loop-round g l = IsFoundBelow l.sieve.topo.now l.whole.next l.whole.rows.items
+invariant-loop-round g l = (fs : List Frag) × IsWhole l.sieve.topo.now fs l.whole

@@ -1,6 +1,7 @@
-use Rattle.std.proofs.Common.{List}
-use Rattle.tl_definitions.specs.Positions.{Recorded}
+use Rattle.std.proofs.Common.{◌≡◌, ◌≤◌, List, length}
+use Rattle.tl_beats.specs.Fragments.{Frag}
+use Rattle.tl_pass.specs.Reports.{standing}
 use Rattle.tl_pass.proofs.supply.all_taken.Given as goal
 
 abbrev pub invariant-loop : goal.invariant-loop
-invariant-loop g l = (fs : List Recorded) × g.P.Pass.has_come l.topo fs l.pass
+invariant-loop g l = (fs : List Frag) × g.S.Supply.has_given l.fn.supply l.supply fs × (l.fragments ≡ length fs) × (length fs ≤ l.counter) × g.P.Pass.has_come l.topo (standing l.topo fs) l.pass

@@ -1,7 +1,7 @@
-use Rattle.std.proofs.Common.{[], sym, subst}
+use Rattle.std.proofs.Common.{[], refl, sym, subst}
 use Rattle.tl_pass.specs.Parts.{HasJudged}
 use Rattle.tl_pass.proofs.JoinLaws.{none_judged}
 use Rattle.tl_pass.proofs.part.Whole.new.Goals as goal
 
 pub returns : goal.returns
-returns c topo = ([], subst (λ rs. HasJudged topo 0 [] rs) (sym c.new.ensures.items) (none_judged topo 0))
+returns c topo = record { count = refl; judged = subst (λ rs. HasJudged topo 0 [] rs) (sym c.new.ensures.items) (none_judged topo 0) }

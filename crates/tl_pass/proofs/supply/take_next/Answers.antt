@@ -1,0 +1,18 @@
+use Rattle.std.proofs.Common.{[], ◌∷◌, length, sym, ap, subst, ◌∙◌}
+use Rattle.std.specs.Arc.{arc_value}
+use Rattle.std.proofs.lemmas.List.{length-append}
+use Rattle.tl_topology.specs.Topology.{Topology}
+use Rattle.tl_beats.specs.Fragments.{Frag}
+use Rattle.tl_pass.specs.Reports.{standing, with_next}
+use Rattle.tl_pass.proofs.StandingLaws.{one_added}
+use Rattle.tl_pass.proofs.supply.take_next.Goals as goal
+
+pub returns-in_ok-accept-in-Some-clause-came : goal.returns-in_ok-accept-in-Some-clause-came
+returns-in_ok-accept-in-Some-clause-came g c fs had =
+    let topo : Topology = c.args.topo.now in
+    let f : Frag = arc_value c.in-Some.fragment in
+    let came = c.in_ok-accept-in-Some.ensures topo (standing topo fs) had in (
+      ap (λ next. length (with_next fs next)) c.in-Some.is ∙ length-append fs (f ∷ []),
+      subst (λ next. g.P.Pass.has_come topo (standing topo (with_next fs next)) c.accept.new.self) (sym c.in-Some.is)
+          (subst (λ hs. g.P.Pass.has_come topo hs c.accept.new.self) (sym (one_added topo fs f came.0 came.1)) came.2),
+    )

@@ -1,0 +1,14 @@
+pub mod ApartLaws
+pub mod BeatLaws
+pub mod CaptureLaws
+pub mod EventLaws
+pub mod FirstLaws
+pub mod FoundLaws
+pub mod FragmentLaws
+pub mod FrontLaws
+pub mod GoesLaws
+pub mod HolderLaws
+pub mod JudgeLaws
+pub mod ListLaws
+pub mod OpeningLaws
+pub mod ToldLaws

@@ -1,0 +1,9 @@
+pub mod Apart
+pub mod Events
+pub mod FeedData
+pub mod Feeds
+pub mod Grants
+pub mod Holder
+pub mod Holders
+pub mod LinkJudge
+pub mod Told

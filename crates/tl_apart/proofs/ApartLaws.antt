@@ -1,11 +1,12 @@
 -- One fragment more of links that are judged apart, and one event more of their managers.
-use Rattle.std.proofs.Common.{◌≡◌, ℕ, ◌<◌, ◌≤◌, inl, inr, ◌==◌, ◌&&◌, Bool, true, false, cond, List, [], ◌∷◌, ◌++◌, Option, Some, None, length, refl, sym, ap, subst, ◌∙◌, arith}
+use Rattle.std.proofs.Common.{◌≡◌, ℕ, ◌<◌, ◌≤◌, inl, inr, ◌==◌, true, false, cond, List, [], ◌∷◌, ◌++◌, Option, Some, None, length, refl, sym, ap, subst, ◌∙◌, arith}
 use Rattle.std.specs.Prelude.{map, slice_get, nat_lt}
 use Rattle.std.specs.Arc.{arc_value}
 use Rattle.std.specs.List.{Contains}
 use Rattle.std.specs.Option.{option_map_or}
 use Rattle.std.specs.declared.cmp.Ordering.TheVariants.{Less}
 use Rattle.std.proofs.lemmas.Bool.Decides.{nat_tests}
+use Rattle.std.proofs.lemmas.Option.{same_Some}
 use Rattle.tl_topology.specs.Topology.{Topology}
 use Rattle.tl_beats.specs.Fragments.{Frag}
 use Rattle.tl_definitions.specs.Breaks.{row_of}
@@ -21,6 +22,7 @@ use Rattle.tl_capture.specs.Present.{recorded, put_in, is_of, shares, IsCapture,
 use Rattle.tl_capture.proofs.NumberLemmas.{present_put}
 use Rattle.tl_capture.proofs.PutLemmas.{put_from}
 use Rattle.tl_capture.proofs.TouchLemmas.{put_has, put_here}
+use Rattle.tl_capture.proofs.WalkLemmas.{both}
 use Rattle.tl_check.specs.Apart.{opening}
 use Rattle.tl_apart.specs.Apart.{manager_of, with_one, IsNewest, HasLeft, Knows, IsApart, HasApart}
 use Rattle.tl_apart.specs.Feeds.{waiting, waiting_of, comes_after, newest_with, IsFirst}
@@ -35,17 +37,8 @@ use Rattle.tl_apart.proofs.BeatLaws.{elsewhere, at_end}
 use Rattle.tl_apart.proofs.CaptureLaws.{manager_is}
 use Rattle.tl_apart.proofs.EventLaws.{left_by_more}
 use Rattle.tl_apart.proofs.FoundLaws.{fragment_more, event_more}
+use Rattle.tl_apart.proofs.NumberLaws.{same_or_not}
 use Rattle.tl_apart.proofs.ToldLaws.{told_alike, told_beside, told_more, told_next, passed_more}
-
-one_of : (n k : ℕ) (P : Type 0) → (n ≡ k → P) → ((n ≡ k → ⊥) → P) → P
-one_of n k P same other = elim (n == k) as (λ b. (n == k) ≡ b → P) [
-  | true ↦ λ e. same (grind (arith, nat_tests))
-  | false ↦ λ e. other (λ is. (let yes : (n == k) ≡ true = ap (λ x. x == k) is ∙ itself k in cc))
-] refl
-
-both : (a b : Bool) → (a && b) ≡ true → (a ≡ true) × (b ≡ true)
-both true b h = (refl, h)
-both false b h = absurd (cc)
 
 -- ---- a fragment that comes after all of its link
 
@@ -69,9 +62,9 @@ module _ (fs : List Recorded) (link : ℕ) (f : Frag) (own : IsCapture (recorded
 
   pub there : IsPresent fs → IsPresent (put_in (recorded link f) fs)
   there is = present_put (recorded link f) fs own is
-      (all_by (λ g. is_of link f.number g ≡ false) fs (λ g h. one_of g.link link (is_of link f.number g ≡ false)
+      (all_by (λ g. is_of link f.number g ≡ false) fs (λ g h. same_or_not g.link link (is_of link f.number g ≡ false)
       (λ same. let less : g.number < f.number = (lower g h same).0 in grind (arith, nat_tests)) (λ other. grind (arith, nat_tests))))
-      (all_by (λ g. shares link f.first f.last g ≡ false) fs (λ g h. one_of g.link link (shares link f.first f.last g ≡ false)
+      (all_by (λ g. shares link f.first f.last g ≡ false) fs (λ g h. same_or_not g.link link (shares link f.first f.last g ≡ false)
       (λ same. let less : g.last < f.first = (lower g h same).1 in grind (arith, nat_tests)) (λ other. grind (arith, nat_tests))))
 
   pub newest_now : IsNewest (put_in (recorded link f) fs) link (Some (newest_with f))
@@ -130,8 +123,8 @@ module _ (topo : Topology) (fs : List Recorded) (judged : ℕ → List Event) (o
       left_beside n other = ap (left_after (link_judging (bare topo (manager_of topo n))) (opening (bare topo (manager_of topo n)).exponent)) (elsewhere fs r is.present present n (λ same. other (sym same)))
 
       feeds_more : (n : ℕ) (one : FeedData) → slice_get new.feeds.items n ≡ Some one → HasLeft topo (put_in r fs) n one
-      feeds_more n one at = one_of n link (HasLeft topo (put_in r fs) n one)
-          (λ here. let this : next ≡ one = some_one next one (sym now ∙ ap (slice_get new.feeds.items) (sym here) ∙ at) in
+      feeds_more n one at = same_or_not n link (HasLeft topo (put_in r fs) n one)
+          (λ here. let this : next ≡ one = same_Some next one (sym now ∙ ap (slice_get new.feeds.items) (sym here) ∙ at) in
           subst (HasLeft topo (put_in r fs) n) this (subst (λ m. HasLeft topo (put_in r fs) m next) (sym here) (record {
             shows = subst (λ j. Shows (bare topo j).exponent next.judge (left_on topo (put_in r fs) j link)) (sym of) (subst (Shows (bare topo k).exponent next.judge) (sym left_there) shows);
             newest = subst (IsNewest (put_in r fs) link) (sym newest) (newest_now fs link f own feed.newest known late);
@@ -140,12 +133,9 @@ module _ (topo : Topology) (fs : List Recorded) (judged : ℕ → List Event) (o
             shows = subst (Shows (bare topo (manager_of topo n)).exponent one.judge) (sym (left_beside n other)) had.shows;
             newest = newest_beside fs link f own feed.newest known late n one.newest other had.newest;
           })
-        where
-          some_one : (x y : FeedData) → Some x ≡ Some y → x ≡ y
-          some_one x y e = cc
 
       told_there : (j : ℕ) → j < length topo.managers → IsTold topo (put_in r fs) j (waiting_of new.feeds.items) (judged j)
-      told_there j low = one_of j k (IsTold topo (put_in r fs) j (waiting_of new.feeds.items) (judged j))
+      told_there j low = same_or_not j k (IsTold topo (put_in r fs) j (waiting_of new.feeds.items) (judged j))
           (λ here. subst (λ i. IsTold topo (put_in r fs) i (waiting_of new.feeds.items) (judged i)) (sym here)
           (told_more topo fs k (waiting_of old.feeds.items) (waiting_of new.feeds.items) (judged k) is.present (is.told k below) r present after (passed k below) has
           (waiting_at new.feeds.items link next now ∙ waits ∙ ap (λ es. es ++ link_events (bare topo k) (left_on topo fs k link) (placed_beats r)) (sym (waiting_at old.feeds.items link feed was)))
@@ -206,7 +196,7 @@ module _ (topo : Topology) (fs : List Recorded) (judged : ℕ → List Event) (o
       knew_it = is.listeners k listener knew
 
       told_after : (j : ℕ) → j < length topo.managers → IsTold topo fs j (waiting_of new.feeds.items) (later j)
-      told_after j low = one_of j k (IsTold topo fs j (waiting_of new.feeds.items) (later j))
+      told_after j low = same_or_not j k (IsTold topo fs j (waiting_of new.feeds.items) (later j))
           (λ same. subst (λ i. IsTold topo fs i (waiting_of new.feeds.items) (later i)) (sym same) (subst (IsTold topo fs k (waiting_of new.feeds.items)) (sym here)
           (told_next topo fs k (waiting_of old.feeds.items) (waiting_of new.feeds.items) (judged k) is.present (is.told k below) link e (waiting next) has_it
           (waiting_at old.feeds.items link feed was ∙ taken) (waiting_at new.feeds.items link next now) (λ n other. ap (λ o. option_map_or waiting o []) (others n other))
@@ -216,30 +206,24 @@ module _ (topo : Topology) (fs : List Recorded) (judged : ℕ → List Event) (o
           (λ n own_n. ap (λ o. option_map_or waiting o []) (others n (λ same. other (sym (manager_is topo j n own_n) ∙ ap (manager_of topo) same ∙ manager_is topo k link has_it))))))
 
       knows_after : (j : ℕ) (one : Listener) → slice_get new.listeners.items j ≡ Some one → Knows topo j (later j) one
-      knows_after j one at = one_of j k (Knows topo j (later j) one)
-          (λ same. let this : heard ≡ one = some_one heard one (sym knows ∙ ap (slice_get new.listeners.items) (sym same) ∙ at) in
+      knows_after j one at = same_or_not j k (Knows topo j (later j) one)
+          (λ same. let this : heard ≡ one = same_Some heard one (sym knows ∙ ap (slice_get new.listeners.items) (sym same) ∙ at) in
           subst (Knows topo j (later j)) this (subst (λ i. Knows topo i (later i) heard) (sym same) (record {
             numbers = ap (λ v. v.items) numbers ∙ knew_it.numbers;
             own = own ∙ knew_it.own;
             shows = subst (holders.Shows heard.holders) (sym (ap (left_by_events (all_shown (snapshot (bare topo k) []))) here ∙ left_by_more (all_shown (snapshot (bare topo k) [])) (judged k) e)) shows;
           })))
           (λ other. subst (λ es. Knows topo j es one) (sym (elsewhere_same j other)) (is.listeners j one (sym (rest j other) ∙ at)))
-        where
-          some_one : (x y : Listener) → Some x ≡ Some y → x ≡ y
-          some_one x y e = cc
 
       feeds_after : (n : ℕ) (one : FeedData) → slice_get new.feeds.items n ≡ Some one → HasLeft topo fs n one
-      feeds_after n one at = one_of n link (HasLeft topo fs n one)
-          (λ same. let this : next ≡ one = some_one next one (sym now ∙ ap (slice_get new.feeds.items) (sym same) ∙ at) in
+      feeds_after n one at = same_or_not n link (HasLeft topo fs n one)
+          (λ same. let this : next ≡ one = same_Some next one (sym now ∙ ap (slice_get new.feeds.items) (sym same) ∙ at) in
           let had = is.feeds link feed was in
           subst (HasLeft topo fs n) this (subst (λ m. HasLeft topo fs m next) (sym same) (record {
             shows = subst (λ j. Shows (bare topo (manager_of topo link)).exponent j (left_on topo fs (manager_of topo link) link)) (sym judge) had.shows;
             newest = subst (IsNewest fs link) (sym newest) had.newest;
           })))
           (λ other. is.feeds n one (sym (others n other) ∙ at))
-        where
-          some_one : (x y : FeedData) → Some x ≡ Some y → x ≡ y
-          some_one x y e = cc
 
       pub one_event : IsApart topo fs later new
       one_event = record {

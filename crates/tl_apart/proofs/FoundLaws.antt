@@ -33,6 +33,7 @@ use Rattle.tl_apart.specs.Told.{IsAfter, bare, clients, left_on, rows_of_events,
 use Rattle.tl_apart.proofs.BeatLaws.{within, elsewhere, at_end}
 use Rattle.tl_apart.proofs.CaptureLaws.{capture_from, capture_there, manager_is, row_from}
 use Rattle.tl_apart.proofs.EventLaws.{event_rows_more}
+use Rattle.tl_apart.proofs.NumberLaws.{same_or_not}
 
 -- ---- one manager
 
@@ -172,12 +173,6 @@ module _ (topo : Topology) (fs : List Recorded) (is : IsPresent fs) (judged : �
     one_more_event : rows_of_events topo k (after k) ≡ rows_of_events topo k (judged k) ++ more
     one_more_event = ap (rows_of_events topo k) here ∙ event_rows_more (clients topo k) (all_shown (snapshot (bare topo k) [])) (judged k) e ∙ ap (λ rs. rows_of_events topo k (judged k) ++ rs) (sym put)
 
-    either_manager : (j : ℕ) (P : Type 0) → (j ≡ k → P) → ((j ≡ k → ⊥) → P) → P
-    either_manager j P same other = elim (j == k) as (λ b. (j == k) ≡ b → P) [
-      | true ↦ λ is. same (grind (arith, nat_tests))
-      | false ↦ λ is. other (λ one. (let yes : (j == k) ≡ true = ap (λ l. l == k) one ∙ itself k in cc))
-    ] refl
-
     pub event_more : AreFoundApart topo fs after (rows ++ more)
     event_more row = (
       (λ h. elim (Contains-append_cases rows more row h) [
@@ -186,7 +181,7 @@ module _ (topo : Topology) (fs : List Recorded) (is : IsPresent fs) (judged : �
           | inr event ↦ inr (
             event.0,
             event.1,
-            either_manager event.0 (Contains (rows_of_events topo event.0 (after event.0)) row)
+            same_or_not event.0 k (Contains (rows_of_events topo event.0 (after event.0)) row)
                 (λ same. subst (λ j. Contains (rows_of_events topo j (after j)) row) (sym same) (subst (λ rs. Contains rs row) (sym one_more_event)
                 (Contains-append_left (rows_of_events topo k (judged k)) more row (subst (λ j. Contains (rows_of_events topo j (judged j)) row) same event.2))))
                 (λ other. subst (λ es. Contains (rows_of_events topo event.0 es) row) (sym (others event.0 other)) event.2),
@@ -196,7 +191,7 @@ module _ (topo : Topology) (fs : List Recorded) (is : IsPresent fs) (judged : �
       ]),
       (λ either. elim either [
         | inl link ↦ Contains-append_left rows more row ((found row).1 (inl link))
-        | inr event ↦ either_manager event.0 (Contains (rows ++ more) row)
+        | inr event ↦ same_or_not event.0 k (Contains (rows ++ more) row)
             (λ same. elim (Contains-append_cases (rows_of_events topo k (judged k)) more row (subst (λ rs. Contains rs row) one_more_event (subst (λ j. Contains (rows_of_events topo j (after j)) row) same event.2))) [
               | inl old ↦ Contains-append_left rows more row ((found row).1 (inr (k, below, old)))
               | inr fresh ↦ Contains-append_right rows more row fresh

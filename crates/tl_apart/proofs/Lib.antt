@@ -10,5 +10,6 @@ pub mod GoesLaws
 pub mod HolderLaws
 pub mod JudgeLaws
 pub mod ListLaws
+pub mod NumberLaws
 pub mod OpeningLaws
 pub mod ToldLaws

@@ -3,7 +3,6 @@ use Rattle.std.proofs.Common.{◌≡◌, ℕ, ◌<◌, ◌≤◌, ◌⊎◌, inl
 use Rattle.std.specs.List.{Contains}
 use Rattle.std.specs.List.Sorted.{IsStrictlySortedBy}
 use Rattle.std.specs.declared.cmp.Ordering.TheVariants.{Less}
-use Rattle.std.proofs.lemmas.Bool.Decides.{nat_tests}
 use Rattle.std.proofs.lemmas.List.Elements.{Contains-append_right, Contains-append_cases, filter-append}
 use Rattle.tl_topology.specs.Topology.{Topology}
 use Rattle.tl_beats.specs.declared.Placed.{Placed}
@@ -28,6 +27,7 @@ use Rattle.tl_check.proofs.CaptureLaws.{link_of_beat, linked_in}
 use Rattle.tl_apart.specs.Told.{IsAfter, bare, clients, left_on, told_on, on, HasPassed, IsTold, ArePassed}
 use Rattle.tl_apart.proofs.BeatLaws.{within, elsewhere, at_end}
 use Rattle.tl_apart.proofs.EventLaws.{event_total, of_beats, rise}
+use Rattle.tl_apart.proofs.NumberLaws.{same_or_not}
 use Rattle.tl_apart.proofs.FragmentLaws.{events_append}
 
 -- ---- lists in strict order
@@ -91,19 +91,13 @@ module _ (topo : Topology) (fs : List Recorded) (k : ℕ) (waiting after : ℕ �
     at : d.place.link ≡ link
     at = of_link link d has d_waits
 
-    or_not : (n : ℕ) (P : Type 0) → (n ≡ link → P) → ((n ≡ link → ⊥) → P) → P
-    or_not n P own other = elim (n == link) as (λ b. (n == link) ≡ b → P) [
-      | true ↦ λ e. own (grind (arith, nat_tests))
-      | false ↦ λ e. other (λ is. (let same : (n == link) ≡ true = ap (λ x. x == link) is ∙ itself link in cc))
-    ] refl
-
     still_waits : (n : ℕ) (e : Event) → Contains (after n) e → Contains (waiting n) e
-    still_waits n e h = or_not n (Contains (waiting n) e)
+    still_waits n e h = same_or_not n link (Contains (waiting n) e)
         (λ is. subst (λ i. Contains (waiting i) e) (sym is) (subst (λ es. Contains es e) (sym first) (contains_there d rest e (subst (λ es. Contains es e) here (subst (λ i. Contains (after i) e) is h)))))
         (λ other. subst (λ es. Contains es e) (there n other) h)
 
     above : (n : ℕ) (e : Event) → Contains (clients topo k) n → Contains (after n) e → event_order d e ≡ Less
-    above n e own h = or_not n (event_order d e ≡ Less)
+    above n e own h = same_or_not n link (event_order d e ≡ Less)
         (λ is. first_less d rest e (subst (IsStrictlySortedBy event_order) first (waits_in_order link has)) (subst (λ es. Contains es e) here (subst (λ i. Contains (after i) e) is h)))
         (λ other. further other (waiting n) refl (subst (λ es. Contains es e) (there n other) h))
       where
@@ -115,7 +109,7 @@ module _ (topo : Topology) (fs : List Recorded) (k : ℕ) (waiting after : ℕ �
         ]
 
     each_next : (n : ℕ) → Contains (clients topo k) n → on n (judged ++ d ∷ []) ++ after n ≡ told_on topo fs k n
-    each_next n own = or_not n (on n (judged ++ d ∷ []) ++ after n ≡ told_on topo fs k n)
+    each_next n own = same_or_not n link (on n (judged ++ d ∷ []) ++ after n ≡ told_on topo fs k n)
         (λ is. let kept : on n (d ∷ []) ≡ d ∷ [] = ap (λ b. cond b (d ∷ []) []) (ap (λ x. d.place.link == x) (is ∙ sym at) ∙ itself d.place.link) in
         ap (λ es. es ++ after n) (filter-append (λ e. e.place.link == n) judged (d ∷ []) ∙ ap (λ es. on n judged ++ es) kept)
         ∙ append_assoc (on n judged) (d ∷ []) (after n) ∙ ap (λ es. on n judged ++ d ∷ es) (ap after is ∙ here)
@@ -187,12 +181,6 @@ module _ (topo : Topology) (fs : List Recorded) (k : ℕ) (waiting after : ℕ �
       all_told = ap (link_events (bare topo k) (opening (bare topo k).exponent)) (at_end fs f is there newer)
           ∙ events_append (bare topo k) (opening (bare topo k).exponent) (beats_of f.link fs) (placed_beats f)
 
-      split : (n : ℕ) (P : Type 0) → (n ≡ f.link → P) → ((n ≡ f.link → ⊥) → P) → P
-      split n P own other = elim (n == f.link) as (λ b. (n == f.link) ≡ b → P) [
-        | true ↦ λ e. own (grind (arith, nat_tests))
-        | false ↦ λ e. other (λ is. (let same : (n == f.link) ≡ true = ap (λ x. x == f.link) is ∙ itself f.link in cc))
-      ] refl
-
       -- A link without caches tells nothing.
       quiet : has_caches topo f.link ≡ false → new_told ≡ []
       quiet plain =
@@ -212,7 +200,7 @@ module _ (topo : Topology) (fs : List Recorded) (k : ℕ) (waiting after : ℕ �
       ] refl
 
       waits : (n : ℕ) (d : Event) → Contains (clients topo k) n → Contains (after n) d → Contains (waiting n) d ⊎ Contains new_told d
-      waits n d own h = split n (Contains (waiting n) d ⊎ Contains new_told d)
+      waits n d own h = same_or_not n f.link (Contains (waiting n) d ⊎ Contains new_told d)
           (λ same. Contains-append_cases (waiting n) new_told d (subst (λ es. Contains es d) (ap after same ∙ here ∙ ap (λ i. waiting i ++ new_told) (sym same)) h))
           (λ other. inl (subst (λ es. Contains es d) (others n own other) h))
 
@@ -220,7 +208,7 @@ module _ (topo : Topology) (fs : List Recorded) (k : ℕ) (waiting after : ℕ �
       told_more = record {
         rises = had.rises;
         own = had.own;
-        each = λ n own. split n (on n judged ++ after n ≡ told_on topo with_it k n)
+        each = λ n own. same_or_not n f.link (on n judged ++ after n ≡ told_on topo with_it k n)
             (λ same. ap (λ es. on n judged ++ es) (ap after same ∙ here ∙ ap (λ i. waiting i ++ new_told) (sym same)) ∙ sym (append_assoc (on n judged) (waiting n) new_told)
             ∙ ap (λ es. es ++ new_told) (had.each n own) ∙ ap (λ i. told_on topo fs k i ++ new_told) same ∙ sym all_told ∙ ap (told_on topo with_it k) (sym same))
             (λ other. ap (λ es. on n judged ++ es) (others n own other) ∙ had.each n own

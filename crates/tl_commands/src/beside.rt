@@ -1,17 +1,15 @@
 //! Files whose parts are judged by several threads.
 
-ghost use Rattle.std.specs.Prelude.{◌≡◌, ◌<◌, List, IfOk};
+ghost use Rattle.std.specs.Prelude.{◌<◌, List, IfOk};
 ghost use Rattle.tl_beats.specs.Fragments.{Frag};
-ghost use Rattle.tl_pass.specs.Parts.{IsPartOf};
+ghost use Rattle.tl_pass.specs.Parts.{IsPart};
 ghost use Rattle.tl_pass.specs.Reports.{IsTaken};
-ghost use Rattle.tl_commands.specs.Beside.{run_of, texts_of, AreJudged};
+ghost use Rattle.tl_commands.specs.Beside.{AreJudged};
 
-use crate::fault::Fault;
-use crate::files::{fill_page, is_passed};
+use crate::files::bytes_of;
 use crate::heads::{Head, Queue};
-use crate::page::Page;
-use crate::progress::{FilesRead, Gauge};
-use crate::turns::hitch_of;
+use crate::progress::{FilesRead, Gauge, Untold};
+use crate::turns::FileSupply;
 use std::alloc::{AllocError, Global};
 use std::rt::Files;
 use std::thread::{Threads, map_indices};
@@ -19,8 +17,8 @@ use tl_pass::{Hitch, Links, Part, Taken, Whole, can_part};
 use tl_stream::Sieve;
 use tl_topology::Topo;
 
-/// How many groups of parts each thread takes, about: where one is long, the others go on with the rest.
-const ROUNDS: usize = 4;
+/// How many files each thread reads and judges between two times that it is told how many were read, about.
+const FILES_EACH: usize = 128;
 
 /// Fragments of links that are judged apart from all others, by their heads.
 #[derive(Clone, Copy)]
@@ -113,10 +111,9 @@ pub(crate) fn groups_of(
     heads: &[Head],
     workers: u8,
 ) -> Result<Vec<Group>, AllocError> {
-    let shares = usize::from(workers)
-        .saturating_add(1)
-        .saturating_mul(ROUNDS);
-    let most = part_count(heads).div_ceil(shares.max(1)).max(1);
+    let threads = usize::from(workers) + 1;
+    let rounds = heads.len().div_ceil(threads * FILES_EACH);
+    let most = part_count(heads).div_ceil((threads * rounds).max(1)).max(1);
     let groups = gathered(alloc, heads, most)?;
     if are_apart(topo, &groups) {
         Ok(groups)
@@ -125,127 +122,56 @@ pub(crate) fn groups_of(
     }
 }
 
-/// Pages for the texts of several files, whose room is used again.
-#[derive(Drop)]
-struct Pages {
-    all: Vec<Page>,
-    used: usize,
-}
-
-impl Pages {
-    /// None has a text.
-    fn new(alloc: Global) -> Pages {
-        Pages {
-            all: Vec::new(alloc),
-            used: 0,
-        }
-    }
-
-    /// So many from a place on; none where they aren't all there.
-    fn texts(&self, from: usize, count: usize) -> &[Page]
-        ensures { result.now ≡ run_of self.now.all.items from count }
-    {
-        match from.checked_add(count) {
-            Some(end) if end <= self.all.len() => &self.all[from..end],
-            _ => &[],
-        }
-    }
-
-    /// Reads a file into the next page. One of a fragment that is not checked leaves the page to the file after it.
-    fn read<R: Files + AllocGlobal, G: Gauge>(
-        &mut self,
-        rt: &R,
-        sieve: Sieve<'_>,
-        path: &str,
-        read: &mut FilesRead<'_, G>,
-    ) -> Result<(), Fault> {
-        if self.used >= self.all.len() {
-            self.all.push(Page::new(rt.alloc()))?;
-        }
-        let Some(page) = self.all.get_mut(self.used) else {
-            return Err(Fault::MEMORY);
-        };
-        fill_page(rt, path, page, read)?;
-        if !is_passed(rt.alloc(), sieve, page.text())? {
-            self.used = self.used.saturating_add(1);
-        }
-        Ok(())
-    }
-}
-
-/// Reads the files with these heads, and answers how many pages they take.
-fn read_all<R: Files + AllocGlobal, G: Gauge>(
+/// The report of the files of a group, which are read and judged one after the other.
+fn part_of<R: Files + AllocGlobal>(
     rt: &R,
     sieve: Sieve<'_>,
     queue: Queue<'_>,
-    heads: &[Head],
-    pages: &mut Pages,
-    read: &mut FilesRead<'_, G>,
-) -> Result<usize, Fault> {
-    let before = pages.used;
-    for head in heads {
-        pages.read(rt, sieve, queue.path_of(head)?, read)?;
-    }
-    Ok(pages.used.saturating_sub(before))
+    group: Group,
+) -> Result<Part, Hitch>
+    ensures { IfOk result (λ part. (fs : List Frag) × IsPart sieve.entry.topo.now fs part) }
+{
+    let mut gauge = Untold;
+    let mut read = FilesRead::none_of(group.count, &mut gauge);
+    let own = queue.only(group.heads(queue.heads));
+    let mut supply = FileSupply::new(rt, sieve, own, &mut read);
+    Part::of(rt.alloc(), sieve.topo, group.links, group.count, &mut supply)
 }
 
-/// A group whose texts stand on pages in a row.
-#[derive(Clone, Copy)]
-struct Load {
-    links: Links,
-    from: usize,
-    count: usize,
-}
-
-/// Reads the files of some groups.
-fn loads_of<R: Files + AllocGlobal, G: Gauge>(
+/// The reports of groups, each made by a thread of its own.
+fn parts_of<R: Files + Threads + Sync + AllocGlobal>(
     rt: &R,
     sieve: Sieve<'_>,
     queue: Queue<'_>,
     groups: &[Group],
-    pages: &mut Pages,
-    read: &mut FilesRead<'_, G>,
-) -> Result<Vec<Load>, Fault> {
-    let mut loads = Vec::new(rt.alloc());
-    pages.used = 0;
-    for group in groups {
-        let from = pages.used;
-        let count = read_all(rt, sieve, queue, group.heads(queue.heads), pages, read)?;
-        loads.push(Load {
-            links: group.links,
-            from,
-            count,
-        })?;
-    }
-    Ok(loads)
-}
-
-/// The report of a group.
-fn part_of(alloc: Global, topo: &Topo, load: Load, pages: &Pages) -> Result<Part, Hitch>
-    ensures { IfOk result (IsPartOf topo.now (texts_of pages.now load)) }
-{
-    Part::of(alloc, topo, load.links, pages.texts(load.from, load.count))
-}
-
-/// The reports of groups, each made by a thread of its own.
-fn parts_of_loads<R: Threads + Sync + AllocGlobal>(
-    rt: &R,
-    topo: &Topo,
-    loads: &[Load],
-    pages: &Pages,
 ) -> Result<Vec<Result<Part, Hitch>>, AllocError>
-    ensures { IfOk result (λ parts. AreJudged topo.now pages.now loads.now parts.items) }
+    ensures { IfOk result (λ parts. AreJudged sieve.entry.topo.now parts.items) }
 {
-    let alloc = rt.alloc();
     map_indices(
         rt,
-        alloc,
-        loads.len(),
-        &|place| part_of(alloc, topo, loads[place], pages),
+        rt.alloc(),
+        groups.len(),
+        &|place| part_of(rt, sieve, queue, groups[place]),
     )
 }
 
-/// The rows of the fragments of files, of which so many threads beside this one judge a group each; this one reads the files.
+/// Counts the files of groups.
+fn count<R: Files, G: Gauge>(
+    rt: &R,
+    queue: Queue<'_>,
+    groups: &[Group],
+    read: &mut FilesRead<'_, G>,
+) {
+    for group in groups {
+        for head in group.heads(queue.heads) {
+            if let Ok(path) = queue.path_of(head) {
+                read.count(bytes_of(rt, path));
+            }
+        }
+    }
+}
+
+/// The rows of the fragments of files, of which this thread and so many beside it read and judge a group each.
 pub(crate) fn rows_beside<R: Files + Threads + Sync + AllocGlobal, G: Gauge>(
     rt: &R,
     sieve: Sieve<'_>,
@@ -256,15 +182,11 @@ pub(crate) fn rows_beside<R: Files + Threads + Sync + AllocGlobal, G: Gauge>(
 ) -> Result<Taken, Hitch>
     ensures { IfOk result (λ taken. (fs : List Frag) × IsTaken sieve.entry.topo.now fs taken) }
 {
-    let mut pages = Pages::new(rt.alloc());
     let mut whole = Whole::new(rt.alloc());
     for round in groups.chunks(usize::from(workers) + 1) {
-        let loads = match loads_of(rt, sieve, queue, round, &mut pages, read) {
-            Ok(loads) => loads,
-            Err(fault) => return Err(hitch_of(fault)),
-        };
-        let parts = parts_of_loads(rt, sieve.topo, &loads, &pages)?;
+        let parts = parts_of(rt, sieve, queue, round)?;
         whole.add_all(sieve.topo, &parts)?;
+        count(rt, queue, round, read);
     }
     Ok(whole.report())
 }

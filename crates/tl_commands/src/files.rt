@@ -98,7 +98,7 @@ pub(crate) fn fill_page<R: Files + AllocGlobal, G: Gauge>(
     if let Err(fault) = page.fill(&mut CountedReader::new(file), Role::Fragment.most()) {
         return Err(FragmentFault::from(fault).into());
     }
-    read.count(page.text());
+    read.count(page.text().len() as u64);
     Ok(())
 }
 
@@ -153,7 +153,7 @@ fn next_round<R: Files + AllocGlobal, G: Gauge>(
         match fragment_text(rt, path.as_str()) {
             Ok(text) => {
                 held = held.saturating_add(text.len());
-                read.count(&text);
+                read.count(text.len() as u64);
                 texts.push(text)?;
             }
             Err(fault) => {
@@ -223,6 +223,14 @@ fn fragments_beside<R: Files + Threads + Sync + AllocGlobal, G: Gauge>(
         }
     }
     Ok(all)
+}
+
+/// How many bytes a file has; none where it can't be asked.
+pub(crate) fn bytes_of<R: Files>(rt: &R, path: &str) -> u64 {
+    match fs::metadata(rt, path) {
+        Ok(found) => found.len(),
+        Err(_) => 0,
+    }
 }
 
 /// Whether all of these are files of their own. What a pipe gives can't be had again, and may never come.

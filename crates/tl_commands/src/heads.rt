@@ -5,7 +5,7 @@ use std::alloc::{AllocError, Global};
 use std::fs;
 use std::rt::Files;
 use tl_beats::{Fragment, FragmentFault, parse_fragment};
-use tl_tables::Level;
+use tl_pass::has_no_caches;
 use tl_text::{ByteIn, CountedReader, line};
 use tl_topology::Topo;
 
@@ -15,28 +15,18 @@ const LINE_BYTES: usize = 256;
 /// What is judged apart.
 #[derive(Clone, Copy, Debug, PartialEq, Eq)]
 pub(crate) enum Parts {
-    /// All links of a manager, since they have caches.
+    /// All links of a manager, where some link has caches.
     Managers,
-    /// Each link by itself, since it has none.
+    /// Each link by itself, where none has caches.
     Links,
 }
 
-/// What is judged apart of a topology of which all links have caches, or none has.
-pub(crate) fn parts_of(topo: &Topo) -> Option<Parts> {
-    let mut cached: usize = 0;
-    for link in 0..topo.link_count() {
-        if let Some(decl) = topo.link(link as u16)
-            && decl.level == Level::C
-        {
-            cached = cached.saturating_add(1);
-        }
-    }
-    if cached == topo.link_count() {
-        Some(Parts::Managers)
-    } else if cached == 0 {
-        Some(Parts::Links)
+/// What is judged apart of a topology.
+fn parts_of(topo: &Topo) -> Parts {
+    if has_no_caches(topo) {
+        Parts::Links
     } else {
-        None
+        Parts::Managers
     }
 }
 
@@ -65,6 +55,14 @@ impl<'a> Queue<'a> {
     /// The files of which these are the heads.
     pub(crate) fn new(files: &'a [String], heads: &'a [Head]) -> Queue<'a> {
         Queue { files, heads }
+    }
+
+    /// Those of the files that have these heads.
+    pub(crate) fn only(self, heads: &'a [Head]) -> Queue<'a> {
+        Queue {
+            files: self.files,
+            heads,
+        }
     }
 
     /// The path of the file with the head at this place.
@@ -173,9 +171,9 @@ fn are_rising(alloc: Global, links: usize, heads: &[Head]) -> Result<bool, Alloc
 pub(crate) fn in_turn<R: Files + AllocGlobal>(
     rt: &R,
     topo: &Topo,
-    parts: Parts,
     files: &[String],
 ) -> Result<Option<Vec<Head>>, AllocError> {
+    let parts = parts_of(topo);
     let Some(mut heads) = heads_of(rt, topo, parts, files)? else {
         return Ok(None);
     };

@@ -1,10 +1,8 @@
 //! Room for the text of one file after another.
 
-ghost use Rattle.std.specs.Prelude.{◌≡◌, ◌≤◌, ◌<◌, ◌^◌};
-ghost use Rattle.tl_commands.specs.Beside.{text_of};
+ghost use Rattle.std.specs.Prelude.{◌≤◌, ◌<◌, ◌^◌};
 
 use std::alloc::Global;
-use tl_pass::Text;
 use tl_text::{ByteIn, TextFault};
 
 /// How many bytes it has room for at first.
@@ -27,9 +25,7 @@ impl Page {
     }
 
     /// The text.
-    pub(crate) fn text(&self) -> &[u8]
-        ensures { result.now ≡ text_of self.now }
-    {
+    pub(crate) fn text(&self) -> &[u8] {
         if self.used <= self.bytes.len() {
             &self.bytes[..self.used]
         } else {
@@ -59,13 +55,5 @@ impl Page {
             }
         }
         Err(TextFault::TooLong)
-    }
-}
-
-impl Text for Page {
-    ghost contents = { text_of };
-
-    fn bytes(&self) -> &[u8] {
-        self.text()
     }
 }

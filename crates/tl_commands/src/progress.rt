@@ -169,6 +169,14 @@ impl<'r, 'e, R: Clock + AllocGlobal, E: ByteOut> Listener for Progress<'r, 'e, R
     }
 }
 
+/// Nobody is told.
+#[derive(Drop)]
+pub(crate) struct Untold;
+
+impl Gauge for Untold {
+    fn tell(&mut self, _so_far: SoFar) {}
+}
+
 /// How many files were read of those that are to be.
 #[derive(Drop)]
 pub(crate) struct FilesRead<'g, G: Gauge> {
@@ -189,10 +197,10 @@ impl<'g, G: Gauge> FilesRead<'g, G> {
         }
     }
 
-    /// Counts the file of this text, and tells how many were read.
-    pub(crate) fn count(&mut self, text: &[u8]) {
+    /// Counts a file of so many bytes, and tells how many were read.
+    pub(crate) fn count(&mut self, bytes: u64) {
         self.read = self.read.saturating_add(1);
-        self.bytes = self.bytes.saturating_add(text.len() as u64);
+        self.bytes = self.bytes.saturating_add(bytes);
         self.gauge.tell(SoFar::Files {
             read: self.read,
             all: self.all,

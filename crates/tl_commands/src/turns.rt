@@ -7,7 +7,7 @@ ghost use Rattle.tl_pass.specs.Reports.{IsTaken};
 use crate::beside::{groups_of, rows_beside};
 use crate::fault::Fault;
 use crate::files::{are_files, fragment_at, listed};
-use crate::heads::{Queue, in_turn, parts_of};
+use crate::heads::{Queue, in_turn};
 use crate::page::Page;
 use crate::progress::{FilesRead, Gauge};
 use std::alloc::Global;
@@ -33,7 +33,7 @@ pub(crate) fn hitch_of(fault: Fault) -> Hitch {
 
 /// Files of fragments, each of which is read into one page when it is wanted.
 #[derive(Drop)]
-struct FileSupply<'r, 'a, 'p, 'g, R, G: Gauge> {
+pub(crate) struct FileSupply<'r, 'a, 'p, 'g, R, G: Gauge> {
     rt: &'r R,
     sieve: Sieve<'a>,
     queue: Queue<'a>,
@@ -43,6 +43,23 @@ struct FileSupply<'r, 'a, 'p, 'g, R, G: Gauge> {
 }
 
 impl<'r, 'a, 'p, 'g, R: Files + AllocGlobal, G: Gauge> FileSupply<'r, 'a, 'p, 'g, R, G> {
+    /// The files of a queue, none of which was read.
+    pub(crate) fn new(
+        rt: &'r R,
+        sieve: Sieve<'a>,
+        queue: Queue<'a>,
+        read: &'p mut FilesRead<'g, G>,
+    ) -> FileSupply<'r, 'a, 'p, 'g, R, G> {
+        FileSupply {
+            rt,
+            sieve,
+            queue,
+            next: 0,
+            page: Page::new(rt.alloc()),
+            read,
+        }
+    }
+
     /// The fragment of the next file, if it is checked.
     fn next_fragment(&mut self) -> Result<Option<Arc<Fragment>>, Fault> {
         let path = self.queue.path(self.next)?;
@@ -78,20 +95,13 @@ fn taken_of<R: Files + Threads + Sync + AllocGlobal, G: Gauge>(
             return rows_beside(rt, sieve, queue, &groups, workers, read);
         }
     }
-    let mut supply = FileSupply {
-        rt,
-        sieve,
-        queue,
-        next: 0,
-        page: Page::new(rt.alloc()),
-        read,
-    };
+    let mut supply = FileSupply::new(rt, sieve, queue, read);
     report_of(rt.alloc(), sieve.topo, queue.heads.len(), &mut supply)
 }
 
 /// The report of the fragments of the files that words stand for, which are read in an order in which few are held, and judged by so many
-/// threads beside this one; None where they have to be held together: where some links have caches and others have none, a file can't be
-/// read again or has a fault, or fragments don't rise.
+/// threads beside this one; None where they have to be held together: where a file can't be read again or has a fault, or fragments don't
+/// rise.
 pub(crate) fn report_in_turn<R: Files + Threads + Sync + AllocGlobal + Clone + Drop, G: Gauge>(
     rt: &R,
     sieve: Sieve<'_>,
@@ -102,14 +112,11 @@ pub(crate) fn report_in_turn<R: Files + Threads + Sync + AllocGlobal + Clone + D
     ensures { IfOk result (λ found. IfSome found (λ taken. (fs : List Frag) × IsTaken sieve.entry.topo.now fs taken)) }
 {
     let (files, fault) = listed(rt, words)?;
-    let Some(parts) = parts_of(sieve.topo) else {
-        return Ok(None);
-    };
     let is_fit = fault.is_none() && files.len() > 1 && files.len() <= MOST_EDITS;
     if !is_fit || !are_files(rt, &files) {
         return Ok(None);
     }
-    let Some(heads) = in_turn(rt, sieve.topo, parts, &files)? else {
+    let Some(heads) = in_turn(rt, sieve.topo, &files)? else {
         return Ok(None);
     };
     let queue = Queue::new(&files, &heads);

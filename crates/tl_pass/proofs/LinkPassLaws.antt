@@ -22,17 +22,22 @@ use Rattle.tl_pass.specs.Reports.{AreReportOf}
 use Rattle.tl_pass.proofs.JoinLaws.{judged_both, none_judged, nothing}
 use Rattle.tl_pass.proofs.StandingLaws.{put_last}
 
--- What is found of links, in the order of reports, is their report.
-pub judged_report : (topo : Topology) (next : ℕ) (fs : List Recorded) (rows sorted : List Row) → HasJudged topo next fs rows → IsStrictlySortedBy row_order sorted
-    → ((row : Row) → Contains sorted row ↔ Contains rows row) → AreReportOf topo fs sorted
-judged_report topo next fs rows sorted had rises same = record {
-  present = had.present;
-  report = found_rows_are_the_report (captures_with topo fs [] []) sorted (one_place topo fs had.present [] []) rises members;
-  links = λ k d below. row_linked topo fs had.present [] [] (get_or sorted k d) ((members (get_or sorted k d)).0 (Contains-get_or sorted k d below));
+-- What is found of fragments, in the order of reports, is their report.
+pub sorted_report : (topo : Topology) (fs : List Recorded) (rows sorted : List Row) → IsPresent fs → ((row : Row) → Contains rows row ↔ FindsIn (captures_with topo fs [] []) row)
+    → IsStrictlySortedBy row_order sorted → ((row : Row) → Contains sorted row ↔ Contains rows row) → AreReportOf topo fs sorted
+sorted_report topo fs rows sorted present found rises same = record {
+  present = present;
+  report = found_rows_are_the_report (captures_with topo fs [] []) sorted (one_place topo fs present [] []) rises members;
+  links = λ k d below. row_linked topo fs present [] [] (get_or sorted k d) ((members (get_or sorted k d)).0 (Contains-get_or sorted k d below));
 }
   where
     members : (row : Row) → Contains sorted row ↔ FindsIn (captures_with topo fs [] []) row
-    members row = ((λ h. (had.found row).0 ((same row).0 h)), (λ is. (same row).1 ((had.found row).1 is)))
+    members row = ((λ h. (found row).0 ((same row).0 h)), (λ is. (same row).1 ((found row).1 is)))
+
+-- So is what is found of links.
+pub judged_report : (topo : Topology) (next : ℕ) (fs : List Recorded) (rows sorted : List Row) → HasJudged topo next fs rows → IsStrictlySortedBy row_order sorted
+    → ((row : Row) → Contains sorted row ↔ Contains rows row) → AreReportOf topo fs sorted
+judged_report topo next fs rows sorted had = sorted_report topo fs rows sorted had.present had.found
 
 pub none_passed : (topo : Topology) → HasNoCaches topo → HasPassed topo 0 [] [] []
 none_passed topo plain = record {

@@ -1,9 +1,8 @@
 -- Links that are judged apart, and what is found of them.
-use Rattle.std.specs.Prelude.{ℕ, ◌≡◌, ◌<◌, ◌≤◌, ◌⊎◌, ◌↔◌, false, List, [], Some, length, map, IfOk, Result}
+use Rattle.std.specs.Prelude.{ℕ, ◌≡◌, ◌<◌, ◌≤◌, ◌⊎◌, ◌↔◌, false, List, [], Some, length, IfOk, Result}
 use Rattle.std.specs.List.{All, AllZip, Contains}
 use Rattle.tl_topology.specs.Topology.{Topology, number_of_name}
 use Rattle.tl_beats.specs.Fragments.{Frag}
-use Rattle.tl_beats.specs.Text.{fragment_text}
 use Rattle.tl_beats.specs.declared.Row.{Row}
 use Rattle.tl_definitions.specs.Managers.{declared_links}
 use Rattle.tl_definitions.specs.Positions.{Recorded, links_of}
@@ -50,10 +49,6 @@ pub record IsPart (topo : Topology) (fs : List Frag) (part : Part) : Type 0 wher
   pub within : All (IsWithin topo part.links.first part.links.next) fs
   pub count : part.fragments ≡ length fs
   pub report : AreReportOf topo (standing topo fs) part.rows.items
-
--- The part is the report of the fragments that have these texts.
-abbrev pub IsPartOf : Topology → List (List ℕ) → Part → Type 0
-IsPartOf topo texts part = (fs : List Frag) × (map fragment_text fs ≡ texts) × IsPart topo fs part
 
 -- Each part is the report of its fragments, or a hitch.
 abbrev pub AreParts : Topology → List (List Frag) → List (Result Part Hitch) → Type 0

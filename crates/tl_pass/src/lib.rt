@@ -1,14 +1,15 @@
 //! One pass over the fragments of a capture, of which each is forgotten once it is judged.
 #![tactic(auto)]
 
+mod apart_pass;
 mod link_pass;
 mod manager_pass;
 mod part;
 mod pass;
 mod supply;
 
-pub use link_pass::LinkPass;
+pub use link_pass::{LinkPass, has_no_caches};
 pub use manager_pass::ManagerPass;
-pub use part::{Links, Part, Text, Whole, can_part};
+pub use part::{Links, Part, Whole, can_part};
 pub use pass::{Hitch, Pass};
 pub use supply::{Supply, Taken, report_of};

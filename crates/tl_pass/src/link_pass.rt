@@ -4,31 +4,20 @@ ghost use Rattle.std.specs.Prelude.{◌≡◌, ◌<◌, ℕ, true, List, [], IfS
 ghost use Rattle.std.specs.Arc.{arc_value};
 ghost use Rattle.tl_definitions.specs.Positions.{Recorded};
 ghost use Rattle.tl_capture.specs.Present.{recorded, put_in};
-ghost use Rattle.tl_check.specs.Managers.{has_caches};
 ghost use Rattle.tl_pass.specs.LinkPass.{HasPassed};
 ghost use Rattle.tl_pass.specs.Parts.{HasNoCaches};
 
 use crate::pass::{Hitch, Pass};
 use std::alloc::{AllocError, Global};
 use std::sync::Arc;
+use tl_apart::has_caches;
 use tl_beats::{Fragment, Row};
 use tl_capture::Present;
 use tl_check::{check_all, sort_rows};
-use tl_tables::Level;
 use tl_topology::Topo;
 
-/// Whether a link has caches.
-fn has_caches(topo: &Topo, link: u16) -> bool
-    ensures { result ≡ has_caches topo.now link }
-{
-    match topo.link(link) {
-        Some(decl) => decl.level == Level::C,
-        None => false,
-    }
-}
-
 /// Whether no link of a topology has caches.
-pub(crate) fn has_no_caches(topo: &Topo) -> bool
+pub fn has_no_caches(topo: &Topo) -> bool
     ensures { result ≡ true → HasNoCaches topo.now }
 {
     for link in 0..topo.link_count() {

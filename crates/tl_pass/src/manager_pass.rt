@@ -7,10 +7,21 @@ ghost use Rattle.tl_pass.specs.ManagerPass.{HasTold};
 use crate::pass::{Hitch, Pass};
 use std::alloc::{AllocError, Global};
 use std::sync::Arc;
+use tl_apart::has_caches;
 use tl_beats::{Fragment, Row};
 use tl_check::sort_rows;
 use tl_stream::Stream;
 use tl_topology::Topo;
+
+/// Whether all links of a topology have caches, so that none can be judged apart from the others of its manager for nothing.
+pub(crate) fn have_caches(topo: &Topo) -> bool {
+    for link in 0..topo.link_count() {
+        if !has_caches(topo, link as u16) {
+            return false;
+        }
+    }
+    true
+}
 
 /// The rows of the fragments that came, those of each link with rising numbers and ranges. It holds the fragments of which a cycle is not
 /// complete on all links of their manager, and of all others what they leave.

@@ -1,20 +1,17 @@
 //! Links that are judged apart from others.
 
-ghost use Rattle.std.specs.Prelude.{◌≡◌, ◌<◌, ◌≤◌, ◌++◌, ℕ, List, [], true, length, map, IfOk, IfSome, OnOk};
+ghost use Rattle.std.specs.Prelude.{◌≡◌, ◌<◌, ◌≤◌, ◌++◌, ℕ, List, [], true, length, IfSome, OnOk};
 ghost use Rattle.std.specs.List.{flat_map};
 ghost use Rattle.tl_topology.specs.Topology.{Topology};
 ghost use Rattle.tl_beats.specs.Fragments.{Frag};
-ghost use Rattle.tl_beats.specs.Text.{fragment_text};
-ghost use Rattle.tl_pass.specs.Parts.{manager_of, AreParts, CanPart, IsCut, IsPart, IsPartOf, IsWhole};
+ghost use Rattle.tl_pass.specs.Parts.{manager_of, AreParts, CanPart, IsCut, IsPart, IsWhole};
 ghost use Rattle.tl_pass.specs.Reports.{IsTaken};
 
-use crate::link_pass::{LinkPass, has_no_caches};
-use crate::manager_pass::ManagerPass;
-use crate::pass::{Hitch, Pass};
+use crate::link_pass::has_no_caches;
+use crate::pass::Hitch;
 use crate::supply::Taken;
 use std::alloc::Global;
-use std::sync::Arc;
-use tl_beats::{Fragment, FragmentFault, Row, parse_whole_fragment};
+use tl_beats::Row;
 use tl_check::sort_rows;
 use tl_topology::Topo;
 
@@ -72,78 +69,13 @@ pub fn can_part(topo: &Topo, first: u16) -> bool
     has_no_caches(topo) || is_cut(topo, first)
 }
 
-/// What holds the text of a fragment.
-pub trait Text {
-    /// Its bytes.
-    ghost contents: { Self → List ℕ };
-
-    /// Its bytes.
-    fn bytes(&self) -> &[u8]
-        ensures { result.now ≡ contents self.now };
-}
-
 /// The report of fragments of links in a row.
 #[derive(Drop)]
 pub struct Part {
-    links: Links,
+    pub(crate) links: Links,
     /// How many fragments they are.
-    fragments: u64,
-    rows: Vec<Row>,
-}
-
-/// The report of the fragments that texts are, which a pass takes in this order. A hitch where a text is no fragment, or one of another
-/// link.
-fn judged<P: Pass + Drop, T: Text>(
-    alloc: Global,
-    topo: &Topo,
-    links: Links,
-    texts: &[T],
-    pass: P,
-) -> Result<Part, Hitch>
-    requires { P.has_come topo.now [] pass }
-    ensures { IfOk result (λ part. IsPartOf topo.now (map T.contents texts.now) part) }
-{
-    let mut pass = pass;
-    for text in texts {
-        let fragment = fragment_in(alloc, text.bytes())?;
-        match topo.link_of(&fragment.link()) {
-            Some(link) if links.first <= link && link < links.next => {}
-            _ => return Err(Hitch::Fault),
-        }
-        pass.accept(alloc, Arc::new(alloc, fragment)?)?;
-    }
-    let rows = pass.report(alloc)?;
-    Ok(Part {
-        links,
-        fragments: texts.len() as u64,
-        rows,
-    })
-}
-
-/// The fragment that a text is. A hitch where it is none, or memory is refused.
-fn fragment_in(alloc: Global, text: &[u8]) -> Result<Fragment, Hitch>
-    ensures { IfOk result (λ fragment. fragment_text fragment ≡ text.now) }
-{
-    match parse_whole_fragment(alloc, text) {
-        Ok(fragment) => Ok(fragment),
-        Err(FragmentFault::Memory) => Err(Hitch::Memory),
-        Err(_) => Err(Hitch::Fault),
-    }
-}
-
-impl Part {
-    /// The report of the fragments of these links that texts are, in the order in which a pass takes them. A hitch where memory is refused,
-    /// where a text is no fragment of these links, and where the pass has one.
-    pub fn of<T: Text>(alloc: Global, topo: &Topo, links: Links, texts: &[T]) -> Result<Part, Hitch>
-        ensures { IfOk result (λ part. IsPartOf topo.now (map T.contents texts.now) part) }
-    {
-        let own = Arc::new(alloc, topo.copy(alloc)?)?;
-        if let Some(pass) = LinkPass::new(alloc, Arc::try_clone(&own)?) {
-            return judged(alloc, topo, links, texts, pass);
-        }
-        let pass = ManagerPass::new(alloc, own)?;
-        judged(alloc, topo, links, texts, pass)
-    }
+    pub(crate) fragments: u64,
+    pub(crate) rows: Vec<Row>,
 }
 
 /// The rows of links below one, of which each part came by itself.

@@ -1,14 +1,18 @@
 //! Fragments that a pass takes one after another, from wherever they come.
 
-ghost use Rattle.std.specs.Prelude.{◌≡◌, ◌≤◌, ◌+◌, List, [], length, IfOk};
+ghost use Rattle.std.specs.Prelude.{◌≡◌, ◌≤◌, ◌+◌, true, List, [], length, IfOk};
+ghost use Rattle.std.specs.List.{All};
 ghost use Rattle.tl_beats.specs.Fragments.{Frag};
+ghost use Rattle.tl_pass.specs.Parts.{IsPart, IsWithin};
 ghost use Rattle.tl_pass.specs.Reports.{standing, with_next, IsTaken};
 
 use crate::link_pass::LinkPass;
-use crate::manager_pass::ManagerPass;
+use crate::manager_pass::{ManagerPass, have_caches};
+use crate::part::{Links, Part};
 use crate::pass::{Hitch, Pass};
 use std::alloc::Global;
 use std::sync::Arc;
+use tl_apart::Apart;
 use tl_beats::{Fragment, Row};
 use tl_topology::Topo;
 
@@ -31,21 +35,36 @@ pub struct Taken {
     pub rows: Vec<Row>,
 }
 
-/// Has a pass take the next fragment, where it isn't passed over, and answers how many that are.
+/// Whether a fragment is of one of these links.
+fn is_within(topo: &Topo, links: Links, fragment: &Fragment) -> bool
+    ensures { result ≡ true → IsWithin topo.now links.first links.next fragment.now }
+{
+    match topo.link_of(&fragment.link()) {
+        Some(link) => links.first <= link && link < links.next,
+        None => false,
+    }
+}
+
+/// Has a pass take the next fragment, where it isn't passed over, and answers how many that are. A hitch where it is of none of these
+/// links.
 fn take_next<P: Pass>(
     alloc: Global,
     topo: &Topo,
+    links: Links,
     pass: &mut P,
     next: Option<Arc<Fragment>>,
 ) -> Result<u64, Hitch>
     ensures few { IfOk result (λ count. count ≤ 1) }
     ensures came { (fs : List Frag) → P.has_come topo.now (standing topo.now fs) pass.old → IfOk result (λ count.
         (length (with_next fs next) ≡ length fs + count) × P.has_come topo.now (standing topo.now (with_next fs next)) pass.new) }
+    ensures within { (fs : List Frag) → All (IsWithin topo.now links.first links.next) fs
+        → IfOk result (λ _. All (IsWithin topo.now links.first links.next) (with_next fs next)) }
 {
-    // Only the contract speaks of it.
-    let _ = topo;
     match next {
         Some(fragment) => {
+            if !is_within(topo, links, &fragment) {
+                return Err(Hitch::Fault);
+            }
             pass.accept(alloc, fragment)?;
             Ok(1)
         }
@@ -57,26 +76,57 @@ fn take_next<P: Pass>(
 fn all_taken<P: Pass + Drop, S: Supply>(
     alloc: Global,
     topo: &Topo,
+    links: Links,
     count: usize,
     pass: P,
     supply: &mut S,
-) -> Result<Taken, Hitch>
+) -> Result<Part, Hitch>
     requires pass { P.has_come topo.now [] pass }
     requires supply { S.has_given supply.old supply.old [] }
-    ensures { IfOk result (λ taken. (fs : List Frag) × S.has_given supply.old supply.new fs × IsTaken topo.now fs taken) }
+    ensures { IfOk result (λ part. (fs : List Frag) × S.has_given supply.old supply.new fs × IsPart topo.now fs part) }
 {
     let mut pass = pass;
     let mut fragments = 0u64;
     for _ in 0..count {
         let next = supply.next(alloc)?;
-        fragments += take_next(alloc, topo, &mut pass, next)?;
+        fragments += take_next(alloc, topo, links, &mut pass, next)?;
     }
     let rows = pass.report(alloc)?;
-    Ok(Taken { fragments, rows })
+    Ok(Part {
+        links,
+        fragments,
+        rows,
+    })
 }
 
-/// The report of those of the next so many fragments that are not passed over: link after link where no link of the topology has caches,
-/// else with rising numbers and ranges on each link. A hitch where memory is refused, a fragment is refused or can't be had.
+impl Part {
+    /// The report of those of the next so many fragments that are not passed over: link after link where no link of the topology has
+    /// caches, else with rising numbers and ranges on each link. A hitch where memory is refused, a fragment is refused, can't be had or
+    /// is of none of these links.
+    pub fn of<S: Supply>(
+        alloc: Global,
+        topo: &Topo,
+        links: Links,
+        count: usize,
+        supply: &mut S,
+    ) -> Result<Part, Hitch>
+        requires { S.has_given supply.old supply.old [] }
+        ensures { IfOk result (λ part. (fs : List Frag) × S.has_given supply.old supply.new fs × IsPart topo.now fs part) }
+    {
+        let own = Arc::new(alloc, topo.copy(alloc)?)?;
+        if let Some(pass) = LinkPass::new(alloc, Arc::try_clone(&own)?) {
+            return all_taken(alloc, topo, links, count, pass, supply);
+        }
+        if have_caches(topo) {
+            let pass = ManagerPass::new(alloc, own)?;
+            return all_taken(alloc, topo, links, count, pass, supply);
+        }
+        let pass = Apart::new(alloc, own)?;
+        all_taken(alloc, topo, links, count, pass, supply)
+    }
+}
+
+/// The report of those of the next so many fragments that are not passed over, as that of a part with all links.
 pub fn report_of<S: Supply>(
     alloc: Global,
     topo: &Topo,
@@ -86,10 +136,13 @@ pub fn report_of<S: Supply>(
     requires { S.has_given supply.old supply.old [] }
     ensures { IfOk result (λ taken. (fs : List Frag) × S.has_given supply.old supply.new fs × IsTaken topo.now fs taken) }
 {
-    let own = Arc::new(alloc, topo.copy(alloc)?)?;
-    if let Some(pass) = LinkPass::new(alloc, Arc::try_clone(&own)?) {
-        return all_taken(alloc, topo, count, pass, supply);
-    }
-    let pass = ManagerPass::new(alloc, own)?;
-    all_taken(alloc, topo, count, pass, supply)
+    let links = Links {
+        first: 0,
+        next: topo.link_count() as u16,
+    };
+    let part = Part::of(alloc, topo, links, count, supply)?;
+    Ok(Taken {
+        fragments: part.fragments,
+        rows: part.rows,
+    })
 }

@@ -1,7 +1,6 @@
 use Rattle.std.proofs.Common.{◌++◌, [], sym, subst}
 use Rattle.std.specs.List.{flat_map}
 use Rattle.tl_pass.specs.Parts.{AreParts}
-use Rattle.tl_commands.specs.declared.beside.Load.{Load}
 use Rattle.tl_commands.proofs.BesideLaws.{all_parts}
 use Rattle.tl_commands.proofs.beside.rows_beside.Goals as goal
 
@@ -9,9 +8,8 @@ pub loop-round-preserved : goal.loop-round-preserved
 loop-round-preserved g c =
     let topo = c.args.sieve.topo.now in
     let had = c.loop-round.invariant in
-    let none : Load = record { links = record { first = 0; next = 0 }; from = 0; count = 0 } in
-    let found = all_parts topo _ c.deref.result.now c.in_ok-parts.parts.items none c.in_ok-parts.ensures in
-    (had.0 ++ flat_map (λ gs. gs) found.0, c.in_ok-add_all.ensures had.0 found.0 had.1 (subst (AreParts topo found.0) (sym c.deref-in-loop-round.ensures.value) found.1))
+    let found = all_parts topo c.in_ok-parts.parts.items c.in_ok-parts.ensures in
+    (had.0 ++ flat_map (λ gs. gs) found.0, c.in_ok-add_all.ensures had.0 found.0 had.1 (subst (AreParts topo found.0) (sym c.deref.ensures.value) found.1))
 
 pub loop-round-init : goal.loop-round-init
-loop-round-init g c = ([], c.new-whole.ensures c.args.sieve.topo.now)
+loop-round-init g c = ([], c.new.ensures c.args.sieve.topo.now)

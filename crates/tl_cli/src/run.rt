@@ -369,6 +369,9 @@ pub fn run_words<
     O: ByteOut,
     E: ByteOut,
 >(rt: &R, words: &[String], input: &mut I, out: &mut O, err: &mut E) -> u8
+where
+    R::File: Send,
+    R::Dir: Send,
     requires reads { I.read_count input.old < 2 ^ 63 }
     requires failures { I.failure_count input.old < 2 ^ 63 }
     requires out { O.failure_count out.old < 2 ^ 63 }
@@ -448,6 +451,9 @@ fn do_once<R: Files + Threads + Sync + AllocGlobal + Clone + Drop, G: Gauge, O: 
     gauge: &mut G,
     out: &mut O,
 ) -> Result<Ending, Fault>
+where
+    R::File: Send,
+    R::Dir: Send,
     requires { O.failure_count out.old < 2 ^ 63 }
 {
     let manner = Manner {
@@ -505,6 +511,9 @@ fn do_command<
     O: ByteOut,
     E: ByteOut,
 >(rt: &R, command: &Command<'_>, input: &mut I, out: &mut O, err: &mut E, screen: Screen) -> u8
+where
+    R::File: Send,
+    R::Dir: Send,
     requires reads { I.read_count input.old < 2 ^ 63 }
     requires failures { I.failure_count input.old < 2 ^ 63 }
     requires out { O.failure_count out.old < 2 ^ 63 }
@@ -559,6 +568,9 @@ pub fn run_words_at<
     O: ByteOut,
     E: ByteOut,
 >(rt: &R, words: &[String], input: &mut I, out: &mut O, err: &mut E, screen: Screen) -> u8
+where
+    R::File: Send,
+    R::Dir: Send,
     requires reads { I.read_count input.old < 2 ^ 63 }
     requires failures { I.failure_count input.old < 2 ^ 63 }
     requires out { O.failure_count out.old < 2 ^ 63 }

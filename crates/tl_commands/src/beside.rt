@@ -135,7 +135,13 @@ fn part_of<R: Files + AllocGlobal>(
     let mut read = FilesRead::none_of(group.count, &mut gauge);
     let own = queue.only(group.heads(queue.heads));
     let mut supply = FileSupply::new(rt, sieve, own, &mut read);
-    Part::of(rt.alloc(), sieve.topo, group.links, group.count, &mut supply)
+    Part::of(
+        rt.alloc(),
+        sieve.topo,
+        group.links,
+        group.count,
+        &mut supply,
+    )
 }
 
 /// The reports of groups, each made by a thread of its own.
@@ -145,6 +151,9 @@ fn parts_of<R: Files + Threads + Sync + AllocGlobal>(
     queue: Queue<'_>,
     groups: &[Group],
 ) -> Result<Vec<Result<Part, Hitch>>, AllocError>
+where
+    R::File: Send,
+    R::Dir: Send,
     ensures { IfOk result (λ parts. AreJudged sieve.entry.topo.now parts.items) }
 {
     map_indices(
@@ -180,6 +189,9 @@ pub(crate) fn rows_beside<R: Files + Threads + Sync + AllocGlobal, G: Gauge>(
     workers: u8,
     read: &mut FilesRead<'_, G>,
 ) -> Result<Taken, Hitch>
+where
+    R::File: Send,
+    R::Dir: Send,
     ensures { IfOk result (λ taken. (fs : List Frag) × IsTaken sieve.entry.topo.now fs taken) }
 {
     let mut whole = Whole::new(rt.alloc());

@@ -189,6 +189,9 @@ fn once_shared<R: Files + Threads + Sync + AllocGlobal + Clone + Drop, G: Gauge,
     gauge: &mut G,
     out: &mut O,
 ) -> Result<Ending, Fault>
+where
+    R::File: Send,
+    R::Dir: Send,
     requires { O.failure_count out.old < 2 ^ 63 }
 {
     if manner.is_bare()
@@ -209,6 +212,9 @@ fn once_on<R: Files + Threads + Sync + AllocGlobal + Clone + Drop, G: Gauge, O: 
     gauge: &mut G,
     out: &mut O,
 ) -> Result<Ending, Fault>
+where
+    R::File: Send,
+    R::Dir: Send,
     requires { O.failure_count out.old < 2 ^ 63 }
 {
     match share_of(rt.alloc(), topo, &capture.managers) {
@@ -236,6 +242,9 @@ pub fn once_of_files<R: Files + Threads + Sync + AllocGlobal + Clone + Drop, G: 
     gauge: &mut G,
     out: &mut O,
 ) -> Result<Ending, Fault>
+where
+    R::File: Send,
+    R::Dir: Send,
     requires { O.failure_count out.old < 2 ^ 63 }
 {
     let topo = topology_of(rt, topology)?;

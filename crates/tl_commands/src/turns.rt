@@ -87,6 +87,9 @@ fn taken_of<R: Files + Threads + Sync + AllocGlobal, G: Gauge>(
     workers: u8,
     read: &mut FilesRead<'_, G>,
 ) -> Result<Taken, Hitch>
+where
+    R::File: Send,
+    R::Dir: Send,
     ensures { IfOk result (λ taken. (fs : List Frag) × IsTaken sieve.entry.topo.now fs taken) }
 {
     if workers > 0 {
@@ -109,6 +112,9 @@ pub(crate) fn report_in_turn<R: Files + Threads + Sync + AllocGlobal + Clone + D
     workers: u8,
     gauge: &mut G,
 ) -> Result<Option<Taken>, Fault>
+where
+    R::File: Send,
+    R::Dir: Send,
     ensures { IfOk result (λ found. IfSome found (λ taken. (fs : List Frag) × IsTaken sieve.entry.topo.now fs taken)) }
 {
     let (files, fault) = listed(rt, words)?;

@@ -12,4 +12,4 @@ loop-round-preserved g c =
     (had.0 ++ flat_map (λ gs. gs) found.0, c.in_ok-add_all.ensures had.0 found.0 had.1 (subst (AreParts topo found.0) (sym c.deref.ensures.value) found.1))
 
 pub loop-round-init : goal.loop-round-init
-loop-round-init g c = ([], c.new.ensures c.args.sieve.topo.now)
+loop-round-init g c = ([], c.new-whole.ensures c.args.sieve.topo.now)

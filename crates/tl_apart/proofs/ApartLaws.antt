@@ -1,14 +1,16 @@
 -- One fragment more of links that are judged apart, and one event more of their managers.
-use Rattle.std.proofs.Common.{◌≡◌, ℕ, ◌<◌, ◌≤◌, inl, inr, ◌==◌, true, false, cond, List, [], ◌∷◌, ◌++◌, Option, Some, None, length, refl, sym, ap, subst, ◌∙◌, arith}
+use Rattle.std.proofs.Common.{◌≡◌, ℕ, ◌+◌, ◌<◌, ◌≤◌, inl, inr, ◌==◌, true, false, cond, List, [], ◌∷◌, ◌++◌, append-nil, Option, Some, None, length, set, refl, sym, ap, subst, ◌∙◌, arith}
 use Rattle.std.specs.Prelude.{map, slice_get, nat_lt}
-use Rattle.std.specs.Arc.{arc_value}
 use Rattle.std.specs.List.{Contains}
 use Rattle.std.specs.Option.{option_map_or}
 use Rattle.std.specs.declared.cmp.Ordering.TheVariants.{Less}
 use Rattle.std.proofs.lemmas.Bool.Decides.{nat_tests}
-use Rattle.std.proofs.lemmas.Option.{same_Some}
+use Rattle.std.specs.Ordering.{is_lt}
+use Rattle.std.proofs.lemmas.List.{length-set}
+use Rattle.std.proofs.lemmas.Option.{same_Some, slice_get_within}
 use Rattle.tl_topology.specs.Topology.{Topology}
 use Rattle.tl_beats.specs.Fragments.{Frag}
+use Rattle.tl_beats.specs.declared.Row.{Row}
 use Rattle.tl_definitions.specs.Breaks.{row_of}
 use Rattle.tl_definitions.specs.Events.{Event, event_order, event_rules, event_next, left_by_events, all_shown, link_events}
 use Rattle.tl_definitions.specs.Judging.{snapshot}
@@ -18,18 +20,18 @@ use Rattle.tl_definitions.specs.Positions.{Recorded, beats_of, placed_beats}
 use Rattle.tl_definitions.proofs.ChainLaws.{left_after-append}
 use Rattle.tl_definitions.proofs.LinkLaws.{itself}
 use Rattle.tl_definitions.proofs.Lists.{all_by}
-use Rattle.tl_capture.specs.Present.{recorded, put_in, is_of, shares, IsCapture, IsPresent}
+use Rattle.tl_capture.specs.Present.{range_order, recorded, put_in, is_of, shares, IsCapture, IsPresent}
 use Rattle.tl_capture.proofs.NumberLemmas.{present_put}
 use Rattle.tl_capture.proofs.PutLemmas.{put_from}
 use Rattle.tl_capture.proofs.TouchLemmas.{put_has, put_here}
 use Rattle.tl_capture.proofs.WalkLemmas.{both}
 use Rattle.tl_check.specs.Apart.{opening}
-use Rattle.tl_apart.specs.Apart.{manager_of, with_one, IsNewest, HasLeft, Knows, IsApart, HasApart}
+use Rattle.tl_apart.specs.Apart.{manager_of, rows_in, with_one, IsNewest, HasLeft, Knows, AreApart}
+use Rattle.tl_apart.specs.Beside.{Takes}
 use Rattle.tl_apart.specs.Feeds.{waiting, waiting_of, comes_after, newest_with, IsFirst}
 use Rattle.tl_apart.specs.Holders as holders
 use Rattle.tl_apart.specs.LinkJudge.{Shows}
 use Rattle.tl_apart.specs.Told.{IsAfter, bare, clients, left_on, IsTold, ArePassed, AreFoundApart}
-use Rattle.tl_apart.specs.declared.apart.Apart.{Apart}
 use Rattle.tl_apart.specs.FeedData.{FeedData}
 use Rattle.tl_apart.specs.declared.feed.Newest.{Newest}
 use Rattle.tl_apart.specs.declared.listener.Listener.{Listener}
@@ -37,7 +39,9 @@ use Rattle.tl_apart.proofs.BeatLaws.{elsewhere, at_end}
 use Rattle.tl_apart.proofs.CaptureLaws.{manager_is}
 use Rattle.tl_apart.proofs.EventLaws.{left_by_more}
 use Rattle.tl_apart.proofs.FoundLaws.{fragment_more, event_more}
+use Rattle.tl_apart.proofs.ListLaws.{get_set, get_other, count_set}
 use Rattle.tl_apart.proofs.NumberLaws.{same_or_not}
+use Rattle.tl_apart.proofs.RowLaws.{found_with}
 use Rattle.tl_apart.proofs.ToldLaws.{told_alike, told_beside, told_more, told_next, passed_more}
 
 -- ---- a fragment that comes after all of its link
@@ -89,154 +93,191 @@ module _ (fs : List Recorded) (link : ℕ) (f : Frag) (own : IsCapture (recorded
     (had.0, put_has (recorded link f) fs had.0 had.1, had.2, had.3),
   )
 
+pub put_length : (f : Recorded) (fs : List Recorded) → length (put_in f fs) ≡ length fs + 1
+put_length f [] = refl
+put_length f (g ∷ fs) = elim (is_lt (range_order f g)) as (λ b. length (cond b (f ∷ g ∷ fs) (g ∷ put_in f fs)) ≡ length (g ∷ fs) + 1) [
+  | true ↦ omega arith
+  | false ↦ (let rest = put_length f fs in omega (arith, rest))
+]
+
 -- ---- of all links and managers
 
 waiting_at : (feeds : List FeedData) (link : ℕ) (feed : FeedData) → slice_get feeds link ≡ Some feed → waiting_of feeds link ≡ waiting feed
 waiting_at feeds link feed at = ap (λ o. option_map_or waiting o []) at
 
-module _ (topo : Topology) (fs : List Recorded) (judged : ℕ → List Event) (old new : Apart) (is : IsApart topo fs judged old) where
-  module _ (on : arc_value new.topo ≡ arc_value old.topo) (plain : new.none ≡ old.none) (link : ℕ) (many : length new.feeds.items ≡ length old.feeds.items) (feed next : FeedData)
-      (was : slice_get old.feeds.items link ≡ Some feed) (now : slice_get new.feeds.items link ≡ Some next) (others : (n : ℕ) → (n ≡ link → ⊥) → slice_get new.feeds.items n ≡ slice_get old.feeds.items n) where
-    -- A fragment more.
-    module _ (f : Frag) (own : IsCapture (recorded link f)) (late : comes_after feed.newest f ≡ true) (k : ℕ) (of : manager_of topo link ≡ k) (below : k < length topo.managers) (has : Contains (clients topo k) link)
-        (passed : (j : ℕ) → j < length topo.managers → ArePassed topo fs j (judged j)) (same : new.listeners ≡ old.listeners)
-        (shows : Shows (bare topo k).exponent next.judge (left_after (link_judging (bare topo k)) (left_on topo fs k link) (placed_beats (recorded link f))))
-        (waits : waiting next ≡ waiting feed ++ link_events (bare topo k) (left_on topo fs k link) (placed_beats (recorded link f))) (newest : next.newest ≡ Some (newest_with f))
-        (rows : new.found.rows.items ≡ old.found.rows.items ++ rows_judged (link_judging (bare topo k)) (left_on topo fs k link) (placed_beats (recorded link f))) where
-      abbrev r : Recorded
-      r = recorded link f
+module _ (topo : Topology) (fs : List Recorded) (judged : ℕ → List Event) (feeds : List FeedData) (listeners : List Listener) (rows : List Row) (is : AreApart topo fs judged feeds listeners rows)
+    (link : ℕ) (feed next : FeedData) (was : slice_get feeds link ≡ Some feed) where
+  abbrev changed : List FeedData
+  changed = set feeds link next
 
-      known : IsNewest fs link feed.newest
-      known = (is.feeds link feed was).newest
+  now : slice_get changed link ≡ Some next
+  now = get_set feeds link next (slice_get_within feeds link feed was)
 
-      present : IsPresent (put_in r fs)
-      present = there fs link f own feed.newest known late is.present
+  others : (n : ℕ) → (n ≡ link → ⊥) → slice_get changed n ≡ slice_get feeds n
+  others n other = get_other feeds link n next other
 
-      after : IsAfter fs r
-      after = is_after fs link f own feed.newest known late
+  -- A fragment more.
+  module _ (f : Frag) (takes : Takes topo link f feed next) (passed : (j : ℕ) → j < length topo.managers → ArePassed topo fs j (judged j)) where
+    abbrev r : Recorded
+    r = recorded link f
 
-      left_there : left_on topo (put_in r fs) k link ≡ left_after (link_judging (bare topo k)) (left_on topo fs k link) (placed_beats r)
-      left_there = ap (left_after (link_judging (bare topo k)) (opening (bare topo k).exponent)) (at_end fs r is.present present after)
-          ∙ left_after-append (link_judging (bare topo k)) (opening (bare topo k).exponent) (beats_of link fs) (placed_beats r)
+    abbrev k : ℕ
+    k = manager_of topo link
 
-      left_beside : (n : ℕ) → (n ≡ link → ⊥) → left_on topo (put_in r fs) (manager_of topo n) n ≡ left_on topo fs (manager_of topo n) n
-      left_beside n other = ap (left_after (link_judging (bare topo (manager_of topo n))) (opening (bare topo (manager_of topo n)).exponent)) (elsewhere fs r is.present present n (λ same. other (sym same)))
+    had_left : HasLeft topo fs link feed
+    had_left = is.left link feed was
 
-      feeds_more : (n : ℕ) (one : FeedData) → slice_get new.feeds.items n ≡ Some one → HasLeft topo (put_in r fs) n one
-      feeds_more n one at = same_or_not n link (HasLeft topo (put_in r fs) n one)
-          (λ here. let this : next ≡ one = same_Some next one (sym now ∙ ap (slice_get new.feeds.items) (sym here) ∙ at) in
-          subst (HasLeft topo (put_in r fs) n) this (subst (λ m. HasLeft topo (put_in r fs) m next) (sym here) (record {
-            shows = subst (λ j. Shows (bare topo j).exponent next.judge (left_on topo (put_in r fs) j link)) (sym of) (subst (Shows (bare topo k).exponent next.judge) (sym left_there) shows);
-            newest = subst (IsNewest (put_in r fs) link) (sym newest) (newest_now fs link f own feed.newest known late);
-          })))
-          (λ other. let had = is.feeds n one (sym (others n other) ∙ at) in record {
-            shows = subst (Shows (bare topo (manager_of topo n)).exponent one.judge) (sym (left_beside n other)) had.shows;
-            newest = newest_beside fs link f own feed.newest known late n one.newest other had.newest;
-          })
+    present : IsPresent (put_in r fs)
+    present = there fs link f takes.own feed.newest had_left.newest takes.late is.present
 
-      told_there : (j : ℕ) → j < length topo.managers → IsTold topo (put_in r fs) j (waiting_of new.feeds.items) (judged j)
-      told_there j low = same_or_not j k (IsTold topo (put_in r fs) j (waiting_of new.feeds.items) (judged j))
-          (λ here. subst (λ i. IsTold topo (put_in r fs) i (waiting_of new.feeds.items) (judged i)) (sym here)
-          (told_more topo fs k (waiting_of old.feeds.items) (waiting_of new.feeds.items) (judged k) is.present (is.told k below) r present after (passed k below) has
-          (waiting_at new.feeds.items link next now ∙ waits ∙ ap (λ es. es ++ link_events (bare topo k) (left_on topo fs k link) (placed_beats r)) (sym (waiting_at old.feeds.items link feed was)))
-          (λ n own other. ap (λ o. option_map_or waiting o []) (others n other))))
-          (λ other. told_beside topo fs j (waiting_of old.feeds.items) (waiting_of new.feeds.items) (judged j) is.present (is.told j low) r present after
-          (λ n own same. other (sym (manager_is topo j n own) ∙ ap (manager_of topo) (sym same) ∙ of))
-          (λ n own. ap (λ o. option_map_or waiting o []) (others n (λ same. other (sym (manager_is topo j n own) ∙ ap (manager_of topo) same ∙ of)))))
+    after : IsAfter fs r
+    after = is_after fs link f takes.own feed.newest had_left.newest takes.late
 
-      one_fragment : IsApart topo (put_in r fs) judged new
-      one_fragment = record {
-        on = on ∙ is.on;
-        plain = plain ∙ is.plain;
-        present = present;
-        links = many ∙ is.links;
-        feeds = feeds_more;
-        managers = ap (λ ls. length ls.items) same ∙ is.managers;
-        listeners = λ j listener at. is.listeners j listener (ap (λ ls. slice_get ls.items j) (sym same) ∙ at);
-        told = told_there;
-        rows = subst (AreFoundApart topo (put_in r fs) judged) (sym rows)
-            (fragment_more topo fs is.present judged old.found.rows.items is.rows r present after k below has (rows_judged (link_judging (bare topo k)) (left_on topo fs k link) (placed_beats r)) refl);
-      }
+    left_there : left_on topo (put_in r fs) k link ≡ left_after (link_judging (bare topo k)) (left_on topo fs k link) (placed_beats r)
+    left_there = ap (left_after (link_judging (bare topo k)) (opening (bare topo k).exponent)) (at_end fs r is.present present after)
+        ∙ left_after-append (link_judging (bare topo k)) (opening (bare topo k).exponent) (beats_of link fs) (placed_beats r)
 
-      still_passed : (j : ℕ) → j < length topo.managers → ArePassed topo (put_in r fs) j (judged j)
-      still_passed j low = passed_more topo fs j (waiting_of old.feeds.items) (waiting_of new.feeds.items) (judged j) is.present (is.told j low) r present after (passed j low)
+    left_beside : (n : ℕ) → (n ≡ link → ⊥) → left_on topo (put_in r fs) (manager_of topo n) n ≡ left_on topo fs (manager_of topo n) n
+    left_beside n other = ap (left_after (link_judging (bare topo (manager_of topo n))) (opening (bare topo (manager_of topo n)).exponent)) (elsewhere fs r is.present present n (λ same. other (sym same)))
 
-      pub one_comes : HasApart topo (put_in r fs) new
-      one_comes = record { judged = judged; is = one_fragment; passed = still_passed }
+    left_now : HasLeft topo (put_in r fs) link next
+    left_now = record {
+      shows = subst (Shows (bare topo k).exponent next.judge) (sym left_there) (takes.shows (left_on topo fs k link) had_left.shows);
+      newest = subst (IsNewest (put_in r fs) link) (sym takes.newest) (newest_now fs link f takes.own feed.newest had_left.newest takes.late);
+    }
 
-    -- An event more.
-    module _ (k : ℕ) (below : k < length topo.managers) (first : IsFirst old.feeds.items (clients topo k) link) (e : Event) (taken : waiting feed ≡ e ∷ waiting next)
-        (judge : next.judge ≡ feed.judge) (newest : next.newest ≡ feed.newest) (listener heard : Listener) (knew : slice_get old.listeners.items k ≡ Some listener)
-        (knows : slice_get new.listeners.items k ≡ Some heard) (rest : (j : ℕ) → (j ≡ k → ⊥) → slice_get new.listeners.items j ≡ slice_get old.listeners.items j)
-        (all : length new.listeners.items ≡ length old.listeners.items) (numbers : heard.clients ≡ listener.clients) (own : holders.clients_of heard.holders ≡ holders.clients_of listener.holders)
-        (shows : holders.Shows heard.holders (event_next (left_by_events (all_shown (snapshot (bare topo k) [])) (judged k)) e))
-        (rows : new.found.rows.items ≡ old.found.rows.items ++ map (row_of e.place) (event_rules (holders.clients_of listener.holders) (left_by_events (all_shown (snapshot (bare topo k) [])) (judged k)) e)) where
-      abbrev later : ℕ → List Event
-      later = with_one judged k e
+    left_more : (n : ℕ) (one : FeedData) → slice_get changed n ≡ Some one → HasLeft topo (put_in r fs) n one
+    left_more n one at = same_or_not n link (HasLeft topo (put_in r fs) n one)
+        (λ here. let this : next ≡ one = same_Some next one (sym now ∙ ap (slice_get changed) (sym here) ∙ at) in
+        subst (HasLeft topo (put_in r fs) n) this (subst (λ m. HasLeft topo (put_in r fs) m next) (sym here) left_now))
+        (λ other. let had = is.left n one (sym (others n other) ∙ at) in record {
+          shows = subst (Shows (bare topo (manager_of topo n)).exponent one.judge) (sym (left_beside n other)) had.shows;
+          newest = newest_beside fs link f takes.own feed.newest had_left.newest takes.late n one.newest other had.newest;
+        })
 
-      here : later k ≡ judged k ++ e ∷ []
-      here = ap (λ b. cond b (judged k ++ e ∷ []) (judged k)) (itself k)
+    told_there : (j : ℕ) → j < length topo.managers → IsTold topo (put_in r fs) j (waiting_of changed) (judged j)
+    told_there j low = same_or_not j k (IsTold topo (put_in r fs) j (waiting_of changed) (judged j))
+        (λ here. subst (λ i. IsTold topo (put_in r fs) i (waiting_of changed) (judged i)) (sym here)
+        (told_more topo fs k (waiting_of feeds) (waiting_of changed) (judged k) is.present (is.told k takes.managed) r present after (passed k takes.managed) takes.client
+        (waiting_at changed link next now ∙ takes.waits (left_on topo fs k link) had_left.shows ∙ ap (λ es. es ++ link_events (bare topo k) (left_on topo fs k link) (placed_beats r)) (sym (waiting_at feeds link feed was)))
+        (λ n own other. ap (λ o. option_map_or waiting o []) (others n other))))
+        (λ other. told_beside topo fs j (waiting_of feeds) (waiting_of changed) (judged j) is.present (is.told j low) r present after
+        (λ n own same. other (sym (manager_is topo j n own) ∙ ap (manager_of topo) (sym same)))
+        (λ n own. ap (λ o. option_map_or waiting o []) (others n (λ same. other (sym (manager_is topo j n own) ∙ ap (manager_of topo) same)))))
 
-      elsewhere_same : (j : ℕ) → (j ≡ k → ⊥) → later j ≡ judged j
-      elsewhere_same j other = elim (j == k) as (λ b. (j == k) ≡ b → cond b (judged j ++ e ∷ []) (judged j) ≡ judged j) [
-        | true ↦ λ t. absurd (other (grind (arith, nat_tests)))
-        | false ↦ λ t. refl
-      ] refl
+    abbrev more : List Row
+    more = rows_judged (link_judging (bare topo k)) (left_on topo fs k link) (placed_beats r)
 
-      has_it : Contains (clients topo k) link
-      has_it = first.0
+    found_more : AreFoundApart topo (put_in r fs) judged (rows_in changed ++ rows)
+    found_more = subst (λ rs. AreFoundApart topo (put_in r fs) judged (rows_in changed ++ rs)) (append-nil rows)
+        (found_with feeds link feed next was more (takes.rows (left_on topo fs k link) had_left.shows) topo (put_in r fs) judged rows []
+        (subst (AreFoundApart topo (put_in r fs) judged) (sym (append-nil ((rows_in feeds ++ rows) ++ more)))
+        (fragment_more topo fs is.present judged (rows_in feeds ++ rows) is.found r present after k takes.managed takes.client more refl)))
 
-      head_is : first.1 ∷ first.2 ≡ e ∷ waiting next
-      head_is = sym first.3 ∙ waiting_at old.feeds.items link feed was ∙ taken
+    one_fragment : AreApart topo (put_in r fs) judged changed listeners rows
+    one_fragment = record {
+      present = present;
+      links = length-set feeds link next ∙ is.links;
+      left = left_more;
+      managers = is.managers;
+      known = is.known;
+      told = told_there;
+      found = found_more;
+      counted = (let sum = count_set feeds link feed next was in let long = put_length r fs in let one = takes.count in let had = is.counted in omega (arith, sum, long, one, had));
+    }
 
-      one_e : (x y : Event) (xs ys : List Event) → x ∷ xs ≡ y ∷ ys → x ≡ y
-      one_e x y xs ys h = cc
+    still_passed : (j : ℕ) → j < length topo.managers → ArePassed topo (put_in r fs) j (judged j)
+    still_passed j low = passed_more topo fs j (waiting_of feeds) (waiting_of changed) (judged j) is.present (is.told j low) r present after (passed j low)
 
-      knew_it : Knows topo k (judged k) listener
-      knew_it = is.listeners k listener knew
+    pub one_comes : AreApart topo (put_in r fs) judged changed listeners rows × ((j : ℕ) → j < length topo.managers → ArePassed topo (put_in r fs) j (judged j))
+    one_comes = (one_fragment, still_passed)
 
-      told_after : (j : ℕ) → j < length topo.managers → IsTold topo fs j (waiting_of new.feeds.items) (later j)
-      told_after j low = same_or_not j k (IsTold topo fs j (waiting_of new.feeds.items) (later j))
-          (λ same. subst (λ i. IsTold topo fs i (waiting_of new.feeds.items) (later i)) (sym same) (subst (IsTold topo fs k (waiting_of new.feeds.items)) (sym here)
-          (told_next topo fs k (waiting_of old.feeds.items) (waiting_of new.feeds.items) (judged k) is.present (is.told k below) link e (waiting next) has_it
-          (waiting_at old.feeds.items link feed was ∙ taken) (waiting_at new.feeds.items link next now) (λ n other. ap (λ o. option_map_or waiting o []) (others n other))
-          (λ n x more own_n other w. subst (λ d. event_order d x ≡ Less) (one_e first.1 e first.2 (waiting next) head_is) (first.4 n x more own_n other w)))))
-          (λ other. subst (IsTold topo fs j (waiting_of new.feeds.items)) (sym (elsewhere_same j other))
-          (told_alike topo fs j (waiting_of old.feeds.items) (waiting_of new.feeds.items) (judged j) is.present (is.told j low)
-          (λ n own_n. ap (λ o. option_map_or waiting o []) (others n (λ same. other (sym (manager_is topo j n own_n) ∙ ap (manager_of topo) same ∙ manager_is topo k link has_it))))))
+  -- An event more.
+  module _ (k : ℕ) (below : k < length topo.managers) (first : IsFirst feeds (clients topo k) link) (e : Event) (taken : waiting feed ≡ e ∷ waiting next)
+      (rest : next ≡ record feed { waiting = next.waiting }) (listener heard : Listener) (knew : slice_get listeners k ≡ Some listener) (numbers : heard.clients ≡ listener.clients)
+      (own : holders.clients_of heard.holders ≡ holders.clients_of listener.holders)
+      (shows : holders.Shows heard.holders (event_next (left_by_events (all_shown (snapshot (bare topo k) [])) (judged k)) e)) (after : List Row)
+      (put : after ≡ rows ++ map (row_of e.place) (event_rules (holders.clients_of listener.holders) (left_by_events (all_shown (snapshot (bare topo k) [])) (judged k)) e)) where
+    abbrev later : ℕ → List Event
+    later = with_one judged k e
 
-      knows_after : (j : ℕ) (one : Listener) → slice_get new.listeners.items j ≡ Some one → Knows topo j (later j) one
-      knows_after j one at = same_or_not j k (Knows topo j (later j) one)
-          (λ same. let this : heard ≡ one = same_Some heard one (sym knows ∙ ap (slice_get new.listeners.items) (sym same) ∙ at) in
-          subst (Knows topo j (later j)) this (subst (λ i. Knows topo i (later i) heard) (sym same) (record {
-            numbers = ap (λ v. v.items) numbers ∙ knew_it.numbers;
-            own = own ∙ knew_it.own;
-            shows = subst (holders.Shows heard.holders) (sym (ap (left_by_events (all_shown (snapshot (bare topo k) []))) here ∙ left_by_more (all_shown (snapshot (bare topo k) [])) (judged k) e)) shows;
-          })))
-          (λ other. subst (λ es. Knows topo j es one) (sym (elsewhere_same j other)) (is.listeners j one (sym (rest j other) ∙ at)))
+    abbrev all_heard : List Listener
+    all_heard = set listeners k heard
 
-      feeds_after : (n : ℕ) (one : FeedData) → slice_get new.feeds.items n ≡ Some one → HasLeft topo fs n one
-      feeds_after n one at = same_or_not n link (HasLeft topo fs n one)
-          (λ same. let this : next ≡ one = same_Some next one (sym now ∙ ap (slice_get new.feeds.items) (sym same) ∙ at) in
-          let had = is.feeds link feed was in
-          subst (HasLeft topo fs n) this (subst (λ m. HasLeft topo fs m next) (sym same) (record {
-            shows = subst (λ j. Shows (bare topo (manager_of topo link)).exponent j (left_on topo fs (manager_of topo link) link)) (sym judge) had.shows;
-            newest = subst (IsNewest fs link) (sym newest) had.newest;
-          })))
-          (λ other. is.feeds n one (sym (others n other) ∙ at))
+    knows : slice_get all_heard k ≡ Some heard
+    knows = get_set listeners k heard (slice_get_within listeners k listener knew)
 
-      pub one_event : IsApart topo fs later new
-      one_event = record {
-        on = on ∙ is.on;
-        plain = plain ∙ is.plain;
-        present = is.present;
-        links = many ∙ is.links;
-        feeds = feeds_after;
-        managers = all ∙ is.managers;
-        listeners = knows_after;
-        told = told_after;
-        rows = subst (AreFoundApart topo fs later) (sym rows)
-            (event_more topo fs is.present judged old.found.rows.items is.rows k below e later here elsewhere_same
-            (map (row_of e.place) (event_rules (holders.clients_of listener.holders) (left_by_events (all_shown (snapshot (bare topo k) [])) (judged k)) e))
-            (ap (λ cs. map (row_of e.place) (event_rules cs (left_by_events (all_shown (snapshot (bare topo k) [])) (judged k)) e)) knew_it.own));
-      }
+    beside : (j : ℕ) → (j ≡ k → ⊥) → slice_get all_heard j ≡ slice_get listeners j
+    beside j other = get_other listeners k j heard other
+
+    here : later k ≡ judged k ++ e ∷ []
+    here = ap (λ b. cond b (judged k ++ e ∷ []) (judged k)) (itself k)
+
+    elsewhere_same : (j : ℕ) → (j ≡ k → ⊥) → later j ≡ judged j
+    elsewhere_same j other = elim (j == k) as (λ b. (j == k) ≡ b → cond b (judged j ++ e ∷ []) (judged j) ≡ judged j) [
+      | true ↦ λ t. absurd (other (grind (arith, nat_tests)))
+      | false ↦ λ t. refl
+    ] refl
+
+    has_it : Contains (clients topo k) link
+    has_it = first.0
+
+    head_is : first.1 ∷ first.2 ≡ e ∷ waiting next
+    head_is = sym first.3 ∙ waiting_at feeds link feed was ∙ taken
+
+    one_e : (x y : Event) (xs ys : List Event) → x ∷ xs ≡ y ∷ ys → x ≡ y
+    one_e x y xs ys h = cc
+
+    knew_it : Knows topo k (judged k) listener
+    knew_it = is.known k listener knew
+
+    told_after : (j : ℕ) → j < length topo.managers → IsTold topo fs j (waiting_of changed) (later j)
+    told_after j low = same_or_not j k (IsTold topo fs j (waiting_of changed) (later j))
+        (λ same. subst (λ i. IsTold topo fs i (waiting_of changed) (later i)) (sym same) (subst (IsTold topo fs k (waiting_of changed)) (sym here)
+        (told_next topo fs k (waiting_of feeds) (waiting_of changed) (judged k) is.present (is.told k below) link e (waiting next) has_it
+        (waiting_at feeds link feed was ∙ taken) (waiting_at changed link next now) (λ n other. ap (λ o. option_map_or waiting o []) (others n other))
+        (λ n x more own_n other w. subst (λ d. event_order d x ≡ Less) (one_e first.1 e first.2 (waiting next) head_is) (first.4 n x more own_n other w)))))
+        (λ other. subst (IsTold topo fs j (waiting_of changed)) (sym (elsewhere_same j other))
+        (told_alike topo fs j (waiting_of feeds) (waiting_of changed) (judged j) is.present (is.told j low)
+        (λ n own_n. ap (λ o. option_map_or waiting o []) (others n (λ same. other (sym (manager_is topo j n own_n) ∙ ap (manager_of topo) same ∙ manager_is topo k link has_it))))))
+
+    known_after : (j : ℕ) (one : Listener) → slice_get all_heard j ≡ Some one → Knows topo j (later j) one
+    known_after j one at = same_or_not j k (Knows topo j (later j) one)
+        (λ same. let this : heard ≡ one = same_Some heard one (sym knows ∙ ap (slice_get all_heard) (sym same) ∙ at) in
+        subst (Knows topo j (later j)) this (subst (λ i. Knows topo i (later i) heard) (sym same) (record {
+          numbers = ap (λ v. v.items) numbers ∙ knew_it.numbers;
+          own = own ∙ knew_it.own;
+          shows = subst (holders.Shows heard.holders) (sym (ap (left_by_events (all_shown (snapshot (bare topo k) []))) here ∙ left_by_more (all_shown (snapshot (bare topo k) [])) (judged k) e)) shows;
+        })))
+        (λ other. subst (λ es. Knows topo j es one) (sym (elsewhere_same j other)) (is.known j one (sym (beside j other) ∙ at)))
+
+    left_after_event : (n : ℕ) (one : FeedData) → slice_get changed n ≡ Some one → HasLeft topo fs n one
+    left_after_event n one at = same_or_not n link (HasLeft topo fs n one)
+        (λ same. let this : next ≡ one = same_Some next one (sym now ∙ ap (slice_get changed) (sym same) ∙ at) in
+        let had = is.left link feed was in
+        subst (HasLeft topo fs n) this (subst (λ m. HasLeft topo fs m next) (sym same) (record {
+          shows = subst (λ j. Shows (bare topo (manager_of topo link)).exponent j (left_on topo fs (manager_of topo link) link)) (sym (ap (λ (x : FeedData). x.judge) rest)) had.shows;
+          newest = subst (IsNewest fs link) (sym (ap (λ (x : FeedData). x.newest) rest)) had.newest;
+        })))
+        (λ other. is.left n one (sym (others n other) ∙ at))
+
+    abbrev found_now : List Row
+    found_now = map (row_of e.place) (event_rules (holders.clients_of listener.holders) (left_by_events (all_shown (snapshot (bare topo k) [])) (judged k)) e)
+
+    found_after : AreFoundApart topo fs later (rows_in changed ++ (rows ++ found_now))
+    found_after = found_with feeds link feed next was [] (ap (λ (x : FeedData). x.rows) rest ∙ sym (append-nil feed.rows)) topo fs later rows found_now
+        (subst (λ rs. AreFoundApart topo fs later (rs ++ found_now)) (sym (append-nil (rows_in feeds ++ rows)))
+        (event_more topo fs is.present judged (rows_in feeds ++ rows) is.found k below e later here elsewhere_same found_now
+        (ap (λ cs. map (row_of e.place) (event_rules cs (left_by_events (all_shown (snapshot (bare topo k) [])) (judged k)) e)) knew_it.own)))
+
+    pub one_event : AreApart topo fs later changed all_heard after
+    one_event = record {
+      present = is.present;
+      links = length-set feeds link next ∙ is.links;
+      left = left_after_event;
+      managers = length-set listeners k heard ∙ is.managers;
+      known = known_after;
+      told = told_after;
+      found = subst (λ rs. AreFoundApart topo fs later (rows_in changed ++ rs)) (sym put) found_after;
+      counted = (let sum = count_set feeds link feed next was in let same = ap (λ (x : FeedData). x.count) rest in let had = is.counted in omega (arith, sum, same, had));
+    }

@@ -42,9 +42,9 @@ pub reached : (topo : Topology) (fs : List Recorded) (judged : ℕ → List Even
     → HaveComeTo topo apart.feeds.items links front → IsReached topo fs k front
 reached topo fs judged apart k front links is same had link has caches =
     let come = had link (subst (λ ns. Contains ns link) (sym same) has) caches in
-    passed_by fs link front come.1 come.0.newest come.3 come.4 (is.feeds link come.0 come.2).newest
+    passed_by fs link front come.1 come.0.newest come.3 come.4 (is.are.left link come.0 come.2).newest
 
 pub all_reached : (topo : Topology) (fs : List Recorded) (judged : ℕ → List Event) (apart : Apart) (k : ℕ) (listener : Listener) → slice_get apart.listeners.items k ≡ Some listener → IsApart topo fs judged apart
     → (front : Option ℕ) → IfSome front (HaveComeTo topo apart.feeds.items listener.clients.items) → IfSome front (IsReached topo fs k)
 all_reached topo fs judged apart k listener at is None come = come
-all_reached topo fs judged apart k listener at is (Some front) come = reached topo fs judged apart k front listener.clients.items is (is.listeners k listener at).numbers come
+all_reached topo fs judged apart k listener at is (Some front) come = reached topo fs judged apart k front listener.clients.items is (is.are.known k listener at).numbers come

@@ -1,8 +1,9 @@
 -- A manager judges one event after another.
-use Rattle.std.proofs.Common.{◌≡◌, ℕ, ◌+◌, ◌<◌, ◌≤◌, ◌==◌, true, false, cond, List, [], ◌∷◌, ◌++◌, Option, Some, None, length, refl, sym, ap, subst, ◌∙◌, arith}
+use Rattle.std.proofs.Common.{◌≡◌, ℕ, ◌+◌, ◌<◌, ◌≤◌, inl, inr, ◌==◌, true, false, cond, List, [], ◌∷◌, ◌++◌, Option, Some, None, length, refl, sym, ap, subst, ◌∙◌, arith}
 use Rattle.std.specs.Prelude.{nat_le, ◌↔◌}
 use Rattle.std.specs.List.{Contains}
 use Rattle.std.proofs.lemmas.Bool.Decides.{nat_tests}
+use Rattle.std.proofs.lemmas.List.Elements.{Contains-append_left, Contains-append_right, Contains-append_cases}
 use Rattle.tl_topology.specs.Topology.{Topology}
 use Rattle.tl_definitions.specs.Events.{Event}
 use Rattle.tl_beats.specs.declared.Row.{Row}
@@ -11,7 +12,7 @@ use Rattle.tl_definitions.specs.Report.{FindsIn}
 use Rattle.tl_definitions.proofs.LinkLaws.{itself}
 use Rattle.tl_capture.specs.Present.{IsPresent}
 use Rattle.tl_check.specs.Captured.{captures_with}
-use Rattle.tl_apart.specs.Apart.{with_one, GoesOn, HasApart, HasJudged, HaveEnded, IsApart, IsReached}
+use Rattle.tl_apart.specs.Apart.{rows_in, with_one, GoesOn, HasApart, HasJudged, HaveEnded, IsApart, IsReached}
 use Rattle.tl_apart.specs.Feeds.{lies_by, waiting_of, AreSilent, IsDone, IsNext}
 use Rattle.tl_apart.specs.Told.{clients, ArePassed}
 use Rattle.tl_apart.specs.declared.apart.Apart.{Apart}
@@ -82,14 +83,23 @@ one_ended topo fs k old new had low goes = record {
   ] refl;
 }
 
-pub all_ended : (topo : Topology) (fs : List Recorded) (count : ℕ) (apart : Apart) (had : HaveEnded topo fs count apart) → length topo.managers ≤ count
-    → IsPresent fs × ((row : Row) → Contains apart.found.rows.items row ↔ FindsIn (captures_with topo fs [] []) row)
-all_ended topo fs count apart had all = (
-  had.is.present,
-  apart_is_the_report topo fs had.is.present had.judged
-      (λ k low. all_merged topo fs k (waiting_of apart.feeds.items) (waiting_of apart.feeds.items) (had.judged k) had.is.present (had.is.told k low) (λ link has. had.silent k (within k low) link has))
-      apart.found.rows.items had.is.rows,
+pub all_ended : (topo : Topology) (fs : List Recorded) (count : ℕ) (apart : Apart) (had : HaveEnded topo fs count apart) → length topo.managers ≤ count → (rows : List Row)
+    → rows ≡ apart.rows.items ++ rows_in apart.feeds.items → IsPresent fs × ((row : Row) → Contains rows row ↔ FindsIn (captures_with topo fs [] []) row)
+all_ended topo fs count apart had all rows put = (
+  had.is.are.present,
+  λ row. (
+    (λ h. (report row).0 (turned (apart.rows.items) (rows_in apart.feeds.items) row (subst (λ rs. Contains rs row) put h))),
+    (λ finds. subst (λ rs. Contains rs row) (sym put) (turned (rows_in apart.feeds.items) apart.rows.items row ((report row).1 finds))),
+  ),
 )
   where
     within : (k : ℕ) → k < length topo.managers → k < count
     within k low = omega (arith, all)
+
+    turned : (xs ys : List Row) (row : Row) → Contains (xs ++ ys) row → Contains (ys ++ xs) row
+    turned xs ys row h = elim (Contains-append_cases xs ys row h) [ inl one ↦ Contains-append_right ys xs row one | inr other ↦ Contains-append_left ys xs row other ]
+
+    report : (row : Row) → Contains (rows_in apart.feeds.items ++ apart.rows.items) row ↔ FindsIn (captures_with topo fs [] []) row
+    report = apart_is_the_report topo fs had.is.are.present had.judged
+        (λ k low. all_merged topo fs k (waiting_of apart.feeds.items) (waiting_of apart.feeds.items) (had.judged k) had.is.are.present (had.is.are.told k low) (λ link has. had.silent k (within k low) link has))
+        (rows_in apart.feeds.items ++ apart.rows.items) had.is.are.found

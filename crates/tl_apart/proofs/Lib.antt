@@ -1,5 +1,6 @@
 pub mod ApartLaws
 pub mod BeatLaws
+pub mod BesideLaws
 pub mod CaptureLaws
 pub mod EventLaws
 pub mod FirstLaws
@@ -12,4 +13,5 @@ pub mod JudgeLaws
 pub mod ListLaws
 pub mod NumberLaws
 pub mod OpeningLaws
+pub mod RowLaws
 pub mod ToldLaws

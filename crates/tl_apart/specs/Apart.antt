@@ -13,7 +13,7 @@ use Rattle.tl_definitions.specs.Report.{FindsIn}
 use Rattle.tl_capture.specs.Present.{recorded, IsPresent}
 use Rattle.tl_check.specs.Captured.{captures_with}
 use Rattle.tl_check.specs.Managers.{has_caches}
-use Rattle.tl_apart.specs.Feeds.{waiting, waiting_of, AreSilent}
+use Rattle.tl_apart.specs.Feeds.{waiting_of, AreSilent, IsNew}
 use Rattle.tl_apart.specs.Holders as holders
 use Rattle.tl_apart.specs.LinkJudge.{Shows}
 use Rattle.tl_apart.specs.Told.{bare, clients, left_on, HasPassed, IsTold, ArePassed, AreFoundApart}
@@ -41,17 +41,29 @@ pub record Knows (topo : Topology) (k : ℕ) (judged : List Event) (listener : L
   pub own : holders.clients_of listener.holders ≡ clients topo k
   pub shows : holders.Shows listener.holders (left_by_events (all_shown (snapshot (bare topo k) [])) judged)
 
--- These fragments came, and these events of each manager's links were judged.
+-- The rows of the links' own rules, and how many fragments came.
+abbrev pub rows_in : List FeedData → List Row
+rows_in [] = []
+rows_in (feed ∷ feeds) = feed.rows ++ rows_in feeds
+
+abbrev pub count_in : List FeedData → ℕ
+count_in [] = 0
+count_in (feed ∷ feeds) = feed.count + count_in feeds
+
+-- These fragments came, and these events of each manager's links were judged, with these rows of the managers' rules.
+pub record AreApart (topo : Topology) (fs : List Recorded) (judged : ℕ → List Event) (feeds : List FeedData) (listeners : List Listener) (rows : List Row) : Type 0 where
+  pub present : IsPresent fs
+  pub links : length feeds ≡ length topo.links
+  pub left : (link : ℕ) (feed : FeedData) → slice_get feeds link ≡ Some feed → HasLeft topo fs link feed
+  pub managers : length listeners ≡ length topo.managers
+  pub known : (k : ℕ) (listener : Listener) → slice_get listeners k ≡ Some listener → Knows topo k (judged k) listener
+  pub told : (k : ℕ) → k < length topo.managers → IsTold topo fs k (waiting_of feeds) (judged k)
+  pub found : AreFoundApart topo fs judged (rows_in feeds ++ rows)
+  pub counted : count_in feeds ≡ length fs
+
 pub record IsApart (topo : Topology) (fs : List Recorded) (judged : ℕ → List Event) (apart : Apart) : Type 0 where
   pub on : arc_value apart.topo ≡ topo
-  pub plain : apart.none ≡ []
-  pub present : IsPresent fs
-  pub links : length apart.feeds.items ≡ length topo.links
-  pub feeds : (link : ℕ) (feed : FeedData) → slice_get apart.feeds.items link ≡ Some feed → HasLeft topo fs link feed
-  pub managers : length apart.listeners.items ≡ length topo.managers
-  pub listeners : (k : ℕ) (listener : Listener) → slice_get apart.listeners.items k ≡ Some listener → Knows topo k (judged k) listener
-  pub told : (k : ℕ) → k < length topo.managers → IsTold topo fs k (waiting_of apart.feeds.items) (judged k)
-  pub rows : AreFoundApart topo fs judged apart.found.rows.items
+  pub are : AreApart topo fs judged apart.feeds.items apart.listeners.items apart.rows.items
 
 -- These fragments came. Of the links' events those were judged that no other comes before.
 pub record HasApart (topo : Topology) (fs : List Recorded) (apart : Apart) : Type 0 where
@@ -91,7 +103,7 @@ HasJudged topo fs judged old new k link = (e : Event) × (rest : List Event) × 
 -- Of the first links no fragment came.
 pub record AreOpened (topo : Topology) (count : ℕ) (feeds : List FeedData) : Type 0 where
   pub long : length feeds ≡ count
-  pub each : (link : ℕ) (feed : FeedData) → slice_get feeds link ≡ Some feed → HasLeft topo [] link feed × (waiting feed ≡ [])
+  pub each : (link : ℕ) (feed : FeedData) → slice_get feeds link ≡ Some feed → HasLeft topo [] link feed × IsNew feed
 
 -- The first managers know nothing of their links.
 pub record AreListening (topo : Topology) (count : ℕ) (listeners : List Listener) : Type 0 where
@@ -111,6 +123,10 @@ pub record HaveEnded (topo : Topology) (fs : List Recorded) (count : ℕ) (apart
   pub judged : ℕ → List Event
   pub is : IsApart topo fs judged apart
   pub silent : (k : ℕ) → k < count → AreSilent apart.feeds.items (clients topo k)
+
+-- None of the links' feeds is for nothing more.
+abbrev pub AreWell : List FeedData → Type 0
+AreWell feeds = (feed : FeedData) → Contains feeds feed → feed.fault ≡ None
 
 -- This holds of whatever fragments came, and whatever events of one of the managers were judged.
 abbrev pub OfManager : Apart → ℕ → (Topology → List Recorded → (ℕ → List Event) → Type 0) → Type 0

@@ -1,7 +1,8 @@
 -- The links of a manager, and what they told that waits.
 use Rattle.std.specs.Prelude.{ℕ, ◌≡◌, List, [], ◌∷◌, slice_get, Bool, true, ◌&&◌, nat_lt, nat_le, Option, Some, None, if◌then◌else◌}
 use Rattle.std.specs.List.{Contains}
-use Rattle.std.specs.Option.{option_map_or}
+use Rattle.std.specs.Option.{option_map, option_map_or}
+use denote.Ref.{Bor}
 use Rattle.std.specs.declared.cmp.Ordering.TheVariants.{Less}
 use Rattle.tl_beats.specs.Fragments.{Frag}
 use Rattle.tl_beats.specs.declared.Placed.{Placed}
@@ -19,12 +20,23 @@ comes_after (Some n) f = nat_lt n.number f.number && nat_lt n.last f.first
 abbrev pub newest_with : Frag → Newest
 newest_with f = record { number = f.number; last = f.last }
 
+-- No fragment came.
+pub record IsNew (feed : FeedData) : Type 0 where
+  pub waiting : feed.waiting ≡ []
+  pub rows : feed.rows ≡ []
+  pub newest : feed.newest ≡ None
+  pub count : feed.count ≡ 0
+
 -- What waits of a link.
 abbrev pub waiting : FeedData → List definitions.Event
 waiting feed = feed.waiting
 
 abbrev pub waiting_of : List FeedData → ℕ → List definitions.Event
 waiting_of feeds link = option_map_or waiting (slice_get feeds link) []
+
+-- A link, and where its next event is, as it is read there.
+abbrev pub placed : Option (ℕ × Bor Placed) → Option (ℕ × Placed)
+placed first = option_map (λ b. (b.0, b.1.now)) first
 
 -- Of a link and one more with its next event, that which lies first, and where.
 abbrev pub first_of : Option (ℕ × Placed) → ℕ → Option definitions.Event → Option (ℕ × Placed)

@@ -1,4 +1,5 @@
 pub mod Apart
+pub mod Beside
 pub mod Events
 pub mod FeedData
 pub mod Feeds

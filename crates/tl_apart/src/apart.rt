@@ -1,57 +1,41 @@
 //! Links that are judged apart as their fragments come, and what their managers find in what they tell.
 
-ghost use Rattle.std.specs.Prelude.{◌≡◌, ◌<◌, ℕ, true, List, [], length, slice_get, IfOk, IfSome, IsSome, OnOk, MatchOption};
+ghost use Rattle.std.specs.Prelude.{◌≡◌, ◌<◌, ◌++◌, ℕ, true, List, [], None, length, slice_get, IfOk, IfSome, IsSome, OnOk, MatchOption};
 ghost use Rattle.std.specs.Arc.{arc_value};
+ghost use Rattle.std.specs.Fork.{AcceptsEach, ChangesEach};
 ghost use Rattle.tl_topology.specs.Topology.{Topology};
 ghost use Rattle.tl_definitions.specs.Events.{Event as SpecEvent};
 ghost use Rattle.tl_definitions.specs.Positions.{Recorded};
-ghost use Rattle.tl_capture.specs.Present.{recorded, put_in};
+ghost use Rattle.tl_capture.specs.Present.{put_in};
 ghost use Rattle.tl_check.specs.Managers.{has_caches};
-ghost use Rattle.tl_apart.specs.Apart.{manager_of, total, AreListening, AreOpened, AreRowsOf, ComesOn, GoesOn, HasApart, HasComeTo, HaveComeTo};
-ghost use Rattle.tl_apart.specs.Apart.{HasJudged, IsApart, IsReached, Knows, OfFragments, OfManager};
+ghost use Rattle.tl_apart.specs.Apart.{manager_of, rows_in, total, AreListening, AreOpened, AreRowsOf, ComesOn, GoesOn, HasApart, HasComeTo, HaveComeTo};
+ghost use Rattle.tl_apart.specs.Apart.{AreWell, HasJudged, IsApart, IsReached, Knows, OfFragments, OfManager};
 ghost use Rattle.tl_apart.specs.Feeds.{waiting_of, IsDone, IsFirst, IsNext};
 ghost use Rattle.tl_apart.specs.Told.{bare, clients};
 
+use crate::fault::ApartFault;
 use crate::feed::{LinkFeed, next_link};
 use crate::holders::Holders;
-use crate::link_judge::{Findings, Terms};
 use crate::listener::Listener;
 use std::alloc::{AllocError, Global};
 use std::sync::Arc;
+use std::thread::{Threads, for_each_mut};
 use tl_beats::{Fragment, Row};
 use tl_client_rules::clients_of;
 use tl_tables::Level;
-use tl_topology::{RegionMap, Topo};
-
-/// Why a fragment is not taken.
-#[derive(Clone, Copy, Debug, PartialEq, Eq)]
-pub enum ApartFault {
-    /// Memory is refused.
-    Memory,
-    /// The topology lacks its link.
-    UnknownLink,
-    /// It does not come after those of its link, by its number or by its range.
-    Late,
-}
-
-impl From<AllocError> for ApartFault {
-    fn from(_error: AllocError) -> ApartFault {
-        ApartFault::Memory
-    }
-}
+use tl_topology::Topo;
 
 /// The links of a topology, each judged apart as its fragments come, and the managers, which judge what their links tell in the order of
 /// positions. An event waits until all links with caches of its manager have come to its cycle.
 #[derive(Drop)]
 pub struct Apart {
     topo: Arc<Topo>,
-    /// No manager has regions.
-    none: RegionMap,
     /// One for each link, by its number.
     feeds: Vec<LinkFeed>,
     /// One for each manager, by its number.
     listeners: Vec<Listener>,
-    found: Findings,
+    /// The rows of the managers' rules.
+    rows: Vec<Row>,
 }
 
 /// Whether a link has caches.
@@ -135,6 +119,17 @@ fn front_of(topo: &Topo, feeds: &[LinkFeed], clients: &[u16]) -> Option<u64>
     Some(front)
 }
 
+/// The rows of the links' own rules, after others.
+fn all_rows(feeds: &[LinkFeed], others: Vec<Row>) -> Result<Vec<Row>, AllocError>
+    ensures { IfOk result (λ rows. rows.items ≡ others.items ++ rows_in feeds.now) }
+{
+    let mut rows = others;
+    for feed in feeds {
+        rows.extend_from_slice(feed.rows())?;
+    }
+    Ok(rows)
+}
+
 impl Apart {
     /// No fragment of a topology came. AllocError where memory is refused.
     pub fn new(alloc: Global, topo: Arc<Topo>) -> Result<Apart, AllocError>
@@ -144,40 +139,25 @@ impl Apart {
         let listeners = listening(alloc, &topo)?;
         Ok(Apart {
             topo,
-            none: RegionMap::new(alloc),
             feeds,
             listeners,
-            found: Findings {
-                rows: Vec::new(alloc),
-                events: Vec::new(alloc),
-            },
+            rows: Vec::new(alloc),
         })
     }
 
     /// Judges a fragment on its link, and answers the number of the link's manager. Late where it does not come after those of its link.
     /// Memory where memory is refused: then it is for nothing more.
     fn take(&mut self, alloc: Global, link: u16, fragment: &Fragment) -> Result<u16, ApartFault>
-        ensures came { OfFragments self.old (λ topo fs. link < length topo.links
-            → IfOk result (λ k. (k < length topo.managers) × HasApart topo (put_in (recorded link fragment.now) fs) self.new)) }
+        ensures came { OfFragments self.old (λ topo fs. IfOk result (λ k. (k < length topo.managers)
+            × ComesOn topo fragment.now (λ f. HasApart topo (put_in f fs) self.new))) }
     {
         let Some(decl) = self.topo.link(link) else {
-            return Err(ApartFault::UnknownLink);
-        };
-        let Some(exponent) = self.topo.block(decl.manager) else {
             return Err(ApartFault::UnknownLink);
         };
         let Some(feed) = self.feeds.get_mut(usize::from(link)) else {
             return Err(ApartFault::UnknownLink);
         };
-        if !feed.is_before(fragment) {
-            return Err(ApartFault::Late);
-        }
-        let terms = Terms {
-            decl,
-            exponent,
-            regions: &self.none,
-        };
-        feed.take(alloc, &terms, link, fragment, &mut self.found)?;
+        feed.accept(alloc, &self.topo, link, fragment)?;
         Ok(decl.manager)
     }
 
@@ -217,7 +197,7 @@ impl Apart {
         let Some(listener) = self.listeners.get_mut(usize::from(manager)) else {
             return Ok(());
         };
-        listener.holders.step(&event, &mut self.found.rows)?;
+        listener.holders.step(&event, &mut self.rows)?;
         Ok(())
     }
 
@@ -257,6 +237,50 @@ impl Apart {
         Ok(())
     }
 
+    /// Each manager judges what no later fragment comes before. AllocError where memory is refused: then it is for nothing more.
+    pub fn catch_up_all(&mut self) -> Result<(), AllocError>
+        ensures { OfFragments self.old (λ topo fs. OnOk result (HasApart topo fs self.new)) }
+    {
+        for manager in 0..self.topo.manager_count() {
+            self.catch_up(manager as u16)?;
+        }
+        Ok(())
+    }
+
+    /// Has threads change the links' feeds, at most so many at a time; each is changed by one of them, which is given its number.
+    pub fn beside<R: Threads + Sync, F: Fn(usize, &mut LinkFeed) + Sync>(
+        &mut self,
+        rt: &R,
+        threads: usize,
+        change: &F,
+    )
+        requires threads { 0 < threads }
+        requires accepts { AcceptsEach F.Fn change.now self.old.feeds.items }
+        ensures changes { ChangesEach F.Fn change.now self.old.feeds.items self.new.feeds.items }
+        ensures many { length self.new.feeds.items ≡ length self.old.feeds.items }
+        ensures rest { self.new ≡ record self.old { feeds = self.new.feeds } }
+    {
+        for_each_mut(rt, &mut self.feeds, threads, change);
+    }
+
+    /// Why a link's feed is for nothing more, if one is: that of the first such.
+    pub fn fault(&self) -> Option<ApartFault>
+        ensures { result ≡ None → AreWell self.now.feeds.items }
+    {
+        self.feeds.iter().find_map(|feed| feed.fault())
+    }
+
+    /// How many fragments came; None where they can't be counted.
+    pub fn count(&self) -> Option<u64>
+        ensures { OfFragments self.now (λ _ fs. IfSome result (λ count. count ≡ length fs)) }
+    {
+        let mut count: u64 = 0;
+        for feed in &self.feeds {
+            count = count.checked_add(feed.count())?;
+        }
+        Some(count)
+    }
+
     /// The rows of the report of the fragments that came, in any order. AllocError where memory is refused.
     pub fn rows(self) -> Result<Vec<Row>, AllocError>
         ensures { OfFragments self (λ topo fs. IfOk result (λ rows. AreRowsOf topo fs rows.items)) }
@@ -266,7 +290,8 @@ impl Apart {
         for manager in 0..count {
             apart.judge_to(manager as u16, None)?;
         }
-        let Apart { found, .. } = apart;
-        Ok(found.rows)
+        let Apart { feeds, rows, .. } = apart;
+        let rows = all_rows(&feeds, rows)?;
+        Ok(rows)
     }
 }

@@ -1,6 +1,6 @@
 //! One link that is judged apart, and what it told that its manager has not judged yet.
 
-ghost use Rattle.std.specs.Prelude.{◌≡◌, ◌∷◌, ◌++◌, [], Some, None, false, slice_get, IfSome, IsSome, MatchOption, OnOk};
+ghost use Rattle.std.specs.Prelude.{◌≡◌, ◌∷◌, ◌++◌, ◌+◌, [], Some, false, slice_get, IfSome, IsSome, MatchOption, OnOk};
 ghost use Rattle.std.specs.Option.{option_map, option_map_or};
 ghost use Rattle.tl_topology.specs.Topology.{IsSound};
 ghost use Rattle.tl_definitions.specs.Events.{link_events};
@@ -9,17 +9,20 @@ ghost use Rattle.tl_definitions.specs.Passes.{rows_judged, left_after};
 ghost use Rattle.tl_definitions.specs.Positions.{placed_beats};
 ghost use Rattle.tl_capture.specs.Present.{recorded, IsCapture};
 ghost use Rattle.tl_check.specs.Apart.{opening};
+ghost use Rattle.tl_apart.specs.Beside.{Takes};
 ghost use Rattle.tl_apart.specs.Events.{said};
-ghost use Rattle.tl_apart.specs.Feeds.{waiting_of, first_of, comes_after, newest_with, AreOwn, AreSilent, IsDone, IsFirst, IsNext, lies_by};
+ghost use Rattle.tl_apart.specs.Feeds.{waiting_of, first_of, placed, comes_after, newest_with, AreOwn, AreSilent, IsDone, IsFirst, IsNew, IsNext, lies_by};
 ghost use Rattle.tl_apart.specs.LinkJudge.{Shows, ForShown};
 
 use crate::event::Event;
+use crate::fault::ApartFault;
 use crate::link_judge::{Findings, LinkJudge, Terms};
 use crate::order::lies_before;
-use std::alloc::{AllocError, Global};
+use std::alloc::Global;
 use std::collections::VecDeque;
 use std::marker::Model;
-use tl_beats::{Fragment, Placed};
+use tl_beats::{Fragment, Placed, Row};
+use tl_topology::{RegionMap, Topo};
 
 /// The fragment of a link that came last.
 #[derive(Clone, Copy, Debug, PartialEq, Eq)]
@@ -32,11 +35,15 @@ pub(crate) struct Newest {
 
 /// A link that is judged apart.
 #[derive(Drop)]
-pub(crate) struct LinkFeed {
+pub struct LinkFeed {
     judge: LinkJudge,
-    /// What it told that its manager has not judged.
-    waiting: VecDeque<Event>,
+    /// The rows of its own rules, and what it told that its manager has not judged.
+    found: Findings,
     newest: Option<Newest>,
+    /// How many fragments came.
+    count: u64,
+    /// Why it is for nothing more, if it is.
+    fault: Option<ApartFault>,
 }
 
 impl Model for LinkFeed {
@@ -51,32 +58,26 @@ impl Model for LinkFeed {
 
     ghost coded = { Prim.hlevel (codes, link_judge.the_row.coded) };
 
-    ghost view = { λ f. record { judge = f.judge; waiting = map said f.waiting.items; newest = f.newest } };
+    ghost view = { λ f. record { judge = f.judge; waiting = map said f.found.events.items; rows = f.found.rows.items; newest = f.newest; count = f.count; fault = f.fault } };
 
     ghost invariant = { λ f. AreFormed f.judge };
-}
-
-/// Puts events behind others.
-fn put_all(waiting: &mut VecDeque<Event>, events: &[Event]) -> Result<(), AllocError>
-    ensures { OnOk result (waiting.new.items ≡ waiting.old.items ++ events.now) }
-{
-    for event in events {
-        waiting.push_back(*event)?;
-    }
-    Ok(())
 }
 
 impl LinkFeed {
     /// No fragment of a link came. A block of its manager has 2 to the exponent bytes.
     pub(crate) fn new(alloc: Global, exponent: u8) -> LinkFeed
         ensures shows { Shows exponent result.judge (opening exponent) }
-        ensures waiting { result.waiting ≡ [] }
-        ensures newest { result.newest ≡ None }
+        ensures nothing { IsNew result }
     {
         LinkFeed {
             judge: LinkJudge::new(alloc, exponent),
-            waiting: VecDeque::new(alloc),
+            found: Findings {
+                rows: Vec::new(alloc),
+                events: VecDeque::new(alloc),
+            },
             newest: None,
+            count: 0,
+            fault: None,
         }
     }
 
@@ -87,8 +88,36 @@ impl LinkFeed {
         self.newest
     }
 
+    /// How many fragments came.
+    pub(crate) fn count(&self) -> u64
+        ensures { result ≡ self.now.count }
+    {
+        self.count
+    }
+
+    /// Why it is for nothing more, if it is.
+    pub(crate) fn fault(&self) -> Option<ApartFault>
+        ensures { result ≡ self.now.fault }
+    {
+        self.fault
+    }
+
+    /// It is for nothing more.
+    pub fn fail(&mut self, fault: ApartFault)
+        ensures { self.new.fault ≡ Some fault }
+    {
+        self.fault = Some(fault);
+    }
+
+    /// The rows of its own rules.
+    pub(crate) fn rows(&self) -> &[Row]
+        ensures { result.now ≡ self.now.rows }
+    {
+        self.found.rows.as_slice()
+    }
+
     /// Whether a fragment comes after all that came, by its number and its range.
-    pub(crate) fn is_before(&self, fragment: &Fragment) -> bool
+    fn is_before(&self, fragment: &Fragment) -> bool
         ensures { result ≡ comes_after self.now.newest fragment.now }
     {
         match self.newest {
@@ -97,36 +126,75 @@ impl LinkFeed {
         }
     }
 
-    /// Judges the next fragment: puts the rows of its link's own rules at the end; what it tells waits for the manager, and stands in the
-    /// findings alone. AllocError where
-    /// memory is refused: then it is for nothing more.
-    pub(crate) fn take(
+    /// Judges the next fragment: keeps the rows of its link's own rules; what it tells waits for the manager. Memory where memory is
+    /// refused: then it is for nothing more.
+    fn take(
         &mut self,
         alloc: Global,
         terms: &Terms<'_>,
         link: u16,
         fragment: &Fragment,
-        found: &mut Findings,
-    ) -> Result<(), AllocError>
+    ) -> Result<(), ApartFault>
         requires decl { IsSound terms.now.decl.now }
-        ensures rows { ForShown terms.now link self.old.judge (λ m s. OnOk result (found.new.rows.items
-            ≡ found.old.rows.items ++ rows_judged (link_judging m) s (placed_beats (recorded link fragment.now)))) }
+        ensures rows { ForShown terms.now link self.old.judge (λ m s. OnOk result (self.new.rows
+            ≡ self.old.rows ++ rows_judged (link_judging m) s (placed_beats (recorded link fragment.now)))) }
         ensures next { ForShown terms.now link self.old.judge (λ m s. OnOk result
             (Shows terms.now.exponent self.new.judge (left_after (link_judging m) s (placed_beats (recorded link fragment.now))))) }
         ensures waiting { ForShown terms.now link self.old.judge (λ m s. OnOk result (self.new.waiting
             ≡ self.old.waiting ++ link_events m s (placed_beats (recorded link fragment.now)))) }
         ensures newest { OnOk result (self.new.newest ≡ Some (newest_with fragment.now)) }
+        ensures count { OnOk result (self.new.count ≡ self.old.count + 1) }
         ensures capture { OnOk result (IsCapture (recorded link fragment.now)) }
     {
-        found.events.clear();
-        self.judge.judge(alloc, terms, link, fragment, found)?;
-        put_all(&mut self.waiting, &found.events)?;
+        let Some(count) = self.count.checked_add(1) else {
+            return Err(ApartFault::Memory);
+        };
+        self.judge
+            .judge(alloc, terms, link, fragment, &mut self.found)?;
         // Its beats lie in its range.
         let _ = fragment.beats();
         self.newest = Some(Newest {
             number: fragment.number(),
             last: fragment.last(),
         });
+        self.count = count;
+        Ok(())
+    }
+
+    /// Takes the next fragment of a link of a topology, which comes after those before: judges it there, and what it tells waits for the
+    /// link's manager. A fault where the topology lacks the link, where the fragment is of another link or does not come after those
+    /// before, and where memory is refused; at want of memory it is for nothing more.
+    pub fn accept(
+        &mut self,
+        alloc: Global,
+        topo: &Topo,
+        link: u16,
+        fragment: &Fragment,
+    ) -> Result<(), ApartFault>
+        ensures { OnOk result (Takes topo.now link fragment.now self.old self.new) }
+    {
+        let Some(own) = topo.link_of(&fragment.link()) else {
+            return Err(ApartFault::UnknownLink);
+        };
+        if own != link {
+            return Err(ApartFault::UnknownLink);
+        }
+        let Some(decl) = topo.link(link) else {
+            return Err(ApartFault::UnknownLink);
+        };
+        let Some(exponent) = topo.block(decl.manager) else {
+            return Err(ApartFault::UnknownLink);
+        };
+        if !self.is_before(fragment) {
+            return Err(ApartFault::Late);
+        }
+        let none = RegionMap::new(alloc);
+        let terms = Terms {
+            decl,
+            exponent,
+            regions: &none,
+        };
+        self.take(alloc, &terms, link, fragment)?;
         Ok(())
     }
 
@@ -134,16 +202,15 @@ impl LinkFeed {
     pub(crate) fn next(&self) -> Option<&Event>
         ensures { option_map (λ e. said e.now) result ≡ slice_get self.now.waiting 0 }
     {
-        self.waiting.front()
+        self.found.events.front()
     }
 
     /// Takes the next event that waits.
     pub(crate) fn take_next(&mut self) -> Option<Event>
         ensures next { MatchOption result (self.old.waiting ≡ []) (λ e. self.old.waiting ≡ said e ∷ self.new.waiting) }
-        ensures judge { self.new.judge ≡ self.old.judge }
-        ensures newest { self.new.newest ≡ self.old.newest }
+        ensures rest { self.new ≡ record self.old { waiting = self.new.waiting } }
     {
-        self.waiting.pop_front()
+        self.found.events.pop_front()
     }
 }
 
@@ -158,13 +225,17 @@ pub(crate) fn next_of(feeds: &[LinkFeed], link: u16) -> Option<&Event>
 }
 
 /// That of two links whose next event lies first: this, or the one before.
-fn first_of(first: Option<(u16, Placed)>, link: u16, next: Option<&Event>) -> Option<(u16, Placed)>
-    ensures { result ≡ first_of first link (option_map (λ e. said e.now) next.entry) }
+fn first_of<'a>(
+    first: Option<(u16, &'a Placed)>,
+    link: u16,
+    next: Option<&'a Event>,
+) -> Option<(u16, &'a Placed)>
+    ensures { placed result ≡ first_of (placed first.entry) link (option_map (λ e. said e.now) next.entry) }
 {
     match (first, next) {
-        (None, Some(event)) => Some((link, event.place)),
-        (Some((_, place)), Some(event)) if lies_before(&event.place, &place) => {
-            Some((link, event.place))
+        (None, Some(event)) => Some((link, &event.place)),
+        (Some((_, place)), Some(event)) if lies_before(&event.place, place) => {
+            Some((link, &event.place))
         }
         _ => first,
     }
@@ -174,7 +245,7 @@ fn first_of(first: Option<(u16, Placed)>, link: u16, next: Option<&Event>) -> Op
 pub(crate) fn first_link(feeds: &[LinkFeed], clients: &[u16]) -> Option<u16>
     ensures { AreOwn feeds.now clients.now → MatchOption result (AreSilent feeds.now clients.now) (IsFirst feeds.now clients.now) }
 {
-    let mut first: Option<(u16, Placed)> = None;
+    let mut first: Option<(u16, &Placed)> = None;
     for client in clients {
         first = first_of(first, *client, next_of(feeds, *client));
     }

@@ -3,6 +3,7 @@
 
 mod apart;
 mod event;
+mod fault;
 mod feed;
 mod grants;
 mod holder;
@@ -11,4 +12,6 @@ mod link_judge;
 mod listener;
 mod order;
 
-pub use apart::{Apart, ApartFault, has_caches};
+pub use apart::{Apart, has_caches};
+pub use fault::ApartFault;
+pub use feed::LinkFeed;

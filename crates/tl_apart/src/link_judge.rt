@@ -23,6 +23,7 @@ ghost use Rattle.tl_apart.specs.LinkJudge.{Shows, AreFormed, ForShown, alone, is
 
 use crate::event::Event;
 use std::alloc::{AllocError, Global};
+use std::collections::VecDeque;
 use tl_beats::{Beat, Fragment, Placed, Request, Row};
 use tl_check::add_rows;
 use tl_client_rules::{ClientState, block_of, claim, granted_block};
@@ -50,8 +51,8 @@ pub struct Terms<'a> {
 pub struct Findings {
     /// The rows of the link's own rules.
     pub rows: Vec<Row>,
-    /// What its manager reads.
-    pub events: Vec<Event>,
+    /// What its manager has not read yet.
+    pub events: VecDeque<Event>,
 }
 
 /// What the beats of one link leave for those that come: what is unfinished and in flight, what its client can hold, and what is open
@@ -215,7 +216,7 @@ impl LinkJudge {
         terms: &Terms<'_>,
         at: &Placed,
         head: &Head,
-        events: &mut Vec<Event>,
+        events: &mut VecDeque<Event>,
     ) -> Result<(), AllocError>
         requires decl { IsSound terms.now.decl.now }
         requires beat { IsWellFormed at.now.beat }
@@ -244,13 +245,13 @@ impl LinkJudge {
         exponent: u8,
         at: &Placed,
         head: &Head,
-        events: &mut Vec<Event>,
+        events: &mut VecDeque<Event>,
     ) -> Result<(), AllocError>
         ensures { (s : LinkSnapshot) → Shows exponent self.now s → OnOk result (map said events.new.items
             ≡ map said events.old.items ++ with_event (told_by exponent s.past at.now (is_message at.now.beat head.now)) []) }
     {
         if let Some(event) = self.event(exponent, at, head) {
-            events.push(event)?;
+            events.push_back(event)?;
         }
         Ok(())
     }

@@ -164,19 +164,29 @@ where
     )
 }
 
+/// Counts the files with these heads.
+pub(crate) fn count_files<R: Files, G: Gauge>(
+    rt: &R,
+    queue: Queue<'_>,
+    heads: &[Head],
+    read: &mut FilesRead<'_, G>,
+) {
+    for head in heads {
+        if let Ok(path) = queue.path_of(head) {
+            read.count(bytes_of(rt, path));
+        }
+    }
+}
+
 /// Counts the files of groups.
-fn count<R: Files, G: Gauge>(
+fn count_groups<R: Files, G: Gauge>(
     rt: &R,
     queue: Queue<'_>,
     groups: &[Group],
     read: &mut FilesRead<'_, G>,
 ) {
     for group in groups {
-        for head in group.heads(queue.heads) {
-            if let Ok(path) = queue.path_of(head) {
-                read.count(bytes_of(rt, path));
-            }
-        }
+        count_files(rt, queue, group.heads(queue.heads), read);
     }
 }
 
@@ -198,7 +208,7 @@ where
     for round in groups.chunks(usize::from(workers) + 1) {
         let parts = parts_of(rt, sieve, queue, round)?;
         whole.add_all(sieve.topo, &parts)?;
-        count(rt, queue, round, read);
+        count_groups(rt, queue, round, read);
     }
     Ok(whole.report())
 }

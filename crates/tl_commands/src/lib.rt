@@ -8,6 +8,7 @@ mod doctor;
 mod fault;
 mod files;
 mod heads;
+mod lanes;
 mod merging;
 mod midway;
 mod page;

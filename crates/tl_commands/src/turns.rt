@@ -8,6 +8,7 @@ use crate::beside::{groups_of, rows_beside};
 use crate::fault::Fault;
 use crate::files::{are_files, fragment_at, listed};
 use crate::heads::{Queue, in_turn};
+use crate::lanes::{are_lanes, rows_of_lanes};
 use crate::page::Page;
 use crate::progress::{FilesRead, Gauge};
 use std::alloc::Global;
@@ -79,7 +80,8 @@ impl<'r, 'a, 'p, 'g, R: Files + AllocGlobal, G: Gauge> Supply for FileSupply<'r,
     }
 }
 
-/// The report of the fragments of files, which are judged in this order, by so many threads beside this one where there are several parts.
+/// The report of the fragments of files, which are judged in this order, by so many threads beside this one: each has parts of its own
+/// where there are several, and else links.
 fn taken_of<R: Files + Threads + Sync + AllocGlobal, G: Gauge>(
     rt: &R,
     sieve: Sieve<'_>,
@@ -96,6 +98,9 @@ where
         let groups = groups_of(rt.alloc(), sieve.topo, queue.heads, workers)?;
         if groups.len() > 1 {
             return rows_beside(rt, sieve, queue, &groups, workers, read);
+        }
+        if are_lanes(sieve.topo, queue.heads) {
+            return rows_of_lanes(rt, sieve, queue, workers, read);
         }
     }
     let mut supply = FileSupply::new(rt, sieve, queue, read);

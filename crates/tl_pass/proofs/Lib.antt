@@ -1,3 +1,4 @@
+pub mod BesideLaws
 pub mod JoinLaws
 pub mod LinkPassLaws
 pub mod ManagerPassLaws

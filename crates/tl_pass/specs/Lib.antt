@@ -1,3 +1,4 @@
+pub mod Beside
 pub mod LinkPass
 pub mod ManagerPass
 pub mod Parts

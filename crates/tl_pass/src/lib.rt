@@ -2,12 +2,14 @@
 #![tactic(auto)]
 
 mod apart_pass;
+mod beside;
 mod link_pass;
 mod manager_pass;
 mod part;
 mod pass;
 mod supply;
 
+pub use beside::{Beside, Lanes, feed_all};
 pub use link_pass::{LinkPass, has_no_caches};
 pub use manager_pass::ManagerPass;
 pub use part::{Links, Part, Whole, can_part};

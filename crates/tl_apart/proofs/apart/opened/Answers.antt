@@ -13,4 +13,4 @@ loop-link-preserved c =
     let link : ℕ = c.loop-link.link in
     let exact : c.unwrap-exponent.result ≡ (bare topo (manager_of topo link)).exponent = subst (λ o. IfSome o (λ e. e ≡ (bare topo (manager_of topo link)).exponent)) c.unwrap-exponent.ensures c.block_of.ensures.exact in
     opened_more topo link c.loop-link.feeds.items c.push.new.self.items c.new.result c.loop-link.invariant c.in_ok-push.ensures.items
-    (subst (λ e. Shows e c.new.result.judge (opening e)) exact c.new.ensures.shows) c.new.ensures.waiting c.new.ensures.newest
+    (subst (λ e. Shows e c.new.result.judge (opening e)) exact c.new.ensures.shows) c.new.ensures.nothing

@@ -10,4 +10,4 @@ returns c =
     let topo : Topology = arc_value c.args.topo in
     let feeds = subst (λ (t : Topology). AreOpened t (length t.links) c.in_ok-feeds.feeds.items) c.deref.ensures c.in_ok-feeds.ensures in
     let listeners = subst (λ (t : Topology). AreListening t (length t.managers) c.in_ok-listeners.listeners.items) c.deref-2.ensures c.in_ok-listeners.ensures in
-    opening topo _ refl c.new.ensures feeds listeners c.new-2.ensures.items
+    opening topo _ refl feeds listeners c.new.ensures.items

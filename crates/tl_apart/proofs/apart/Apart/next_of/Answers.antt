@@ -14,8 +14,8 @@ returns-in-Some-clause-next c topo fs judged is low =
     let listener : Listener = c.in-Some.listener.now in
     let at : slice_get c.args.self.now.listeners.items k ≡ Some listener = subst (λ ls. slice_get ls k ≡ Some listener) c.deref.ensures.value
     (found_at c.deref.result.now c.from.result k listener c.in-Some.ensures.lookup.0 c.in-Some.ensures.lookup.1 c.from.ensures) in
-    let numbers : c.deref-in-Some-2.result.now ≡ clients topo k = c.deref-in-Some-2.ensures.value ∙ (is.listeners k listener at).numbers in
-    let own : AreOwn feeds (clients topo k) = λ link e has h. of_link topo fs k (waiting_of feeds) (waiting_of feeds) (judged k) is.present (is.told k low) link e has h in
+    let numbers : c.deref-in-Some-2.result.now ≡ clients topo k = c.deref-in-Some-2.ensures.value ∙ (is.are.known k listener at).numbers in
+    let own : AreOwn feeds (clients topo k) = λ link e has h. of_link topo fs k (waiting_of feeds) (waiting_of feeds) (judged k) is.are.present (is.are.told k low) link e has h in
     let next = subst (λ cs. AreOwn feeds cs → MatchOption c.next_link.result (IsDone feeds cs c.args.until) (IsNext feeds cs c.args.until)) numbers
     (subst (λ fs. AreOwn fs c.deref-in-Some-2.result.now → MatchOption c.next_link.result (IsDone fs c.deref-in-Some-2.result.now c.args.until) (IsNext fs c.deref-in-Some-2.result.now c.args.until)) c.deref-in-Some.ensures.value
     c.next_link.ensures.next) in

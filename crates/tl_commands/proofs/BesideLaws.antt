@@ -1,5 +1,5 @@
 -- The fragments of parts that several threads judged.
-use Rattle.std.proofs.Common.{ℕ, zero, suc, List, [], ◌∷◌, Ok, Err, arith}
+use Rattle.std.proofs.Common.{zero, suc, List, [], ◌∷◌, Ok, Err, arith}
 use Rattle.std.specs.Prelude.{Result, IfOk}
 use Rattle.tl_topology.specs.Topology.{Topology}
 use Rattle.tl_beats.specs.Fragments.{Frag}

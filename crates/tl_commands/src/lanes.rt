@@ -5,6 +5,7 @@ ghost use Rattle.tl_beats.specs.Fragments.{Frag};
 ghost use Rattle.tl_pass.specs.Reports.{IsTaken};
 
 use crate::beside::count_files;
+use crate::files::bytes_of;
 use crate::heads::{Head, Queue};
 use crate::progress::{FilesRead, Gauge, Untold};
 use crate::turns::FileSupply;
@@ -16,33 +17,72 @@ use tl_pass::{Beside, Hitch, Lanes, Taken, feed_all, has_no_caches};
 use tl_stream::Sieve;
 use tl_topology::Topo;
 
-/// How many files each thread reads and judges in a round, about. What they tell their managers waits until its end.
-const FILES_EACH: usize = 32;
+/// With fewer threads beside this one, links that are judged beside each other take as long as one thread takes for all of them.
+const LEAST_WORKERS: u8 = 3;
 
-/// Whether links of files are to be judged beside each other: some have caches, and there are several.
-pub(crate) fn are_lanes(topo: &Topo, heads: &[Head]) -> bool {
+/// How many bytes the files of a round have, about. What they tell their managers waits until its end, in some two bytes each.
+const ROUND_BYTES: u64 = 8_388_608;
+
+/// Whether links of files are to be judged beside each other: some have caches, there are several, and so are threads.
+pub(crate) fn are_lanes(topo: &Topo, heads: &[Head], workers: u8) -> bool {
     let Some(first) = heads.first() else {
         return false;
     };
-    !has_no_caches(topo) && heads.iter().any(|head| head.link != first.link)
+    workers >= LEAST_WORKERS
+        && !has_no_caches(topo)
+        && heads.iter().any(|head| head.link != first.link)
 }
 
-/// Files of links, so many in a round.
+/// The places of heads in a row, up to an end.
+#[derive(Clone, Copy)]
+struct Round {
+    from: usize,
+    end: usize,
+}
+
+/// The rounds of files.
+fn rounds_of<R: Files + AllocGlobal>(rt: &R, queue: Queue<'_>) -> Result<Vec<Round>, AllocError> {
+    let mut rounds: Vec<Round> = Vec::new(rt.alloc());
+    let mut bytes = ROUND_BYTES;
+    for (place, head) in queue.heads.iter().enumerate() {
+        if bytes >= ROUND_BYTES {
+            rounds.push(Round {
+                from: place,
+                end: place,
+            })?;
+            bytes = 0;
+        }
+        if let Some(round) = rounds.last_mut() {
+            round.end = place.saturating_add(1);
+        }
+        if let Ok(path) = queue.path_of(head) {
+            bytes = bytes.saturating_add(bytes_of(rt, path));
+        }
+    }
+    Ok(rounds)
+}
+
+/// Files of links, in rounds.
 #[derive(Drop)]
-struct FileLanes<'r, 'a, R> {
+struct FileLanes<'r, 'a, 'q, R> {
     rt: &'r R,
     sieve: Sieve<'a>,
-    queue: Queue<'a>,
-    size: usize,
+    queue: Queue<'q>,
+    rounds: &'q [Round],
 }
 
-impl<'r, 'a, R: Files + AllocGlobal> FileLanes<'r, 'a, R> {
-    /// The heads of a link's files in a round.
-    fn heads(&self, alloc: Global, round: usize, link: u16) -> Result<Vec<Head>, AllocError> {
-        let from = round.saturating_mul(self.size);
-        let end = from.saturating_add(self.size).min(self.queue.heads.len());
-        let heads = self.queue.heads.get(from..end).unwrap_or(&[]);
-        heads
+impl<'r, 'a, 'q, R: Files + AllocGlobal> FileLanes<'r, 'a, 'q, R> {
+    /// The heads of the files of a round.
+    fn heads(&self, round: usize) -> &'q [Head] {
+        match self.rounds.get(round) {
+            Some(round) => self.queue.heads.get(round.from..round.end).unwrap_or(&[]),
+            None => &[],
+        }
+    }
+
+    /// Those of a link.
+    fn own_heads(&self, alloc: Global, round: usize, link: u16) -> Result<Vec<Head>, AllocError> {
+        self.heads(round)
             .iter()
             .copied()
             .filter(|head| head.link == link)
@@ -50,7 +90,7 @@ impl<'r, 'a, R: Files + AllocGlobal> FileLanes<'r, 'a, R> {
     }
 }
 
-impl<'r, 'a, R: Files + AllocGlobal> Lanes for FileLanes<'r, 'a, R> {
+impl<'r, 'a, 'q, R: Files + AllocGlobal> Lanes for FileLanes<'r, 'a, 'q, R> {
     ghost gives = { λ _ _ _ _. Unit {0} };
 
     fn fill(
@@ -61,7 +101,7 @@ impl<'r, 'a, R: Files + AllocGlobal> Lanes for FileLanes<'r, 'a, R> {
         link: u16,
         feed: &mut LinkFeed,
     ) -> Result<(), Hitch> {
-        let own = self.heads(alloc, round, link)?;
+        let own = self.own_heads(alloc, round, link)?;
         let mut gauge = Untold;
         let mut read = FilesRead::none_of(own.len(), &mut gauge);
         let queue = self.queue.only(&own);
@@ -84,17 +124,17 @@ where
     ensures { IfOk result (λ taken. (fs : List Frag) × IsTaken sieve.entry.topo.now fs taken) }
 {
     let threads = usize::from(workers) + 1;
-    let size = threads * FILES_EACH;
+    let rounds = rounds_of(rt, queue)?;
     let lanes = FileLanes {
         rt,
         sieve,
         queue,
-        size,
+        rounds: &rounds,
     };
     let mut beside = Beside::new(rt.alloc(), sieve.topo)?;
-    for (round, heads) in queue.heads.chunks(size).enumerate() {
+    for round in 0..rounds.len() {
         beside.round(rt, threads, round, &lanes)?;
-        count_files(rt, queue, heads, read);
+        count_files(rt, queue, lanes.heads(round), read);
     }
     beside.report()
 }

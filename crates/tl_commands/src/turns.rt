@@ -99,7 +99,7 @@ where
         if groups.len() > 1 {
             return rows_beside(rt, sieve, queue, &groups, workers, read);
         }
-        if are_lanes(sieve.topo, queue.heads) {
+        if are_lanes(sieve.topo, queue.heads, workers) {
             return rows_of_lanes(rt, sieve, queue, workers, read);
         }
     }

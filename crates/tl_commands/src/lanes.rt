@@ -20,7 +20,7 @@ use tl_topology::Topo;
 /// With fewer threads beside this one, links that are judged beside each other take as long as one thread takes for all of them.
 const LEAST_WORKERS: u8 = 3;
 
-/// How many bytes the files of a round have, about. What they tell their managers waits until its end, in some two bytes each.
+/// How many bytes the files of a round have, about. What they tell their managers waits until its end, in some 16 MB.
 const ROUND_BYTES: u64 = 8_388_608;
 
 /// Whether links of files are to be judged beside each other: some have caches, there are several, and so are threads.

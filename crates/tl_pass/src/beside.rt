@@ -107,9 +107,8 @@ fn fill_one<L: Lanes>(
 }
 
 /// Has threads fill the feeds of all links, at most so many at a time.
-fn fill_all<R: Threads + Sync, L: Lanes + Sync>(
+fn fill_all<R: Threads + Sync + AllocGlobal, L: Lanes + Sync>(
     rt: &R,
-    alloc: Global,
     topo: &Topo,
     round: usize,
     lanes: &L,
@@ -120,6 +119,7 @@ fn fill_all<R: Threads + Sync, L: Lanes + Sync>(
     ensures feeds { AreFilled (L.gives lanes.now round) topo.now apart.old.feeds.items apart.new.feeds.items }
     ensures rest { apart.new ≡ record apart.old { feeds = apart.new.feeds } }
 {
+    let alloc = rt.alloc();
     let fill = |place: usize, feed: &mut LinkFeed|
         ensures { Filled (L.gives lanes.entry.now round) topo.entry.now place feed.entry.now feed.exit.now }
     { fill_one(alloc, topo, round, lanes, place, feed) };
@@ -156,15 +156,7 @@ impl Beside {
         ensures { (topo : Topology) (fs : List Frag) → IsBeside topo fs self.old
             → OnOk result (IsRound (L.gives lanes.now round) topo (λ each. IsBeside topo (fs ++ flat_map (λ own. own) each) self.new)) }
     {
-        fill_all(
-            rt,
-            rt.alloc(),
-            &self.topo,
-            round,
-            lanes,
-            threads,
-            &mut self.apart,
-        );
+        fill_all(rt, &self.topo, round, lanes, threads, &mut self.apart);
         if let Some(fault) = self.apart.fault() {
             return Err(fault.into());
         }

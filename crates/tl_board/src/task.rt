@@ -112,9 +112,11 @@ impl SpanTask {
             &self.entry,
         )?;
         exit.settle()?;
+        // A copy takes no more memory than what it shows.
+        let kept = exit.copy(alloc)?;
         Ok(Stored {
             entry: Arc::try_clone(&self.entry)?,
-            exit: Arc::new(alloc, exit)?,
+            exit: Arc::new(alloc, kept)?,
             rows: Rows::new(rows),
         })
     }

@@ -7,12 +7,11 @@ use Rattle.std.specs.List.{AllByRecursion}
 use Rattle.std.specs.Map.{lookup}
 use Rattle.std.specs.Ordering.{nat_cmp}
 use Rattle.tl_tables.specs.declared.Perm.{Perm}
-use Rattle.tl_state.specs.BlockMap.{blocks_of, is_among}
+use Rattle.tl_state.specs.BlockMap.{BlockData, blocks_of, is_among}
 use Rattle.tl_state.specs.Map.{value_at}
 use Rattle.tl_state.proofs.BlockMapLaws.{has_none, all_agree, same_on}
 use Rattle.tl_client_rules.specs.Bounds.{bound_by, bound_at, settled_at, SameBounds, AgreeOn, AgreeOnBlocks}
 use Rattle.tl_client_rules.specs.Holds.{perm_of}
-use Rattle.tl_state.specs.declared.block_map.BlockMap.{BlockMap}
 use Rattle.tl_client_rules.specs.declared.bounds.Hold.{Hold}
 use Rattle.tl_client_rules.specs.declared.bounds.Bounds.{Bounds}
 
@@ -34,7 +33,7 @@ pub agreeing_blocks : (one two : Bounds) (blocks : List ℕ) → SameBounds one 
 agreeing_blocks one two blocks same = all_agree (λ block. bound_at one block ≡ bound_at two block) blocks same
 
 -- Where nothing was set, the bound is the settled one.
-pub settled_first : (recent : BlockMap Perm) (base : List (ℕ × Hold)) (block : ℕ) → is_among block (blocks_of recent) ≡ false → perm_of (value_at nat_cmp base block) ≡ bound_by recent base block
+pub settled_first : (recent : BlockData Perm) (base : List (ℕ × Hold)) (block : ℕ) → is_among block (blocks_of recent) ≡ false → perm_of (value_at nat_cmp base block) ≡ bound_by recent base block
 settled_first recent base block not = sym (ap (λ o. unwrap_or o (perm_of (value_at nat_cmp base block))) (has_none recent block not))
 
 module _ (one two : Bounds) (here : AgreeOnBlocks one two (blocks_of one.recent)) (here_settled : AgreeOn one two one.base)

@@ -6,12 +6,12 @@ use Rattle.tl_tables.specs.declared.Perm.{Perm}
 use Rattle.tl_state.specs.BlockMap as set
 use Rattle.tl_state.specs.Map.{value_at}
 use Rattle.tl_client_rules.specs.Holds.{perm_of}
-use Rattle.tl_state.specs.declared.block_map.BlockMap.{BlockMap}
+use Rattle.tl_state.specs.BlockMap.{BlockData}
 use Rattle.tl_client_rules.specs.declared.bounds.Hold.{Hold}
 use Rattle.tl_client_rules.specs.declared.bounds.Bounds.{Bounds}
 
 -- The bound of a block by what was set of it and what is settled: what was set comes first.
-abbrev pub bound_by : BlockMap Perm → List (ℕ × Hold) → ℕ → Perm
+abbrev pub bound_by : BlockData Perm → List (ℕ × Hold) → ℕ → Perm
 bound_by recent base block = unwrap_or (set.value_at recent block) (perm_of (value_at nat_cmp base block))
 
 -- The bound of a block as it was last settled.

@@ -7,7 +7,7 @@ ghost use Rattle.tl_pass.specs.Reports.{IsTaken};
 ghost use Rattle.tl_commands.specs.Beside.{AreJudged};
 
 use crate::files::bytes_of;
-use crate::heads::{Head, Queue};
+use crate::heads::{Head, Queue, Stretch};
 use crate::progress::{FilesRead, Gauge, Untold};
 use crate::turns::FileSupply;
 use std::alloc::{AllocError, Global};
@@ -24,9 +24,7 @@ const FILES_EACH: usize = 128;
 #[derive(Clone, Copy)]
 pub(crate) struct Group {
     links: Links,
-    /// The place of the first head.
-    from: usize,
-    count: usize,
+    heads: Stretch,
 }
 
 impl Group {
@@ -37,8 +35,7 @@ impl Group {
                 first: link,
                 next: link,
             },
-            from,
-            count: 0,
+            heads: Stretch::at(from),
         }
     }
 
@@ -46,13 +43,7 @@ impl Group {
     fn take(&mut self, link: u16) {
         self.links.first = self.links.first.min(link);
         self.links.next = self.links.next.max(link.saturating_add(1));
-        self.count = self.count.saturating_add(1);
-    }
-
-    /// The heads of its fragments.
-    fn heads<'a>(self, heads: &'a [Head]) -> &'a [Head] {
-        let end = self.from.saturating_add(self.count);
-        heads.get(self.from..end).unwrap_or(&[])
+        self.heads.grow();
     }
 }
 
@@ -132,16 +123,11 @@ fn part_of<R: Files + AllocGlobal>(
     ensures { IfOk result (λ part. (fs : List Frag) × IsPart sieve.entry.topo.now fs part) }
 {
     let mut gauge = Untold;
-    let mut read = FilesRead::none_of(group.count, &mut gauge);
-    let own = queue.only(group.heads(queue.heads));
+    let count = group.heads.count;
+    let mut read = FilesRead::none_of(count, &mut gauge);
+    let own = queue.only(group.heads.of(queue.heads));
     let mut supply = FileSupply::new(rt, sieve, own, &mut read);
-    Part::of(
-        rt.alloc(),
-        sieve.topo,
-        group.links,
-        group.count,
-        &mut supply,
-    )
+    Part::of(rt.alloc(), sieve.topo, group.links, count, &mut supply)
 }
 
 /// The reports of groups, each made by a thread of its own.
@@ -186,7 +172,7 @@ fn count_groups<R: Files, G: Gauge>(
     read: &mut FilesRead<'_, G>,
 ) {
     for group in groups {
-        count_files(rt, queue, group.heads(queue.heads), read);
+        count_files(rt, queue, group.heads.of(queue.heads), read);
     }
 }
 

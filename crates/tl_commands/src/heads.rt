@@ -44,6 +44,32 @@ pub(crate) struct Head {
     file: usize,
 }
 
+/// Some heads in a row.
+#[derive(Clone, Copy)]
+pub(crate) struct Stretch {
+    /// The place of the first among all.
+    from: usize,
+    pub(crate) count: usize,
+}
+
+impl Stretch {
+    /// None, before the head at this place.
+    pub(crate) fn at(from: usize) -> Stretch {
+        Stretch { from, count: 0 }
+    }
+
+    /// Has the next one too.
+    pub(crate) fn grow(&mut self) {
+        self.count = self.count.saturating_add(1);
+    }
+
+    /// The heads, of all.
+    pub(crate) fn of<'a>(self, heads: &'a [Head]) -> &'a [Head] {
+        let end = self.from.saturating_add(self.count);
+        heads.get(self.from..end).unwrap_or(&[])
+    }
+}
+
 /// Files of fragments, in the order in which a pass takes them.
 #[derive(Clone, Copy)]
 pub(crate) struct Queue<'a> {

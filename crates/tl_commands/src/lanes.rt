@@ -6,7 +6,7 @@ ghost use Rattle.tl_pass.specs.Reports.{IsTaken};
 
 use crate::beside::count_files;
 use crate::files::bytes_of;
-use crate::heads::{Head, Queue};
+use crate::heads::{Head, Queue, Stretch};
 use crate::progress::{FilesRead, Gauge, Untold};
 use crate::turns::FileSupply;
 use std::alloc::{AllocError, Global};
@@ -33,27 +33,17 @@ pub(crate) fn are_lanes(topo: &Topo, heads: &[Head], workers: u8) -> bool {
         && heads.iter().any(|head| head.link != first.link)
 }
 
-/// The places of heads in a row, up to an end.
-#[derive(Clone, Copy)]
-struct Round {
-    from: usize,
-    end: usize,
-}
-
-/// The rounds of files.
-fn rounds_of<R: Files + AllocGlobal>(rt: &R, queue: Queue<'_>) -> Result<Vec<Round>, AllocError> {
-    let mut rounds: Vec<Round> = Vec::new(rt.alloc());
+/// The heads of each round of files.
+fn rounds_of<R: Files + AllocGlobal>(rt: &R, queue: Queue<'_>) -> Result<Vec<Stretch>, AllocError> {
+    let mut rounds: Vec<Stretch> = Vec::new(rt.alloc());
     let mut bytes = ROUND_BYTES;
     for (place, head) in queue.heads.iter().enumerate() {
         if bytes >= ROUND_BYTES {
-            rounds.push(Round {
-                from: place,
-                end: place,
-            })?;
+            rounds.push(Stretch::at(place))?;
             bytes = 0;
         }
         if let Some(round) = rounds.last_mut() {
-            round.end = place.saturating_add(1);
+            round.grow();
         }
         if let Ok(path) = queue.path_of(head) {
             bytes = bytes.saturating_add(bytes_of(rt, path));
@@ -68,14 +58,14 @@ struct FileLanes<'r, 'a, 'q, R> {
     rt: &'r R,
     sieve: Sieve<'a>,
     queue: Queue<'q>,
-    rounds: &'q [Round],
+    rounds: &'q [Stretch],
 }
 
 impl<'r, 'a, 'q, R: Files + AllocGlobal> FileLanes<'r, 'a, 'q, R> {
     /// The heads of the files of a round.
     fn heads(&self, round: usize) -> &'q [Head] {
         match self.rounds.get(round) {
-            Some(round) => self.queue.heads.get(round.from..round.end).unwrap_or(&[]),
+            Some(round) => round.of(self.queue.heads),
             None => &[],
         }
     }

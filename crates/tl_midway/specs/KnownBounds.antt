@@ -1,13 +1,12 @@
 -- Which permissions the bounds of a client may be.
 use Rattle.std.specs.Prelude.{ℕ, ◌≡◌, not, is_some, Bool}
-use Rattle.tl_state.specs.declared.block_map.BlockMap.{BlockMap}
-use Rattle.tl_state.specs.BlockMap.{value_at}
+use Rattle.tl_state.specs.BlockMap.{BlockData, value_at}
 use Rattle.tl_tables.specs.declared.Perm.{Perm}
 use Rattle.tl_tables.specs.declared.Perm.TheVariants as perm
 use Rattle.tl_midway.specs.declared.known_bounds.KnownBounds.{KnownBounds}
 
 -- The block is in the set.
-abbrev pub holds : BlockMap (Unit {0}) → ℕ → Bool
+abbrev pub holds : BlockData (Unit {0}) → ℕ → Bool
 holds blocks block = is_some (value_at blocks block)
 
 -- Whether the bound of a block may be a permission.

@@ -3,13 +3,12 @@ use Rattle.std.proofs.Common.{◌≡◌, ℕ, length, true, false, ◌∷◌, []
 use Rattle.std.specs.Prelude.{map, ◌==◌, ◌||◌, if◌then◌else◌}
 use Rattle.std.specs.List.{AllByRecursion}
 use Rattle.std.specs.Ordering.{nat_cmp}
-use Rattle.std.specs.BTreeMap.{get, is_at}
+use Rattle.std.specs.BTreeMap.{is_at}
 use Rattle.std.specs.Cmp.{Equal-is}
 use Rattle.std.specs.FinMap.{nat_cmp-IsAntisymmetric}
 use Rattle.std.specs.Map.{lookup}
 use Rattle.std.proofs.lemmas.Bool.Decides.{nat_tests}
-use Rattle.tl_state.specs.declared.block_map.BlockMap.{BlockMap}
-use Rattle.tl_state.specs.BlockMap.{value_at, own_or, held_at, home_of, near_blocks, blocks_of, is_among, AgreeOn, SameValues}
+use Rattle.tl_state.specs.BlockMap.{BlockData, value_at, own_or, held_at, home_of, near_blocks, blocks_of, is_among, AgreeOn, SameValues}
 
 pub left_some : {V : Type 0} (near others : List (Option (ℕ × V))) (held : ℕ × V) → near ≡ Some held ∷ others → near_blocks near ≡ held.0 ∷ near_blocks others
 left_some near others held is = rw is refl
@@ -54,13 +53,13 @@ not_kept {V} (e ∷ entries) block h = elim (is_at (nat_cmp block) e.0) as (λ t
 ] refl
 
 -- A block that is not among those that may have a value has none.
-pub has_none : {V : Type 0} (blocks : BlockMap V) (block : ℕ) → is_among block (blocks_of blocks) ≡ false → value_at blocks block ≡ None
+pub has_none : {V : Type 0} (blocks : BlockData V) (block : ℕ) → is_among block (blocks_of blocks) ≡ false → value_at blocks block ≡ None
 unfolding value_at
 has_none blocks block h =
-    not_held blocks.near.items block (home_of (length blocks.near.items) block) (get nat_cmp blocks.far block) (among_front block (near_blocks blocks.near.items) (map (λ e. e.0) blocks.far.entries) h)
-    ∙ not_kept blocks.far.entries block (among_rest block (near_blocks blocks.near.items) (map (λ e. e.0) blocks.far.entries) h)
+    not_held blocks.near block (home_of (length blocks.near) block) (lookup (is_at (nat_cmp block)) blocks.far) (among_front block (near_blocks blocks.near) (map (λ e. e.0) blocks.far) h)
+    ∙ not_kept blocks.far block (among_rest block (near_blocks blocks.near) (map (λ e. e.0) blocks.far) h)
 
-pub no_blocks : {V : Type 0} (blocks : BlockMap V) (block : ℕ) → blocks_of blocks ≡ [] → value_at blocks block ≡ None
+pub no_blocks : {V : Type 0} (blocks : BlockData V) (block : ℕ) → blocks_of blocks ≡ [] → value_at blocks block ≡ None
 no_blocks blocks block none = has_none blocks block (rw none refl)
 
 all_at : (P : ℕ → Type 0) (blocks : List ℕ) (block : ℕ) → AllByRecursion P blocks → is_among block blocks ≡ true → P block
@@ -85,8 +84,19 @@ same_on f g one two here there past block = elim (is_among block one) as (λ t. 
   ] refl
 ] refl
 
-pub same_by_blocks : {V : Type 0} (one two : BlockMap V) → AgreeOn one two (blocks_of one) → AgreeOn two one (blocks_of two) → SameValues one two
+pub same_by_blocks : {V : Type 0} (one two : BlockData V) → AgreeOn one two (blocks_of one) → AgreeOn two one (blocks_of two) → SameValues one two
 same_by_blocks one two here there = same_on (value_at one) (value_at two) (blocks_of one) (blocks_of two) here there (λ block not_one not_two. has_none one block not_one ∙ sym (has_none two block not_two))
 
-pub none_are_same : {V : Type 0} (one two : BlockMap V) → ((block : ℕ) → value_at one block ≡ None) → ((block : ℕ) → value_at two block ≡ None) → SameValues one two
+pub none_are_same : {V : Type 0} (one two : BlockData V) → ((block : ℕ) → value_at one block ≡ None) → ((block : ℕ) → value_at two block ≡ None) → SameValues one two
 none_are_same one two here there block = here block ∙ sym (there block)
+
+-- A map that had the values of another but of the blocks that were left has that of the first of these once it is given that.
+pub goes_on : {V : Type 0} (one two next : BlockData V) (left more : List ℕ) (b : ℕ) (value : Option V) → left ≡ b ∷ more → value ≡ value_at one b
+    → ((block : ℕ) → value_at next block ≡ (if b == block then value else value_at two block))
+    → ((block : ℕ) → is_among block left ≡ false → value_at one block ≡ value_at two block)
+    → (block : ℕ) → is_among block more ≡ false → value_at one block ≡ value_at next block
+goes_on one two next left more b value is has given before block past = elim (b == block) as (λ t. b == block ≡ t → value_at one block ≡ value_at next block) [
+  | true ↦ λ test. (let same : b ≡ block = grind (arith, nat_tests) in
+      ap (value_at one) (sym same) ∙ sym has ∙ sym (given block ∙ ap (λ t. if t then value else value_at two block) test))
+  | false ↦ λ test. before block (ap (is_among block) is ∙ ap (λ t. t || is_among block more) test ∙ past) ∙ sym (given block ∙ ap (λ t. if t then value else value_at two block) test)
+] refl

@@ -1,10 +1,15 @@
 -- What is kept by block.
-use Rattle.std.specs.Prelude.{ℕ, ◌≡◌, ◌*◌, ◌-◌, ◌/◌, ◌%◌, ◌^◌, ◌==◌, ◌++◌, ◌&&◌, Bool, true, nat_lt, List, length, map, filter_map, option_map, Option, None, Some, slice_index_or, if◌then◌else◌}
+use Rattle.std.specs.Prelude.{ℕ, ◌≡◌, ◌*◌, ◌-◌, ◌/◌, ◌%◌, ◌^◌, ◌==◌, ◌++◌, ◌&&◌, Bool, true, false, nat_lt, List, length, map, filter_map, option_map, Option, None, Some, slice_index_or, if◌then◌else◌}
 use Rattle.std.specs.Int.Bits.{bit_and}
 use Rattle.std.specs.List.{AllByRecursion, list_any}
 use Rattle.std.specs.Ordering.{nat_cmp}
-use Rattle.std.specs.BTreeMap.{get}
-use Rattle.tl_state.specs.declared.block_map.BlockMap.{BlockMap}
+use Rattle.std.specs.BTreeMap.{BTreeMap, get, is_at}
+use Rattle.std.specs.Map.{lookup}
+
+-- What a map keeps: what stands at its places, and the blocks that stand at none.
+pub record BlockData (V : Type 0) : Type 0 where
+  pub near : List (Option (ℕ × V))
+  pub far : List (ℕ × V)
 
 -- The place of a block among so many: all that matters is that it has one.
 abbrev pub home_of : ℕ → ℕ → ℕ
@@ -29,8 +34,12 @@ abbrev pub has_place : {V : Type 0} → List (Option (ℕ × V)) → ℕ → Boo
 has_place places block = nat_lt (home_of (length places) block) (length places) && is_open_to block (held_at places (home_of (length places) block))
 
 -- The value of a block.
-unfoldable pub value_at : {V : Type 0} → BlockMap V → ℕ → Option V
-value_at blocks block = own_or block (held_at blocks.near.items (home_of (length blocks.near.items) block)) (get nat_cmp blocks.far block)
+unfoldable pub value_at : {V : Type 0} → BlockData V → ℕ → Option V
+value_at blocks block = own_or block (held_at blocks.near (home_of (length blocks.near) block)) (lookup (is_at (nat_cmp block)) blocks.far)
+
+-- Each of so many places tells where a block of it may be kept elsewhere.
+abbrev pub AreTold : {V : Type 0} → ℕ → List Bool → BTreeMap ℕ V → Type 0
+AreTold places told far = (block : ℕ) → slice_index_or told (home_of places block) true ≡ false → get nat_cmp far block ≡ None
 
 -- The second are the first places, and the block no longer stands at its own.
 abbrev pub IsFreed : {V : Type 0} → List (Option (ℕ × V)) → List (Option (ℕ × V)) → ℕ → Type 0
@@ -38,7 +47,7 @@ IsFreed {V} one two block = (other : ℕ) (elsewhere : Option V)
     → own_or other (held_at two (home_of (length two) other)) elsewhere ≡ (if block == other then elsewhere else own_or other (held_at one (home_of (length one) other)) elsewhere)
 
 -- Both have the same value of each block.
-abbrev pub SameValues : {V : Type 0} → BlockMap V → BlockMap V → Type 0
+abbrev pub SameValues : {V : Type 0} → BlockData V → BlockData V → Type 0
 SameValues one two = (block : ℕ) → value_at one block ≡ value_at two block
 
 -- The blocks that stand at these places.
@@ -46,11 +55,11 @@ abbrev pub near_blocks : {V : Type 0} → List (Option (ℕ × V)) → List ℕ
 near_blocks places = filter_map (λ place. option_map (λ held. held.0) place) places
 
 -- All blocks that may have a value.
-abbrev pub blocks_of : {V : Type 0} → BlockMap V → List ℕ
-blocks_of blocks = near_blocks blocks.near.items ++ map (λ e. e.0) blocks.far.entries
+abbrev pub blocks_of : {V : Type 0} → BlockData V → List ℕ
+blocks_of blocks = near_blocks blocks.near ++ map (λ e. e.0) blocks.far
 
 -- Both have the same value of each of these blocks.
-abbrev pub AgreeOn : {V : Type 0} → BlockMap V → BlockMap V → List ℕ → Type 0
+abbrev pub AgreeOn : {V : Type 0} → BlockData V → BlockData V → List ℕ → Type 0
 AgreeOn one two blocks = AllByRecursion (λ block. value_at one block ≡ value_at two block) blocks
 
 -- The block is one of these.

@@ -1,40 +1,54 @@
 //! What is kept by block, most of it found by one look.
 
-ghost use Rattle.std.specs.Prelude.{◌≡◌, ℕ, ◌==◌, ◌<◌, None, Some, true, false, length, IsSome, IfOk, OnOk, OnErr, if◌then◌else◌};
+ghost use Rattle.std.specs.Prelude.{◌≡◌, ℕ, ◌==◌, ◌<◌, None, Some, true, false, length, slice_index_or, IsSome, IfOk, OnOk, OnErr, if◌then◌else◌};
 ghost use Rattle.std.specs.Bool.{Decides};
 ghost use Rattle.std.specs.BTreeMap.{get};
 ghost use Rattle.std.specs.Ordering.{nat_cmp};
-ghost use Rattle.tl_state.specs.BlockMap.{home_of, held_at};
+ghost use Rattle.tl_state.specs.BlockMap.{home_of, held_at, own_or, AreTold, IsFreed};
 
 use crate::block_walk::Blocks;
 use crate::exact::Exact;
 use crate::same::Same;
 use std::alloc::{AllocError, Global};
 use std::collections::BTreeMap;
+use std::marker::Model;
 
 /// How many places a map has once it has a value.
-const FIRST_PLACES: usize = 16;
+const FIRST_PLACES: usize = 4;
 
 /// How many times as many it has next.
-const MORE: usize = 8;
+const MORE: usize = 4;
 
 /// The most places that a map has.
-const MOST_PLACES: usize = 1 << 13;
+const MOST_PLACES: usize = 1 << 16;
 
 /// A map gets more places once there is a block without one for each so many.
-const CROWDED: usize = 64;
+const CROWDED: usize = 16;
 
 /// An odd number near 2 ^ 64 divided by the golden ratio: its multiples lie apart, those of neighbours too.
 const SPREAD: u64 = 0x9E37_79B9_7F4A_7C15;
 
 /// Values by block. Each block has a place, which it shares with others; the first of them that comes stands there, and is found by one
-/// look. Only the others are searched for.
+/// look. Only the others are searched for, and a place tells whether there are any.
 #[derive(Drop)]
 pub struct BlockMap<V: Copy + Drop> {
     /// The places, each with the block that stands there and its value.
     near: Vec<Option<(u64, V)>>,
+    /// Of each place, whether a block of it may be among the others.
+    told: Vec<bool>,
     /// The blocks whose place was taken.
     far: BTreeMap<u64, V>,
+}
+
+impl<V: Copy + Drop> Model for BlockMap<V> {
+    ghost use Rattle.std.specs.Prelude.{length};
+    ghost use Rattle.tl_state.specs.BlockMap.{BlockData, AreTold};
+
+    ghost Value = { BlockData V };
+
+    ghost view = { λ m. record { near = m.near.items; far = m.far.entries } };
+
+    ghost invariant = { λ m. AreTold (length m.near.items) m.told.items m.far };
 }
 
 /// The place of a block among so many, a power of two.
@@ -55,29 +69,100 @@ fn set_place<V: Copy + Drop>(near: &mut Vec<Option<(u64, V)>>, place: usize, hel
     near[place] = held;
 }
 
-/// Keeps a value outside the places. At want of memory nothing has changed.
+/// Whether a block of a place may be kept outside the places.
+#[inline(always)]
+fn is_told(told: &[bool], place: usize) -> bool
+    ensures { result ≡ slice_index_or told.now place true }
+{
+    match told.get(place) {
+        Some(is_told) => *is_told,
+        None => true,
+    }
+}
+
+/// The value that is kept of a block outside so many places.
+fn far_value<V: Copy + Drop>(
+    places: usize,
+    told: &[bool],
+    far: &BTreeMap<u64, V>,
+    block: u64,
+) -> Option<V>
+    requires { AreTold places told.now far.now }
+    ensures { result ≡ get nat_cmp far.now block }
+{
+    if is_told(told, home_of(places, block)) {
+        far.get(&block).copied()
+    } else {
+        None
+    }
+}
+
+/// Has a place tell that a block of it may be kept outside the places.
+fn tell(told: &mut Vec<bool>, place: usize)
+    ensures { (other : ℕ) → slice_index_or told.new.items other true ≡ (if place == other then true else slice_index_or told.old.items other true) }
+{
+    if place < told.len() {
+        told[place] = true;
+    }
+}
+
+/// Keeps a value outside so many places. At want of memory nothing has changed.
 fn put_far<V: Copy + Drop>(
+    places: usize,
+    told: &mut Vec<bool>,
     far: &mut BTreeMap<u64, V>,
     block: u64,
     value: V,
 ) -> Result<Option<V>, AllocError>
+    requires { AreTold places told.old.items far.old }
+    ensures told { AreTold places told.new.items far.new }
     ensures old { IfOk result (λ old. old ≡ get nat_cmp far.old block) }
     ensures ok { OnOk result ((other : ℕ) → get nat_cmp far.new other ≡ (if block == other then Some value else get nat_cmp far.old other)) }
     ensures err { OnErr result ((other : ℕ) → get nat_cmp far.new other ≡ get nat_cmp far.old other) }
     ensures absent { OnErr result (get nat_cmp far.old block ≡ None) }
 {
+    tell(told, home_of(places, block));
     Ok(far.insert(block, value)?)
 }
 
-/// Takes away what is kept of a block outside the places.
-fn take_far<V: Copy + Drop>(far: &mut BTreeMap<u64, V>, block: u64)
-    ensures { (other : ℕ) → get nat_cmp far.new other ≡ (if block == other then None else get nat_cmp far.old other) }
+/// Takes away what is kept of a block outside so many places, and answers it.
+fn take_far<V: Copy + Drop>(
+    places: usize,
+    told: &[bool],
+    far: &mut BTreeMap<u64, V>,
+    block: u64,
+) -> Option<V>
+    requires { AreTold places told.now far.old }
+    ensures value { result ≡ get nat_cmp far.old block }
+    ensures told { AreTold places told.now far.new }
+    ensures after { (other : ℕ) → get nat_cmp far.new other ≡ (if block == other then None else get nat_cmp far.old other) }
 {
-    let _ = far.remove(&block);
+    if is_told(told, home_of(places, block)) {
+        far.remove(&block)
+    } else {
+        None
+    }
+}
+
+/// Frees the place of a block, where it is its own, and answers the value that stood there.
+fn take_near<V: Copy + Drop>(near: &mut Vec<Option<(u64, V)>>, block: u64) -> Option<V>
+    ensures value { result ≡ own_or block (held_at near.old.items (home_of (length near.old.items) block)) None }
+    ensures places { IsFreed near.old.items near.new.items block }
+    ensures count { length near.new.items ≡ length near.old.items }
+{
+    let home = home_of(near.len(), block);
+    match near.get(home) {
+        Some(Some((held, value))) if *held == block => {
+            let value = *value;
+            set_place(near, home, None);
+            Some(value)
+        }
+        _ => None,
+    }
 }
 
 impl<V: Copy + Drop> BlockMap<V> {
-    ghost use Rattle.tl_state.specs.BlockMap.{value_at, has_place, blocks_of, SameValues, AgreeOn, IsFreed};
+    ghost use Rattle.tl_state.specs.BlockMap.{value_at, has_place, blocks_of, SameValues, AgreeOn};
     ghost use Rattle.tl_state.specs.BlockWalk.{blocks_left};
 
     /// No block has a value.
@@ -87,6 +172,7 @@ impl<V: Copy + Drop> BlockMap<V> {
     {
         BlockMap {
             near: Vec::new(alloc),
+            told: Vec::new(alloc),
             far: BTreeMap::new(alloc),
         }
     }
@@ -98,8 +184,11 @@ impl<V: Copy + Drop> BlockMap<V> {
     {
         let mut near = Vec::new(alloc);
         near.resize(places, None)?;
+        let mut told = Vec::new(alloc);
+        told.resize(places, false)?;
         Ok(BlockMap {
             near,
+            told,
             far: BTreeMap::new(alloc),
         })
     }
@@ -111,14 +200,14 @@ impl<V: Copy + Drop> BlockMap<V> {
     {
         match self.near.get(home_of(self.near.len(), block)) {
             Some(Some((held, value))) if *held == block => Some(*value),
-            _ => self.far.get(&block).copied(),
+            _ => far_value(self.near.len(), &self.told, &self.far, block),
         }
     }
 
     /// Whether the place of the block is free or its own.
     #[inline(always)]
     fn has_place(&self, block: u64) -> bool
-        ensures { result ≡ has_place self.now.near.items block }
+        ensures { result ≡ has_place self.now.near block }
     {
         match self.near.get(home_of(self.near.len(), block)) {
             Some(Some((held, _))) => *held == block,
@@ -127,10 +216,24 @@ impl<V: Copy + Drop> BlockMap<V> {
         }
     }
 
+    /// The value of a block whose place is free or its own.
+    #[inline(always)]
+    #[tactic(auto, unfolding(crate::specs::BlockMap::value_at))]
+    fn get_near(&self, block: u64) -> Option<V>
+        requires { has_place self.now.near block ≡ true }
+        ensures { result ≡ value_at self.now block }
+    {
+        match self.near[home_of(self.near.len(), block)] {
+            Some((_, value)) => Some(value),
+            None => far_value(self.near.len(), &self.told, &self.far, block),
+        }
+    }
+
     /// Gives a block the value at its place.
+    #[inline(always)]
     #[tactic(auto, unfolding(crate::specs::BlockMap::value_at))]
     fn put_near(&mut self, block: u64, value: V)
-        requires { has_place self.old.near.items block ≡ true }
+        requires { has_place self.old.near block ≡ true }
         ensures { (other : ℕ) → value_at self.new other ≡ (if block == other then Some value else value_at self.old other) }
     {
         let home = home_of(self.near.len(), block);
@@ -145,23 +248,13 @@ impl<V: Copy + Drop> BlockMap<V> {
         ensures err { OnErr result ((other : ℕ) → value_at self.new other ≡ value_at self.old other) }
         ensures absent { OnErr result (value_at self.old block ≡ None) }
     {
-        if !self.has_place(block) {
-            return put_far(&mut self.far, block, value);
-        }
-        let before = self.get(block);
-        self.put_near(block, value);
-        Ok(before)
-    }
-
-    /// Frees the place of the block, where it is its own.
-    fn free(&mut self, block: u64)
-        ensures far { self.new.far ≡ self.old.far }
-        ensures places { IsFreed self.old.near.items self.new.near.items block }
-    {
         if self.has_place(block) {
-            let home = home_of(self.near.len(), block);
-            set_place(&mut self.near, home, None);
+            let before = self.get_near(block);
+            self.put_near(block, value);
+            return Ok(before);
         }
+        let places = self.near.len();
+        put_far(places, &mut self.told, &mut self.far, block, value)
     }
 
     /// Takes the value of a block away, and answers it.
@@ -170,10 +263,9 @@ impl<V: Copy + Drop> BlockMap<V> {
         ensures value { result ≡ value_at self.old block }
         ensures after { (other : ℕ) → value_at self.new other ≡ (if block == other then None else value_at self.old other) }
     {
-        let value = self.get(block);
-        self.free(block);
-        take_far(&mut self.far, block);
-        value
+        let here = take_near(&mut self.near, block);
+        let there = take_far(self.near.len(), &self.told, &mut self.far, block);
+        if here.is_some() { here } else { there }
     }
 
     /// Gives the block a value, or takes its value away, without more places.
@@ -199,10 +291,21 @@ impl<V: Copy + Drop> BlockMap<V> {
         ensures absent { OnErr result (value_at self.old block ≡ None) }
         ensures wanted { OnErr result (IsSome value) }
     {
-        if value.is_some() && !self.has_place(block) && self.is_crowded() {
-            self.widen();
+        if value.is_some() && !self.has_place(block) {
+            self.make_room();
         }
         self.assign(block, value)
+    }
+
+    /// Gives the map more places where that would save searches.
+    #[cold]
+    #[inline(never)]
+    fn make_room(&mut self)
+        ensures { SameValues self.old self.new }
+    {
+        if self.is_crowded() {
+            self.widen();
+        }
     }
 
     /// Whether more places would save searches.
@@ -211,8 +314,6 @@ impl<V: Copy + Drop> BlockMap<V> {
     }
 
     /// Gives the map more places, where there is memory for them.
-    #[cold]
-    #[inline(never)]
     fn widen(&mut self)
         ensures { SameValues self.old self.new }
     {

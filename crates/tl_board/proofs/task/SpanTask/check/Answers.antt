@@ -37,10 +37,11 @@ returns-clause-pass c =
     (subst (λ (s : SpanState). Judges (manager_of task) s c.in_ok-walk.walk left found) c.deref-2.ensures
     (subst (λ (t : Topology). Judges (manager_at t c.self.inside.manager (areas_of c.self.inside.regions)) c.deref-2.result.now c.in_ok-walk.walk left found) c.deref.ensures c.in_ok-exit.ensures)) in
     let rest = settled task task.entry left c.settle.new.self found c.settle.ensures.same (c.settle.ensures.kept (manager_of task)) (passed task c.self.invariant.0 left found judges) in
-    let exit : c.settle.new.self ≡ arc_value c.in_ok-new.field-0 = sym c.in_ok-new.ensures.ok in
+    let kept = settled task task.entry c.settle.new.self c.in_ok-kept.kept found c.in_ok-kept.ensures.same (c.in_ok-kept.ensures.kept (manager_of task)) rest in
+    let exit : c.in_ok-kept.kept ≡ arc_value c.in_ok-new.field-0 = sym c.in_ok-new.ensures.ok in
     let rows : found ≡ c.new-2.result = sym c.new-2.ensures in
     let entry : task.entry ≡ arc_value c.in_ok-try_clone.field-0 = sym c.in_ok-try_clone.ensures in
     subst (λ (t : TaskData). IsPassOf t (pass_of (record { entry = c.in_ok-try_clone.field-0; exit = c.in_ok-new.field-0; rows = c.new-2.result }))) c.self.view_is
     (subst (λ e. IsPassOf task (record { entry = e; exit = arc_value c.in_ok-new.field-0; rows = c.new-2.result })) entry
     (subst (λ rs. IsPassOf task (record { entry = task.entry; exit = arc_value c.in_ok-new.field-0; rows = rs })) rows
-    (subst (λ x. IsPassOf task (record { entry = task.entry; exit = x; rows = found })) exit rest)))
+    (subst (λ x. IsPassOf task (record { entry = task.entry; exit = x; rows = found })) exit kept)))

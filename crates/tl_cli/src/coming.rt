@@ -7,6 +7,7 @@ use crate::monitors::Attached;
 use crate::scripts::{ScriptRun, ending_told, write_settlements};
 use crate::watcher::Watcher;
 use std::alloc::{AllocError, Global};
+use std::fs;
 use std::rt::Files;
 use std::sync::{Arc, OnceLock};
 use tl_beats::Watch;
@@ -152,6 +153,21 @@ fn outcome_of<K: Maker + Drop, I: ByteIn, O: ByteOut>(
 /// Whether the text of a run is wanted at its end.
 fn is_wanted(how: How) -> bool {
     how.summary || how.midway.is_some() || how.deny.refused || how.deny.empty
+}
+
+/// In a file of so many bytes no command is longer than one may be whose commands come.
+const MOST_BYTES: u64 = 16_777_216;
+
+/// The file of a script, where its commands may be carried out as they are read, with the same lines, and the text isn't held. None for
+/// a pipe, whose text may never end, for a longer one, and where workers read ahead or the text is wanted at the end.
+pub(crate) fn script_to_come<R: Files>(rt: &R, script: &str, how: How) -> Option<R::File> {
+    if how.workers > 0 || is_wanted(how) {
+        return None;
+    }
+    match fs::metadata(rt, script) {
+        Ok(found) if found.is_file() && found.len() <= MOST_BYTES => fs::open(rt, script).ok(),
+        _ => None,
+    }
 }
 
 /// How a run ends that didn't stop, of which this text was kept.

@@ -3,7 +3,7 @@
 ghost use Rattle.std.specs.Prelude.{◌≡◌, ◌<◌, ◌≤◌, ◌^◌};
 ghost use Rattle.tl_cli.specs.Status.{status_of};
 
-use crate::coming::run_of_coming;
+use crate::coming::{run_of_coming, script_to_come};
 use crate::screen::Screen;
 use crate::scripts::{run_of_files, run_of_input};
 use std::alloc::Global;
@@ -19,7 +19,7 @@ use tl_commands::{
 };
 use tl_options::{AuditWords, Command, OnceWords, RunWords, Told, not_utf8, read_words, titles};
 use tl_script::Outcome;
-use tl_text::{ByteIn, ByteOut, read_text, write_all};
+use tl_text::{ByteIn, ByteOut, CountedReader, read_text, write_all};
 
 /// The most bytes of standard input.
 const MOST_INPUT: u64 = 67_108_864;
@@ -475,10 +475,15 @@ fn do_run<R: Files + Threads + Wait + Sync + AllocGlobal, I: ByteIn, G: Gauge, O
     requires { O.failure_count out.old < 2 ^ 63 }
 {
     if words.comes() {
-        run_of_coming(rt, words.topology, input, words.how, gauge, out)
-    } else {
-        let how = screen.how(words.how);
-        run_of_files(rt, words.topology, words.script, how, gauge, out)
+        return run_of_coming(rt, words.topology, input, words.how, gauge, out);
+    }
+    let how = screen.how(words.how);
+    match script_to_come(rt, words.script, how) {
+        Some(file) => {
+            let mut script = CountedReader::new(file);
+            run_of_coming(rt, words.topology, &mut script, how, gauge, out)
+        }
+        None => run_of_files(rt, words.topology, words.script, how, gauge, out),
     }
 }
 

@@ -1,6 +1,8 @@
-/* Refuses memory and threads to the program that LD_PRELOAD loads it into. Calls of malloc, calloc, realloc and pthread_create by
-   the program's own code, not by the C library, are counted from 1; those from REFUSE_FIRST to REFUSE_LAST fail. The file
-   REFUSE_TALLY, of 16 bytes, has the count of calls, and how many blocks the program holds, however it ends. */
+/* Refuses memory, threads and bytes of a file to the program that LD_PRELOAD loads it into. Calls of malloc, calloc, realloc and
+   pthread_create by the program's own code, not by the C library, are counted from 1; those from REFUSE_FIRST to REFUSE_LAST fail.
+   The file REFUSE_TALLY, of 16 bytes, has the count of calls, and how many blocks the program holds, however it ends. Each read of
+   the file that BAD_FILE names gives at most BAD_STEP bytes, and none from BAD_FROM on: it fails there, as on a disk with a bad
+   sector. */
 #define _GNU_SOURCE
 #include <dlfcn.h>
 #include <errno.h>
@@ -11,6 +13,8 @@
 #include <stdint.h>
 #include <stdlib.h>
 #include <sys/mman.h>
+#include <sys/stat.h>
+#include <sys/types.h>
 #include <unistd.h>
 
 extern void *__libc_malloc(size_t size);
@@ -23,12 +27,16 @@ struct tally {
     _Atomic uint64_t held;
 };
 
+typedef ssize_t reader(int, void *, size_t);
 typedef int starter(pthread_t *, const pthread_attr_t *, void *(*)(void *), void *);
 
 static struct tally nowhere;
 static struct tally *tally = &nowhere;
 static uint64_t first_refused;
 static uint64_t last_refused;
+static const char *bad_file;
+static uint64_t bad_from;
+static uint64_t bad_step;
 static uintptr_t own_begin;
 static uintptr_t own_end;
 
@@ -62,6 +70,9 @@ __attribute__((constructor)) static void begin(void) {
     }
     first_refused = number_in("REFUSE_FIRST");
     last_refused = number_in("REFUSE_LAST");
+    bad_file = getenv("BAD_FILE");
+    bad_from = number_in("BAD_FROM");
+    bad_step = number_in("BAD_STEP");
     dl_iterate_phdr(find_own, NULL);
 }
 
@@ -107,4 +118,22 @@ int pthread_create(pthread_t *thread, const pthread_attr_t *how, void *(*body)(v
     starter *start = (starter *)dlsym(RTLD_NEXT, "pthread_create");
     if (is_own(__builtin_return_address(0)) && is_refused()) return EAGAIN;
     return start(thread, how, body, given);
+}
+
+static int is_bad(int file) {
+    struct stat named, open_one;
+    if (!bad_file || stat(bad_file, &named) || fstat(file, &open_one)) return 0;
+    return named.st_dev == open_one.st_dev && named.st_ino == open_one.st_ino;
+}
+
+ssize_t read(int file, void *into, size_t size) {
+    reader *next = (reader *)dlsym(RTLD_NEXT, "read");
+    if (!is_bad(file)) return next(file, into, size);
+    uint64_t at = lseek(file, 0, SEEK_CUR);
+    if (at >= bad_from) {
+        errno = EIO;
+        return -1;
+    }
+    uint64_t most = bad_from - at < bad_step ? bad_from - at : bad_step;
+    return next(file, into, size < most ? size : most);
 }

@@ -8,8 +8,10 @@ use crate::scripts::{ScriptRun, ending_told, write_settlements};
 use crate::watcher::Watcher;
 use std::alloc::{AllocError, Global};
 use std::fs;
+use std::io::Read;
 use std::rt::Files;
 use std::sync::{Arc, OnceLock};
+use tl_advice::Role;
 use tl_beats::Watch;
 use tl_check::Report;
 use tl_commands::{Ending, Fault, Gauge, LineCounter, topology_of};
@@ -155,18 +157,45 @@ fn is_wanted(how: How) -> bool {
     how.summary || how.midway.is_some() || how.deny.refused || how.deny.empty
 }
 
-/// In a file of so many bytes no command is longer than one may be whose commands come.
-const MOST_BYTES: u64 = 16_777_216;
+/// How many bytes of a file are looked at in one read.
+const PIECE: usize = 65_536;
+
+/// Whether a file can be read to its end, since a file's fault comes before anything is written, and is no longer than a script may be,
+/// with a newline in each piece, so that none of its commands is too long to come.
+fn can_come<R: Files>(rt: &R, path: &str) -> bool {
+    let Ok(mut file) = fs::open(rt, path) else {
+        return false;
+    };
+    let mut piece = [0u8; PIECE];
+    let mut whole = 0u64;
+    for _ in 0..=Role::Script.most() {
+        let Ok(taken) = file.read(&mut piece) else {
+            return false;
+        };
+        if taken == 0 {
+            return whole <= Role::Script.most();
+        }
+        let read = piece.get(..taken).unwrap_or(&[]);
+        if !read.contains(&b'\n') {
+            return false;
+        }
+        whole = whole.saturating_add(taken as u64);
+    }
+    false
+}
 
 /// The file of a script, where its commands may be carried out as they are read, with the same lines, and the text isn't held. None for
-/// a pipe, whose text may never end, for a longer one, and where workers read ahead or the text is wanted at the end.
+/// a pipe, which can't be read twice, for a file that can't be read to its end or is longer than a script, and where workers read ahead
+/// or the text is wanted at the end.
 pub(crate) fn script_to_come<R: Files>(rt: &R, script: &str, how: How) -> Option<R::File> {
-    if how.workers > 0 || is_wanted(how) {
+    let found = fs::metadata(rt, script).ok()?;
+    if how.workers > 0 || is_wanted(how) || !found.is_file() || found.len() > Role::Script.most() {
         return None;
     }
-    match fs::metadata(rt, script) {
-        Ok(found) if found.is_file() && found.len() <= MOST_BYTES => fs::open(rt, script).ok(),
-        _ => None,
+    if can_come(rt, script) {
+        fs::open(rt, script).ok()
+    } else {
+        None
     }
 }
 

@@ -9,7 +9,7 @@ ghost use Rattle.tl_board.specs.Spans.{standing, IsSpanOf, ChecksFirst};
 
 use crate::Rows;
 use crate::spans::Spans;
-use crate::windows::keep;
+use crate::windows::keep_following;
 use std::alloc::{AllocError, Global};
 use tl_capture::{PieceKey, Stored};
 use tl_check::SpanState;
@@ -28,7 +28,7 @@ impl Spans {
             return Ok(None);
         };
         let stored = self.checked(alloc, key)?;
-        keep(&mut self.pieces, key, stored);
+        keep_following(&mut self.pieces, key, stored);
         Ok(Some(key))
     }
 

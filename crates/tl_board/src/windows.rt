@@ -1,11 +1,12 @@
 //! Pieces of some windows of managers or monitors that come, go, lose their results, or get them.
 
-ghost use Rattle.std.specs.Prelude.{◌≡◌, ◌++◌, IfOk, OnOk, is_some, map, true};
+ghost use Rattle.std.specs.Prelude.{◌≡◌, ◌++◌, Some, IfOk, OnOk, is_some, map, true};
+ghost use Rattle.std.specs.Arc.{arc_value};
 ghost use Rattle.std.specs.List.{Contains};
 ghost use Rattle.tl_capture.specs.declared.key.PieceKey.{PieceKey as AnyKey};
 ghost use Rattle.tl_capture.specs.Keys.{change};
 ghost use Rattle.tl_capture.specs.Marks.{pass_of};
-ghost use Rattle.tl_capture.specs.Pieces.{opening_of, piece_at, with_pieces, IsBoard, IsSettled, EachOwnerIsChained};
+ghost use Rattle.tl_capture.specs.Pieces.{entry_for, opening_of, piece_at, with_pieces, IsBoard, IsSettled, EachOwnerIsChained};
 ghost use Rattle.tl_board.specs.Windows.{key_of, with_checked, AreKeysOf, IsGrown, HasAll, IsTaken, IsPruned, AreBlank};
 ghost use Rattle.tl_capture.specs.Windows.{HasBeat};
 ghost use Rattle.tl_definitions.specs.Positions.{beats_of_all};
@@ -92,6 +93,21 @@ pub fn keep<S: Same + Drop, R: Drop>(
     ensures { pieces.new ≡ with_pieces pieces.old (change key (with_checked (pass_of stored)) pieces.old.pieces) }
 {
     pieces.store(key, stored);
+    pieces.set_live(key, None);
+}
+
+/// The same of a piece that was checked from what it is to start from: its own states aren't compared.
+pub(crate) fn keep_following<S: Same + Drop, R: Drop>(
+    pieces: &mut PieceMap<S, R>,
+    key: PieceKey,
+    stored: Stored<S, R>,
+)
+    requires there { is_some (piece_at key pieces.old) ≡ true }
+    requires entry { entry_for key pieces.old ≡ Some (arc_value stored.entry) }
+    requires same { S.same (arc_value stored.entry) (arc_value stored.entry) }
+    ensures { pieces.new ≡ with_pieces pieces.old (change key (with_checked (pass_of stored)) pieces.old.pieces) }
+{
+    pieces.store_following(key, stored);
     pieces.set_live(key, None);
 }
 

@@ -19,6 +19,7 @@ pub mod StackLemmas
 pub mod SpanLemmas
 pub mod EndedLemmas
 pub mod KeyLemmas
+pub mod FollowLemmas
 pub mod TallyLemmas
 pub mod SlotLemmas
 pub mod PlaceLemmas

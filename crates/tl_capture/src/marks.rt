@@ -1,6 +1,6 @@
 //! Which pieces are wanted: each piece is judged by the exit before it.
 
-ghost use Rattle.std.specs.Prelude.{◌≡◌, not, None};
+ghost use Rattle.std.specs.Prelude.{◌≡◌, not, false, None};
 ghost use Rattle.std.specs.Bool.{Decides};
 ghost use Rattle.std.specs.Arc.{arc_value};
 ghost use Rattle.std.specs.Option.{option_map};
@@ -90,6 +90,14 @@ pub(crate) fn judge<S: Same + Drop, R: Drop>(
     let wanted = !fits(openings, slots, key);
     slots.change(key, Change::Wanted(wanted));
     wanted
+}
+
+/// Marks the piece of a key as one whose result begins with the exit before it, without a comparison.
+pub(crate) fn begins<S: Same + Drop, R: Drop>(slots: &mut Slots<S, R>, key: PieceKey)
+    ensures slots { slots.new ≡ change key (changed (to.Wanted false)) slots.old }
+    ensures order { Rises slots.old }
+{
+    slots.change(key, Change::Wanted(false));
 }
 
 /// Marks the piece of a key, if there is one.

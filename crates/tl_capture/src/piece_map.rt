@@ -13,7 +13,7 @@ ghost use Rattle.tl_capture.specs.Marks.{pass_of};
 ghost use Rattle.tl_capture.specs.PieceWalk.{pieces_left};
 
 use crate::key::PieceKey;
-use crate::marks::{exit, judge, judge_next};
+use crate::marks::{begins, exit, judge, judge_next};
 use crate::openings::Openings;
 use crate::slot::{Change, Mark, Stored};
 use crate::slots::Slots;
@@ -283,6 +283,19 @@ impl<S: Same + Drop, R: Drop> PieceMap<S, R> {
         let next = self.slots.next_of_owner(key);
         self.slots.change(key, Change::Result(stored));
         judge(&self.openings, &mut self.slots, key);
+        judge_next(&self.openings, &mut self.slots, next);
+    }
+
+    /// The same of a result that begins with what its job was to start from. States are compared only for the piece after it.
+    pub fn store_following(&mut self, key: PieceKey, stored: Stored<S, R>)
+        requires there { is_some (piece_at key self.old) ≡ true }
+        requires entry { entry_for key self.old ≡ Some (arc_value stored.entry) }
+        requires same { S.same (arc_value stored.entry) (arc_value stored.entry) }
+        ensures { self.new ≡ with_pieces self.old (change key (with_result (pass_of stored)) self.old.pieces) }
+    {
+        let next = self.slots.next_of_owner(key);
+        self.slots.change(key, Change::Result(stored));
+        begins(&mut self.slots, key);
         judge_next(&self.openings, &mut self.slots, next);
     }
 

@@ -7,6 +7,7 @@ ghost use Rattle.tl_stream.specs.Feeds.{all_left};
 
 use std::alloc::Global;
 use std::marker::Model;
+use std::mem;
 use tl_text::{ByteIn, TextFault};
 
 /// How many bytes are asked for at once, for each thread that parses them.
@@ -41,12 +42,33 @@ fn read_once<I: ByteIn>(
     }
 }
 
+/// Leaves the bytes from a place on. They are copied into the spare vector, which takes the others' turn, or move to the front where
+/// memory for that is refused.
+fn close_up(bytes: &mut Vec<u8>, start: usize, spare: &mut Vec<u8>)
+    requires { start ≤ length bytes.old.items }
+    ensures { bytes.new.items ≡ drop start bytes.old.items }
+{
+    match start {
+        0 => {}
+        _ => {
+            spare.clear();
+            if spare.extend_from_slice(&bytes[start..]).is_ok() {
+                mem::swap(bytes, spare);
+            } else {
+                bytes.drain(..start);
+            }
+        }
+    }
+}
+
 /// The bytes of an input that were read, but for those that are done with.
 #[derive(Drop)]
 pub struct Ahead {
     bytes: Vec<u8>,
     // Where they begin.
     start: usize,
+    // Where those that are left go before more are read.
+    spare: Vec<u8>,
     // Where a read puts what it brings, where that is more than a chunk.
     room: Vec<u8>,
 }
@@ -80,6 +102,7 @@ impl Ahead {
         Ahead {
             bytes: Vec::new(alloc),
             start: 0,
+            spare: Vec::new(alloc),
             room,
         }
     }
@@ -105,7 +128,7 @@ impl Ahead {
             × (I.failure_count input.new ≡ I.failure_count input.old + 1) }
         ensures faults { IsErrOf result TextFault.TooLong → ⊥ }
     {
-        self.bytes.drain(..self.start);
+        close_up(&mut self.bytes, self.start, &mut self.spare);
         self.start = 0;
         if self.room.is_empty() {
             read_once(&mut self.bytes, &mut [0u8; CHUNK], input)

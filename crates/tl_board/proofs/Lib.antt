@@ -1,3 +1,4 @@
+mod ApartLemmas
 mod TaskLemmas
 pub mod CurrentLemmas
 pub mod CoverLemmas

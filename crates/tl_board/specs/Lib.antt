@@ -1,3 +1,4 @@
+pub mod Apart
 pub mod Tasks
 pub mod Covers
 pub mod Spans

@@ -2,6 +2,7 @@
 #![tactic(auto)]
 
 mod accepting;
+mod apart;
 mod checking;
 mod current;
 mod edits;

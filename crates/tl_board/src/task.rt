@@ -5,13 +5,16 @@ ghost use Rattle.std.specs.Arc.{arc_value};
 ghost use Rattle.tl_topology.specs.Regions.{areas_of};
 ghost use Rattle.tl_definitions.specs.Managers.{manager_at};
 ghost use Rattle.tl_capture.specs.Marks.{pass_of};
+ghost use Rattle.tl_check.specs.Jobs.{Judges};
 ghost use Rattle.tl_check.specs.States.{IsOf};
-ghost use Rattle.tl_board.specs.Tasks.{IsPassOf, HasNumbers, task_for};
+ghost use Rattle.tl_board.specs.Tasks.{IsPassOf, HasNumbers, manager_of, task_for};
 
+use crate::apart::{beats_apart, check_apart};
 use crate::rows::Rows;
 use std::alloc::{AllocError, Global};
 use std::marker::Model;
 use std::sync::Arc;
+use tl_beats::Row;
 use tl_capture::{Present, Stored, WindowBeats};
 use tl_check::{SpanState, check_window};
 use tl_client_rules::clients_of;
@@ -28,6 +31,8 @@ pub struct SpanTask {
     // The links of the manager.
     pub(crate) links: Vec<u16>,
     pub(crate) beats: WindowBeats,
+    // Those of each link, where none has caches and they are few; else none.
+    pub(crate) apart: Vec<WindowBeats>,
     pub(crate) entry: Arc<SpanState>,
 }
 
@@ -38,6 +43,7 @@ impl Model for SpanTask {
     ghost use Rattle.tl_definitions.specs.Managers.{declared_links};
     ghost use Rattle.tl_definitions.specs.Positions.{clients_of as clients};
     ghost use Rattle.tl_check.specs.contracts.state.SpanState as state;
+    ghost use Rattle.tl_board.specs.Apart.{AreApart};
     ghost use Rattle.tl_board.specs.Tasks.{TaskData, IsTask};
 
     ghost Value = { TaskData };
@@ -47,7 +53,8 @@ impl Model for SpanTask {
     ghost view = { λ t. record { topo = arc_value t.topo; owner = t.manager; window = t.window; regions = t.regions; beats = t.beats; entry = arc_value t.entry } };
 
     ghost invariant = { λ t. IsTask (record { topo = arc_value t.topo; owner = t.manager; window = t.window; regions = t.regions; beats = t.beats; entry = arc_value t.entry })
-        × (t.links.items ≡ clients t.manager (declared_links (arc_value t.topo))) };
+        × (t.links.items ≡ clients t.manager (declared_links (arc_value t.topo)))
+        × AreApart (arc_value t.topo) t.links.items t.beats t.apart.items };
 }
 
 impl SpanTask {
@@ -76,6 +83,7 @@ impl SpanTask {
             window,
             regions: regions.copy()?,
             beats: present.window_beats(alloc, window, &links)?,
+            apart: beats_apart(alloc, topo, present, window, &links)?,
             links,
             entry: Arc::try_clone(entry)?,
         })
@@ -96,21 +104,25 @@ impl SpanTask {
         self.window
     }
 
+    /// The state after its beats, and the rows of what they break: link by link, where its manager has no caches.
+    fn judged(&self, alloc: Global) -> Result<(SpanState, Vec<Row>), AllocError>
+        ensures { IfOk result (λ x. Judges (manager_of self.now) self.now.entry self.now.beats x.0 x.1.items) }
+    {
+        let (topo, regions) = (&self.topo, &self.regions);
+        if self.apart.is_empty() {
+            let walk = self.beats.walk(alloc)?;
+            return check_window(alloc, topo, self.manager, regions, walk, &self.entry);
+        }
+        check_apart(alloc, topo, self.manager, regions, &self.apart, &self.entry)
+    }
+
     /// The pass of its beats from its entry. What it leaves is settled, so that the states of windows share what is held.
     /// AllocError where memory is refused.
     pub fn check(&self, alloc: Global) -> Result<Stored<SpanState, Rows>, AllocError>
         ensures pass { IfOk result (λ stored. IsPassOf self.now (pass_of stored)) }
         ensures entry { IfOk result (λ stored. arc_value stored.entry ≡ self.now.entry) }
     {
-        let walk = self.beats.walk(alloc)?;
-        let (mut exit, rows) = check_window(
-            alloc,
-            &self.topo,
-            self.manager,
-            &self.regions,
-            walk,
-            &self.entry,
-        )?;
+        let (mut exit, rows) = self.judged(alloc)?;
         exit.settle()?;
         // A copy takes no more memory than what it shows.
         let kept = exit.copy(alloc)?;

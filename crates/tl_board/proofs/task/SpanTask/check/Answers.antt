@@ -1,31 +1,12 @@
-use Rattle.std.proofs.Common.{◌≡◌, ◌<◌, ℕ, length, List, sym, subst, get_or}
+use Rattle.std.proofs.Common.{◌≡◌, List, sym, subst}
 use Rattle.std.specs.Arc.{arc_value}
-use Rattle.std.specs.List.{Contains}
-use Rattle.tl_topology.specs.Regions.{areas_of}
-use Rattle.tl_topology.specs.Topology.{Topology}
-use Rattle.tl_beats.specs.declared.Placed.{Placed}
 use Rattle.tl_beats.specs.declared.Row.{Row}
-use Rattle.tl_definitions.specs.Managers.{declared_links, manager_at}
-use Rattle.tl_definitions.specs.Positions.{clients_of}
 use Rattle.tl_capture.specs.Marks.{pass_of}
 use Rattle.tl_check.specs.Jobs.{Judges}
-use Rattle.tl_check.specs.States.{IsOf}
 use Rattle.tl_check.specs.declared.state.SpanState.{SpanState}
 use Rattle.tl_board.specs.Tasks.{TaskData, IsPassOf, manager_of}
 use Rattle.tl_board.proofs.TaskLemmas.{passed, settled}
 use Rattle.tl_board.proofs.task.SpanTask.check.Goals as goal
-
-pub check_window-requires-clause-linked : goal.check_window-requires-clause-linked
-check_window-requires-clause-linked c =
-    let walk : List Placed = c.in_ok-walk.walk in
-    subst (λ (t : Topology). (k : ℕ) (d : Placed) → k < length walk → Contains (clients_of c.self.inside.manager (declared_links t)) (get_or walk k d).link) (sym c.deref.ensures)
-    (subst (λ (ps : List Placed). (k : ℕ) (d : Placed) → k < length ps → Contains (clients_of c.self.inside.manager (declared_links (arc_value c.self.inside.topo))) (get_or ps k d).link) (sym c.in_ok-walk.ensures)
-    c.self.invariant.0.beats.linked)
-
-pub check_window-requires-clause-entry : goal.check_window-requires-clause-entry
-check_window-requires-clause-entry c =
-    subst (λ (t : Topology). IsOf (manager_at t c.self.inside.manager (areas_of c.self.inside.regions)) c.deref-2.result.now) (sym c.deref.ensures)
-    (subst (λ (s : SpanState). IsOf (manager_at (arc_value c.self.inside.topo) c.self.inside.manager (areas_of c.self.inside.regions)) s) (sym c.deref-2.ensures) c.self.invariant.0.entry)
 
 pub returns-clause-pass : goal.returns-clause-pass
 returns-clause-pass c =
@@ -33,9 +14,7 @@ returns-clause-pass c =
     let left : SpanState = c.in_ok-exit.exit in
     let found : List Row = c.in_ok-exit.rows.items in
     let judges : Judges (manager_of task) task.entry task.beats left found =
-    subst (λ (ps : List Placed). Judges (manager_of task) task.entry ps left found) c.in_ok-walk.ensures
-    (subst (λ (s : SpanState). Judges (manager_of task) s c.in_ok-walk.walk left found) c.deref-2.ensures
-    (subst (λ (t : Topology). Judges (manager_at t c.self.inside.manager (areas_of c.self.inside.regions)) c.deref-2.result.now c.in_ok-walk.walk left found) c.deref.ensures c.in_ok-exit.ensures)) in
+    subst (λ (t : TaskData). Judges (manager_of t) t.entry t.beats left found) (sym c.self.view_is) c.in_ok-exit.ensures in
     let rest = settled task task.entry left c.settle.new.self found c.settle.ensures.same (c.settle.ensures.kept (manager_of task)) (passed task c.self.invariant.0 left found judges) in
     let kept = settled task task.entry c.settle.new.self c.in_ok-kept.kept found c.in_ok-kept.ensures.same (c.in_ok-kept.ensures.kept (manager_of task)) rest in
     let exit : c.in_ok-kept.kept ≡ arc_value c.in_ok-new.field-0 = sym c.in_ok-new.ensures.ok in

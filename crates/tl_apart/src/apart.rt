@@ -21,8 +21,8 @@ use std::alloc::{AllocError, Global};
 use std::sync::Arc;
 use std::thread::{Threads, for_each_mut};
 use tl_beats::{Fragment, Row};
+use tl_check::has_caches;
 use tl_client_rules::clients_of;
-use tl_tables::Level;
 use tl_topology::Topo;
 
 /// The links of a topology, each judged apart as its fragments come, and the managers, which judge what their links tell in the order of
@@ -36,16 +36,6 @@ pub struct Apart {
     listeners: Vec<Listener>,
     /// The rows of the managers' rules.
     rows: Vec<Row>,
-}
-
-/// Whether a link has caches.
-pub fn has_caches(topo: &Topo, link: u16) -> bool
-    ensures { result ≡ has_caches topo.now link }
-{
-    match topo.link(link) {
-        Some(decl) => decl.level == Level::C,
-        None => false,
-    }
 }
 
 /// The exponent of the blocks of a link's manager, if the topology has the link.

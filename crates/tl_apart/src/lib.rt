@@ -12,6 +12,6 @@ mod link_judge;
 mod listener;
 mod order;
 
-pub use apart::{Apart, has_caches};
+pub use apart::Apart;
 pub use fault::ApartFault;
 pub use feed::LinkFeed;

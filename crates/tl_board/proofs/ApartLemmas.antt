@@ -1,12 +1,11 @@
 -- Links without caches judged one after the other leave and find what their beats in the order of positions do.
-use Rattle.std.proofs.Common.{◌≡◌, ℕ, ◌<◌, ◌+◌, ◌==◌, ◌&&◌, inl, inr, Bool, true, false, cond, List, [], ◌∷◌, ◌++◌, take, get_or, Some, None, refl, sym, ap, subst, ◌∙◌, arith, append_assoc, append-nil}
-use Rattle.std.specs.Prelude.{map, filter, not, ◌↔◌, slice_get}
+use Rattle.std.proofs.Common.{◌≡◌, ℕ, ◌+◌, ◌==◌, ◌&&◌, Bool, true, false, cond, List, [], ◌∷◌, ◌++◌, get_or, Some, None, refl, sym, ap, subst, ◌∙◌}
+use Rattle.std.specs.Prelude.{map, filter, not, ◌↔◌}
 use Rattle.std.specs.Option.{option_map_or}
 use Rattle.std.specs.List.{Contains}
 use Rattle.std.specs.List.Sorted.{IsStrictlySortedBy}
 use Rattle.std.specs.Ordering.{nat_cmp}
-use Rattle.std.specs.declared.cmp.Ordering.TheVariants.{Less}
-use Rattle.std.proofs.lemmas.List.Elements.{All-contains, Contains-get_or, Contains-append_cases}
+use Rattle.std.proofs.lemmas.List.Elements.{All-contains, Contains-get_or}
 use Rattle.std.proofs.lemmas.List.Kept.{IsStrictlySortedBy-filter}
 use Rattle.tl_tables.specs.Messages.{level_le}
 use Rattle.tl_tables.specs.declared.Level.TheVariants as level
@@ -26,20 +25,19 @@ use Rattle.tl_definitions.specs.Report.{row_order}
 use Rattle.tl_definitions.specs.Rules.{Manager}
 use Rattle.tl_definitions.proofs.ChainLaws.{rows_judged-append, left_after-append}
 use Rattle.tl_definitions.proofs.EventLaws.{managers_of_beat, uncached_links_are_quiet}
-use Rattle.tl_definitions.proofs.LinkLaws.{kept_mapped, itself, same_link, states_apart, rows_apart}
-use Rattle.tl_definitions.proofs.Lists.{contains_none, contains_here, contains_there, contains_cases, contains_kept, kept_from, none_kept, kept_order, kept_of_both, all_of}
+use Rattle.tl_definitions.proofs.LinkLaws.{kept_mapped, itself, states_apart, rows_apart}
+use Rattle.tl_definitions.proofs.Lists.{contains_none, contains_here, contains_there, contains_kept, kept_from, kept_order, kept_of_both}
 use Rattle.tl_capture.specs.Present.{IsPresent}
 use Rattle.tl_capture.specs.Windows.{lies_in, beats_in, AreBeatsOf}
-use Rattle.tl_capture.proofs.EntryLemmas.{all_kept}
 use Rattle.tl_capture.proofs.LawLemmas.{links_are_kept, one_link_is_its_own}
-use Rattle.tl_capture.proofs.PresentLemmas.{less_is}
 use Rattle.tl_check.specs.Jobs.{GoesOn, Judges}
 use Rattle.tl_check.specs.Managers.{IsPlain}
 use Rattle.tl_check.specs.States.{shown, IsOf, SameSpan}
 use Rattle.tl_check.specs.declared.state.SpanState.{SpanState}
-use Rattle.tl_check.proofs.ListLaws.{take_more}
 use Rattle.tl_check.proofs.WalkedLaws.{judged}
-use Rattle.tl_board.specs.Apart.{of_each, in_turn, IsParted}
+use Rattle.tl_check.specs.LinkByLink.{one_after_other}
+use Rattle.tl_check.proofs.LinkByLink.{each_stays}
+use Rattle.tl_board.specs.Apart.{IsParted}
 
 -- ---- beats that are mixed otherwise
 
@@ -88,57 +86,7 @@ module _ (m : Manager) (s : Snapshot) (one two : List Placed) (same : (link : �
   plain_there plain p h = plain p (kept_from (λ (q : Placed). q.link == p.link) one p
       (subst (λ ps. Contains ps p) (sym (same p.link)) (contains_kept (λ (q : Placed). q.link == p.link) two p h (itself p.link)))).0
 
--- ---- each link's own beats, one link after the other
-
-other_link : (link l : ℕ) (beats : List Placed) → (l ≡ link → ⊥) → on_link link (on_link l beats) ≡ []
-other_link link l beats differ = none_kept (λ (p : Placed). p.link == link) (on_link l beats) (λ p h. elim (p.link == link) as (λ b. (p.link == link) ≡ b → b ≡ false) [
-  | true ↦ λ e. absurd (differ (sym (same_link p.link l (kept_from (λ (q : Placed). q.link == l) beats p h).1) ∙ same_link p.link link e))
-  | false ↦ λ e. refl
-] refl)
-
-own_twice : (link : ℕ) (beats : List Placed) → on_link link (on_link link beats) ≡ on_link link beats
-own_twice link beats = all_kept (λ (p : Placed). p.link == link) (on_link link beats) (λ p h. (kept_from (λ (q : Placed). q.link == link) beats p h).1)
-
-none_there : (link : ℕ) (links : List ℕ) (beats : List Placed) → (Contains links link → ⊥) → on_link link (in_turn (of_each links beats)) ≡ []
-none_there link [] beats away = refl
-none_there link (l ∷ links) beats away =
-    kept_of_both (λ (p : Placed). p.link == link) (on_link l beats) (in_turn (of_each links beats))
-    ∙ ap (λ ps. ps ++ on_link link (in_turn (of_each links beats))) (other_link link l beats (λ is. away (subst (Contains (l ∷ links)) is (contains_here l links))))
-    ∙ none_there link links beats (λ h. away (contains_there l links link h))
-
-some_there : (link : ℕ) (links : List ℕ) (beats : List Placed) → IsStrictlySortedBy nat_cmp links → Contains links link → on_link link (in_turn (of_each links beats)) ≡ on_link link beats
-unfolding IsStrictlySortedBy
-some_there link [] beats up has = absurd (contains_none link has)
-some_there link (l ∷ links) beats up has =
-    let later : (n : ℕ) → Contains links n → l < n = λ n h. less_is l n (all_of (λ k. nat_cmp l k ≡ Less) links up.0 n h) in
-    kept_of_both (λ (p : Placed). p.link == link) (on_link l beats) (in_turn (of_each links beats))
-    ∙ elim (contains_cases l links link has) [
-      | inl is ↦ ap (λ ps. on_link link (on_link l beats) ++ ps) (none_there link links beats (λ h. let lt = later link h in absurd (omega arith)))
-          ∙ append-nil (on_link link (on_link l beats)) ∙ ap (λ n. on_link link (on_link n beats)) is ∙ own_twice link beats
-      | inr there ↦ (let lt = later link there in
-          ap (λ ps. ps ++ on_link link (in_turn (of_each links beats))) (other_link link l beats (λ is. absurd (omega arith))) ∙ some_there link links beats up.1 there)
-    ]
-
-from_turn : (links : List ℕ) (beats : List Placed) (p : Placed) → Contains (in_turn (of_each links beats)) p → Contains beats p
-from_turn [] beats p h = absurd (contains_none p h)
-from_turn (l ∷ links) beats p h = elim (Contains-append_cases (on_link l beats) (in_turn (of_each links beats)) p h) [
-  | inl here ↦ (kept_from (λ (q : Placed). q.link == l) beats p here).0
-  | inr there ↦ from_turn links beats p there
-]
-
-module _ (links : List ℕ) (beats : List Placed) (up : IsStrictlySortedBy nat_cmp links) (are : AreBeatsOf links beats) where
-  linked : (p : Placed) → Contains beats p → Contains links p.link
-  linked p h = All-contains (λ (q : Placed). Contains links q.link) beats p are.linked h
-
-  pub each_stays : (link : ℕ) → on_link link (in_turn (of_each links beats)) ≡ on_link link beats
-  each_stays link = elim (on_link link beats) as (λ ps. on_link link beats ≡ ps → on_link link (in_turn (of_each links beats)) ≡ on_link link beats) [
-    | p ∷ ps ↦ λ e. (let kept = kept_from (λ (q : Placed). q.link == link) beats p (subst (λ qs. Contains qs p) (sym e) (contains_here p ps)) in
-        some_there link links beats up (subst (Contains links) (same_link p.link link kept.1) (linked p kept.0)))
-    | [] ↦ λ e. none_kept (λ (q : Placed). q.link == link) (in_turn (of_each links beats)) (λ q h. elim (q.link == link) as (λ b. (q.link == link) ≡ b → b ≡ false) [
-      | true ↦ λ at. absurd (contains_none q (subst (λ qs. Contains qs q) e (contains_kept (λ (r : Placed). r.link == link) beats q (from_turn links beats q h) at)))
-      | false ↦ λ at. refl
-    ] refl) ∙ sym e
-  ] refl
+-- ---- the beats of one link
 
 -- The beats of one of these links are such as a check asks for.
 pub own_are_beats : (links : List ℕ) (beats : List Placed) (link : ℕ) → AreBeatsOf links beats → AreBeatsOf links (on_link link beats)
@@ -157,22 +105,6 @@ own_window links fs window link is has =
     ap (beats_in window) (one_link_is_its_own link fs is ∙ sym (links_are_kept links fs link is has))
     ∙ kept_order (lies_in window) (λ (p : Placed). p.link == link) (beats_of_all links fs)
 
--- ---- one list more
-
-each_both : (links : List ℕ) (link : ℕ) (beats : List Placed) → of_each (links ++ link ∷ []) beats ≡ of_each links beats ++ on_link link beats ∷ []
-each_both [] link beats = refl
-each_both (l ∷ links) link beats = ap (λ ls. on_link l beats ∷ ls) (each_both links link beats)
-
-pub each_more : (links : List ℕ) (k link : ℕ) (beats : List Placed) (lists more : List (List Placed)) (own : List Placed) → slice_get links k ≡ Some link → lists ≡ of_each (take k links) beats
-    → own ≡ on_link link beats → more ≡ lists ++ own ∷ [] → more ≡ of_each (take (k + 1) links) beats
-each_more links k link beats lists more own at known is put =
-    put ∙ ap (λ ls. ls ++ own ∷ []) known ∙ ap (λ ps. of_each (take k links) beats ++ ps ∷ []) is
-    ∙ sym (each_both (take k links) link beats) ∙ ap (λ ls. of_each ls beats) (sym (take_more links k link at))
-
-pub turn_more : (lists : List (List Placed)) (beats : List Placed) → in_turn (lists ++ beats ∷ []) ≡ in_turn lists ++ beats
-turn_more [] beats = append-nil beats
-turn_more (first ∷ lists) beats = ap (λ ps. first ++ ps) (turn_more lists beats) ∙ sym (append_assoc first (in_turn lists) beats)
-
 pub goes_further : (m : Manager) (old now new : SpanState) (earlier beats all : List Placed) (rows found more : List Row) → GoesOn m old earlier now rows → GoesOn m now beats new found
     → all ≡ earlier ++ beats → more ≡ rows ++ found → GoesOn m old all new more
 goes_further m old now new earlier beats all rows found more first then put grown = record {
@@ -190,14 +122,15 @@ not_begun m state rows is none = record { is_of = is; left = refl; found = none 
 
 pub judged_apart : (topo : Topology) (manager : ℕ) (areas : List Area) (entry copy exit : SpanState) (beats : List Placed) (lists : List (List Placed)) (found rows : List Row)
     → IsStrictlySortedBy nat_cmp (clients_of manager (declared_links topo)) → IsParted topo manager beats lists → SameSpan entry copy
-    → GoesOn (manager_at topo manager areas) copy (in_turn lists) exit found → IsStrictlySortedBy row_order rows → ((row : Row) → Contains rows row ↔ Contains found row)
+    → GoesOn (manager_at topo manager areas) copy (one_after_other lists) exit found → IsStrictlySortedBy row_order rows → ((row : Row) → Contains rows row ↔ Contains found row)
     → Judges (manager_at topo manager areas) entry beats exit rows
 judged_apart topo manager areas entry copy exit beats lists found rows up parted same gone sorted members =
     let m : Manager = manager_at topo manager areas in
     let links : List ℕ = clients_of manager (declared_links topo) in
-    let mixed : List Placed = in_turn lists in
-    let alike : (link : ℕ) → on_link link mixed ≡ on_link link beats = λ link. ap (λ ls. on_link link (in_turn ls)) parted.each ∙ each_stays links beats up parted.all link in
-    let plain : ArePlain m beats = λ p h. All-contains (IsPlain topo) links p.link parted.plain (linked links beats up parted.all p h) in
+    let mixed : List Placed = one_after_other lists in
+    let linked : (p : Placed) → Contains beats p → Contains links p.link = λ p h. All-contains (λ (q : Placed). Contains links q.link) beats p parted.all.linked h in
+    let alike : (link : ℕ) → on_link link mixed ≡ on_link link beats = λ link. ap (λ ls. on_link link (one_after_other ls)) parted.each ∙ each_stays links beats up linked link in
+    let plain : ArePlain m beats = λ p h. All-contains (IsPlain topo) links p.link parted.plain (linked p h) in
     let mixed_plain : ArePlain m mixed = plain_there m (shown copy) beats mixed (λ link. sym (alike link)) plain in
     let all : List Row = rows_judged (judging m) (shown copy) beats in
     judged m entry copy exit beats all rows parted.all.rise same

@@ -15,7 +15,8 @@ use Rattle.tl_check.specs.Jobs.{Judges}
 use Rattle.tl_check.specs.States.{shown, IsOf, SameSpan}
 use Rattle.tl_check.specs.declared.state.SpanState.{SpanState}
 use Rattle.tl_check.proofs.StateLaws.{same_shown}
-use Rattle.tl_board.specs.Apart.{of_each, AreApart, IsParted}
+use Rattle.tl_check.specs.LinkByLink.{of_each}
+use Rattle.tl_board.specs.Apart.{AreApart, IsParted}
 use Rattle.tl_board.specs.Tasks.{TaskData, IsTask, IsPassOf, manager_of}
 use Rattle.tl_board.proofs.ApartLemmas.{own_are_beats}
 

@@ -1,6 +1,6 @@
 //! Windows of managers without caches: their links are judged one after the other.
 
-ghost use Rattle.std.specs.Prelude.{◌≡◌, ◌<◌, List, true, length, IfOk};
+ghost use Rattle.std.specs.Prelude.{◌<◌, List, length, IfOk};
 ghost use Rattle.std.specs.List.{All};
 ghost use Rattle.std.specs.List.Sorted.{IsStrictlySortedBy};
 ghost use Rattle.std.specs.Ordering.{nat_cmp};
@@ -10,41 +10,18 @@ ghost use Rattle.tl_definitions.specs.Managers.{declared_links, manager_at};
 ghost use Rattle.tl_definitions.specs.Positions.{beats_of_all, clients_of};
 ghost use Rattle.tl_capture.specs.Windows.{beats_in, AreBeatsOf};
 ghost use Rattle.tl_check.specs.Jobs.{GoesOn, Judges};
-ghost use Rattle.tl_check.specs.Managers.{has_caches, IsPlain};
 ghost use Rattle.tl_check.specs.States.{IsOf};
-ghost use Rattle.tl_board.specs.Apart.{in_turn, AreApart, IsParted};
+ghost use Rattle.tl_check.specs.LinkByLink.{one_after_other};
+ghost use Rattle.tl_board.specs.Apart.{AreApart, IsParted};
 
 use std::alloc::{AllocError, Global};
 use tl_beats::Row;
 use tl_capture::{Present, WindowBeats};
-use tl_check::{SpanState, go_on, sort_rows};
-use tl_tables::Level;
+use tl_check::{SpanState, are_plain, go_on, sort_rows};
 use tl_topology::{RegionMap, Topo};
 
 /// The most links that are judged one after the other: each asks for all links of the topology anew.
 const MOST_LINKS: usize = 64;
-
-/// Whether a link has caches.
-fn has_caches(topo: &Topo, link: u16) -> bool
-    ensures { result ≡ has_caches topo.now link }
-{
-    match topo.link(link) {
-        Some(decl) => decl.level == Level::C,
-        None => false,
-    }
-}
-
-/// Whether none of these links has caches; false says nothing.
-fn are_plain(topo: &Topo, links: &[u16]) -> bool
-    ensures { result ≡ true → All (IsPlain topo.now) links.now }
-{
-    for link in links {
-        if has_caches(topo, *link) {
-            return false;
-        }
-    }
-    true
-}
 
 /// The beats in a window of each of these links, whose numbers rise, shared and not copied; none at all where a link has caches, or where
 /// there are many links. AllocError where memory is refused.
@@ -84,7 +61,7 @@ fn go_through(
     requires manager { manager < length topo.now.managers }
     requires each { All (AreBeatsOf (clients_of manager (declared_links topo.now))) lists.now }
     requires state { IsOf (manager_at topo.now manager (areas_of regions.now)) state.old }
-    ensures { IfOk result (λ rows. GoesOn (manager_at topo.now manager (areas_of regions.now)) state.old (in_turn lists.now) state.new rows.items) }
+    ensures { IfOk result (λ rows. GoesOn (manager_at topo.now manager (areas_of regions.now)) state.old (one_after_other lists.now) state.new rows.items) }
 {
     let mut rows = Vec::new(alloc);
     for beats in lists {

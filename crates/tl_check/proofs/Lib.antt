@@ -15,5 +15,6 @@ pub mod PlainLaws
 pub mod LinkStateLaws
 pub mod CleanHeadLaws
 pub mod PassLaws
+pub mod LinkByLink
 pub mod FoundLaws
 pub mod Chunks

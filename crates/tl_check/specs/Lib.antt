@@ -11,5 +11,6 @@ pub mod Notes
 pub mod Requests
 pub mod Apart
 pub mod Managers
+pub mod LinkByLink
 pub mod CleanHeads
 pub mod Beside

@@ -23,6 +23,7 @@ pub mod window_laws;
 pub use beside::Judges;
 pub use checking::check_all;
 pub use form::{Form, Plain};
+pub use managers::{are_plain, has_caches};
 pub use once::{OnceFault, all_added, run_once, run_once_as, run_once_beside};
 pub use plain_laws::guarded_reports_are_coherent;
 pub use report::{Report, audit_head, audit_text, head_text, listed, report_text, row_text};

@@ -1,6 +1,7 @@
 //! The rows of managers, from their first beats on.
 
 ghost use Rattle.std.specs.Prelude.{◌≡◌, ◌<◌, IfOk, length};
+ghost use Rattle.std.specs.Bool.{Decides};
 ghost use Rattle.std.specs.List.{All};
 ghost use Rattle.tl_topology.specs.Regions.{areas_of};
 ghost use Rattle.tl_definitions.specs.Managers.{declared_links, manager_at};
@@ -17,14 +18,26 @@ use tl_client_rules::clients_of;
 use tl_tables::Level;
 use tl_topology::{RegionMap, Topo};
 
-/// Whether a link has caches.
-fn has_caches(topo: &Topo, link: u16) -> bool
+/// Whether a link of the topology has caches.
+pub fn has_caches(topo: &Topo, link: u16) -> bool
     ensures { result ≡ has_caches topo.now link }
 {
     match topo.link(link) {
         Some(decl) => decl.level == Level::C,
         None => false,
     }
+}
+
+/// Whether none of these links has caches.
+pub fn are_plain(topo: &Topo, links: &[u16]) -> bool
+    ensures { Decides result (All (IsPlain topo.now) links.now) }
+{
+    for link in links {
+        if has_caches(topo, *link) {
+            return false;
+        }
+    }
+    true
 }
 
 /// Those of these links that have caches. AllocError where memory is refused.

@@ -2,6 +2,7 @@
 use Rattle.std.proofs.Common.{◌≡◌, ℕ, ◌+◌, ◌-◌, ◌<◌, ◌≤◌, ◌==◌, ◌||◌, inl, inr, Bool, true, false, cond, List, [], ◌∷◌, Option, Some, None, refl, sym, ap, ◌∙◌, arith}
 use Rattle.std.specs.Prelude.{nat_lt, nat_le}
 use Rattle.std.specs.List.{Contains, list_any}
+use Rattle.std.specs.Option.{option_map}
 use Rattle.std.proofs.lemmas.Bool.Decides.{nat_tests}
 use Rattle.tl_definitions.specs.OpenTables.{one_if, passes}
 use Rattle.tl_definitions.specs.Past.{grants_block}
@@ -98,18 +99,22 @@ any_from {X} p (y ∷ xs) h = elim (p y) as (λ b. p y ≡ b → (b || list_any 
   | false ↦ λ e g. any_from p xs g
 ] refl h
 
+same_passes : (on : ℕ) (block : Option ℕ) → passes (grants_block on) (option_map (λ b. Some b) block) ≡ grants_block on block
+same_passes on None = refl
+same_passes on (Some b) = refl
+
 -- An entry that is counted on a block is known to be open, with that block.
 counted_entry : {V : Type 0} (block_of : V → Option ℕ) (on : ℕ) (entry : Known (Option V)) → passes (grants_block on) (open_block block_of entry) ≡ true
     → (value : V) × (entry ≡ known (Some value)) × (grants_block on (block_of value) ≡ true)
 counted_entry block_of on unknown h = absurd cc
 counted_entry block_of on (known None) h = absurd cc
-counted_entry block_of on (known (Some value)) h = (value, refl, h)
+counted_entry block_of on (known (Some value)) h = (value, refl, sym (same_passes on (block_of value)) ∙ h)
 
 entry_counted : {V : Type 0} (block_of : V → Option ℕ) (test : V → Bool) (on : ℕ) (entry : Known (Option V)) → ((value : V) → grants_block on (block_of value) ≡ test value)
     → surely (passes test) entry ≡ true → passes (grants_block on) (open_block block_of entry) ≡ true
 entry_counted block_of test on unknown same h = cc
 entry_counted block_of test on (known None) same h = cc
-entry_counted block_of test on (known (Some value)) same h = same value ∙ h
+entry_counted block_of test on (known (Some value)) same h = same_passes on (block_of value) ∙ same value ∙ h
 
 some_counted : (n : ℕ) → nat_lt 0 n ≡ true → 0 < n
 some_counted n h = grind (arith, nat_tests)

@@ -12,15 +12,13 @@ use Rattle.tl_edits.specs.Inputs.{InputData}
 use Rattle.tl_definitions.specs.Known.{Beginning}
 use Rattle.tl_definitions.specs.OpenTables.{one_if}
 use Rattle.tl_definitions.specs.Rules.{Manager}
-use Rattle.tl_midway.specs.Counts.{counted_after, counted, managers_counted, beats_counted}
+use Rattle.tl_midway.specs.Counts.{counted, managers_counted, beats_counted}
 use Rattle.tl_midway.specs.Counted.{asked_of, counted_rules, rule_counts, one_beat, HasCounts, Adds, AreCounts}
 use Rattle.tl_midway.specs.LeadIns.{leads_in}
-use Rattle.tl_midway.specs.State.{StandsFor}
 use Rattle.tl_midway.specs.Unjudged.{is_unjudged}
 use Rattle.tl_midway.specs.declared.counts.Counts.{Counts}
 use Rattle.tl_midway.specs.declared.counts.RuleCount.{RuleCount}
 use Rattle.tl_midway.specs.declared.midway.Midway.{Midway}
-use Rattle.tl_midway.specs.declared.state.MidwayState.{MidwayState}
 
 pub mapped_each : {X : Type 0} (f : X → X) (xs ys : List X) → length ys ≡ length xs → ((k : ℕ) (d : X) → k < length xs → get_or ys k d ≡ f (get_or xs k d)) → ys ≡ map f xs
 mapped_each f [] [] many each = refl
@@ -72,42 +70,10 @@ module _ (m : Manager) (start : Beginning) (before : List Placed) (p : Placed) (
     unjudged = same ∙ has.unjudged ∙ ap (rule_counts n) not ∙ sym (ap (rule_counts (λ asked. n asked + one_if (asked_of asked m start before p))) (by ∙ not));
   }
 
--- ---- a walk
-
--- The state stands for the beats so far; the counts with those of the beats that are left are those of all.
-abbrev pub AreOn : Manager → Beginning → MidwayState → Counts → (Option Rule → ℕ) → List Placed → List Placed → Type 0
-AreOn m start state counts first rest all = (before : List Placed) × (n : Option Rule → ℕ) × StandsFor m start state before × HasCounts counts n
-    × ((asked : Option Rule) → n asked + counted_after (asked_of asked) m start before rest ≡ first asked + counted_after (asked_of asked) m start [] all)
-
-pub begun : (m : Manager) (start : Beginning) (state : MidwayState) (counts : Counts) (first : Option Rule → ℕ) (rest all : List Placed) → StandsFor m start state [] → HasCounts counts first → rest ≡ all
-    → AreOn m start state counts first rest all
-begun m start state counts first rest all stands has is = ([], first, stands, has, λ asked. ap (λ ps. first asked + counted_after (asked_of asked) m start [] ps) is)
-
-plus_assoc : (n k l : ℕ) → n + k + l ≡ n + (k + l)
-plus_assoc n k l = omega arith
-
-pub one_more : (m : Manager) (start : Beginning) (old new : MidwayState) (counts more : Counts) (first : Option Rule → ℕ) (p : Placed) (now rest all : List Placed) → now ≡ p ∷ rest
-    → ((before : List Placed) (n : Option Rule → ℕ) → StandsFor m start old before → HasCounts counts n → HasCounts more (λ asked. n asked + one_if (asked_of asked m start before p)))
-    → ((before : List Placed) → StandsFor m start old before → StandsFor m start new (p ∷ before)) → AreOn m start old counts first now all → AreOn m start new more first rest all
-one_more m start old new counts more first p now rest all steps put next on =
-    let before : List Placed = on.0 in
-    let n : Option Rule → ℕ = on.1 in (
-      p ∷ before,
-      (λ asked. n asked + one_if (asked_of asked m start before p)),
-      next before on.2,
-      put before n on.2 on.3,
-      λ asked. plus_assoc (n asked) (one_if (asked_of asked m start before p)) (counted_after (asked_of asked) m start (p ∷ before) rest)
-          ∙ sym (ap (λ ps. n asked + counted_after (asked_of asked) m start before ps) steps) ∙ on.4 asked,
-    )
-
-pub done : (m : Manager) (start : Beginning) (state : MidwayState) (counts : Counts) (first : Option Rule → ℕ) (now all : List Placed) → now ≡ [] → AreOn m start state counts first now all
-    → HasCounts counts (λ asked. first asked + counted_after (asked_of asked) m start [] all)
-done m start state counts first now all none on =
-    let same : on.1 ≡ (λ asked. first asked + counted_after (asked_of asked) m start [] all) =
-    λ i asked. (plus_zero (on.1 asked) ∙ sym (ap (λ ps. on.1 asked + counted_after (asked_of asked) m start on.0 ps) none) ∙ on.4 asked) i in
-    subst (HasCounts counts) same on.3
-
 -- ---- managers, one after the other
+
+pub plus_assoc : (n k l : ℕ) → n + k + l ≡ n + (k + l)
+plus_assoc n k l = omega arith
 
 pub none_yet : (counts : Counts) (first : Option Rule → ℕ) → HasCounts counts first → HasCounts counts (λ asked. first asked + 0)
 none_yet counts first has = subst (HasCounts counts) (λ i asked. plus_zero (first asked) i) has

@@ -22,3 +22,6 @@ pub mod UnjudgedLaws
 pub mod AskedLaws
 pub mod UnjudgedStandLaws
 pub mod CountsLaws
+mod ApartLaws
+mod ApartCounts
+mod JudgedLaws

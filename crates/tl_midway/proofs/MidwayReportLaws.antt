@@ -28,12 +28,13 @@ use Rattle.tl_check.specs.Captured.{areas_at, watch_captures}
 use Rattle.tl_check.specs.Found.{AreFound}
 use Rattle.tl_check.proofs.CaptureLaws.{one_place, linked_in, row_linked as any_linked}
 use Rattle.tl_midway.proofs.WalkLaws.{below}
+use Rattle.tl_midway.specs.Judged.{AreRowsOf}
 use Rattle.tl_midway.specs.Midway.{beginning_of}
 use Rattle.tl_midway.specs.Report.{manager_rows, IsPrinted, ArePrinted, StandsIn, IsMidwayReport}
 use Rattle.tl_midway.specs.declared.midway.Midway.{Midway}
 
 -- A row that is printed is of one of the beats.
-printed_from : (m : Manager) (start : Beginning) (before beats : List Placed) (row : Row) → Contains (printed_after m start before beats) row → (p : Placed) × Contains beats p × (row ≡ row_of p row.rule)
+pub printed_from : (m : Manager) (start : Beginning) (before beats : List Placed) (row : Row) → Contains (printed_after m start before beats) row → (p : Placed) × Contains beats p × (row ≡ row_of p row.rule)
 printed_from m start before [] row h = absurd (contains_none row h)
 printed_from m start before (p ∷ beats) row h =
     elim (Contains-append_cases (map (row_of p) (printed_rules m start before p)) (printed_after m start (p ∷ before) beats) row h) [
@@ -155,14 +156,14 @@ report_of law now topo fs given watches one two three four is found flagged both
 
 module _ (law : Midway) (topo : Topology) (regions : ℕ → List Area) (fs : List Recorded) where
   -- One manager more.
-  pub manager_more : (k : ℕ) (rows own more : List Row) → ArePrinted law topo regions fs k rows → own ≡ manager_rows law topo regions fs k → more ≡ rows ++ own
+  pub manager_more : (k : ℕ) (rows own more : List Row) → ArePrinted law topo regions fs k rows → AreRowsOf law topo (regions k) fs k own → more ≡ rows ++ own
       → ArePrinted law topo regions fs (k + 1) more
   manager_more k rows own more are is put row = (to, from)
     where
       to : Contains more row → IsPrinted law topo regions fs (k + 1) row
       to h = elim (Contains-append_cases rows own row (subst (λ rs. Contains rs row) put h)) [
         | inl old ↦ (let found = (are row).0 old in let less = found.1 in (found.0, omega (arith, less), found.2))
-        | inr new ↦ (k, omega arith, subst (λ rs. Contains rs row) is new)
+        | inr new ↦ (k, omega arith, (is row).0 new)
       ]
 
       from : IsPrinted law topo regions fs (k + 1) row → Contains more row
@@ -173,7 +174,7 @@ module _ (law : Midway) (topo : Topology) (regions : ℕ → List Area) (fs : Li
           (elim (nat_lt j k) as (λ b. nat_lt j k ≡ b → Contains (rows ++ own) row) [
             | true ↦ λ e. (let earlier : j < k = grind (arith, nat_tests) in Contains-append_left rows own row ((are row).1 (j, earlier, printed.2)))
             | false ↦ λ e. (let last : j ≡ k = grind (arith, nat_tests) in
-                Contains-append_right rows own row (subst (λ rs. Contains rs row) (sym is) (subst (λ n. Contains (manager_rows law topo regions fs n) row) last printed.2)))
+                Contains-append_right rows own row ((is row).1 (subst (λ n. Contains (manager_rows law topo regions fs n) row) last printed.2)))
           ] refl)
 
   pub no_managers : (rows : List Row) → rows ≡ [] → ArePrinted law topo regions fs 0 rows

@@ -14,6 +14,7 @@ use Rattle.tl_definitions.specs.Rules.{Manager}
 use Rattle.tl_definitions.specs.Known.{Beginning}
 use Rattle.tl_definitions.specs.Printed.{printed_rules, printed_after}
 use Rattle.tl_definitions.proofs.MidwayLaws.{any_past_has_printed_rows, pasts_of_whole_messages_have_printed_rows}
+use Rattle.tl_definitions.proofs.Lists.{onto}
 use Rattle.tl_definitions.proofs.ToldLaws.{told_rows_are_certain}
 use Rattle.tl_client_rules.specs.Clients.{place_of}
 use Rattle.tl_client_rules.proofs.ClientsLaws.{contained_place, clients_below}
@@ -25,6 +26,12 @@ use Rattle.tl_midway.specs.Walked.{rows_by, AreCertain, GoesOn}
 use Rattle.tl_midway.specs.declared.midway.Midway.{Midway}
 use Rattle.tl_midway.specs.declared.midway.Midway.TheVariants as midway
 use Rattle.tl_midway.specs.declared.state.MidwayState.{MidwayState}
+
+pub printed_both : (m : Manager) (start : Beginning) (before xs ys : List Placed) → printed_after m start before (xs ++ ys) ≡ printed_after m start before xs ++ printed_after m start (onto before xs) ys
+printed_both m start before [] ys = refl
+printed_both m start before (p ∷ xs) ys =
+    ap (λ rows. map (row_of p) (printed_rules m start before p) ++ rows) (printed_both m start (p ∷ before) xs ys)
+    ∙ sym (append_assoc (map (row_of p) (printed_rules m start before p)) (printed_after m start (p ∷ before) xs) (printed_after m start (onto (p ∷ before) xs) ys))
 
 -- The state stands for these beats and those so far, and the rows so far with those of the beats that are left are all.
 pub record IsOn (m : Manager) (start : Beginning) (state : MidwayState) (rows : List Row) (rest before all : List Placed) : Type 0 where
@@ -45,7 +52,7 @@ begun m state rows rest all none is start before stands = record {
   beats = ap (λ ps. before ++ ps) is;
 }
 
-reversed : (ps : List Placed) (p : Placed) → p ∷ reverse ps ≡ reverse (ps ++ p ∷ [])
+pub reversed : (ps : List Placed) (p : Placed) → p ∷ reverse ps ≡ reverse (ps ++ p ∷ [])
 reversed ps p = sym (reverse-append ps (p ∷ []))
 
 pub one_more : (m : Manager) (entry old new : MidwayState) (rows more : List Row) (p : Placed) (now rest all : List Placed) → now ≡ p ∷ rest

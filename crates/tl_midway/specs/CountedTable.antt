@@ -1,6 +1,6 @@
 -- What is known of entries by their keys, and how many are known to be open on each block.
-use Rattle.std.specs.Prelude.{ℕ, zero, suc, ◌≡◌, ◌≤◌, ◌+◌, ◌==◌, Bool, Option, None, if◌then◌else◌}
-use Rattle.std.specs.Option.{option_map}
+use Rattle.std.specs.Prelude.{ℕ, zero, suc, ◌≡◌, ◌≤◌, ◌+◌, ◌==◌, Bool, Option, Some, None, if◌then◌else◌}
+use Rattle.std.specs.Option.{option_map, option_and_then}
 use Rattle.tl_definitions.specs.OpenTables.{one_if, passes}
 use Rattle.tl_definitions.specs.Past.{grants_block}
 use Rattle.tl_definitions.specs.Known.{Known, unknown, known}
@@ -20,10 +20,10 @@ IsSetTo {V} old new key entry = (first : Known (Option V)) (other : ℕ) → ent
 abbrev pub open_count : {V : Type 0} → CountedTable V → ℕ → ℕ
 open_count table block = open_on table.counted block
 
--- The block of an entry that is known to be open, if it has one that is known.
+-- What is counted of an entry: its block, where it is known to be open and has one that is known.
 abbrev pub open_block : {V : Type 0} → (V → Option ℕ) → Known (Option V) → Option (Option ℕ)
 open_block block_of unknown = None
-open_block block_of (known entry) = option_map block_of entry
+open_block block_of (known entry) = option_map (λ block. Some block) (option_and_then block_of entry)
 
 -- An entry that is known to be open has this block.
 abbrev pub HasBlock : {V : Type 0} → (V → Option ℕ) → Option ℕ → Known (Option V) → Type 0

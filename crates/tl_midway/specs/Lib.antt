@@ -20,3 +20,4 @@ pub mod Counts
 pub mod Unjudged
 pub mod Asked
 pub mod Counted
+pub mod Judged

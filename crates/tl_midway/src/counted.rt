@@ -15,16 +15,19 @@ use tl_client_rules::OpenBlocks;
 #[derive(Drop)]
 pub struct CountedTable<V: Copy + Drop> {
     entries: KnownTable<Option<V>>,
-    /// Those that are known to be open, each with its block, if it has one that is known.
+    /// Those that are known to be open with a block that is known.
     counted: OpenBlocks,
 }
 
-/// What is counted of an entry: where it is known to be open, its block.
+/// What is counted of an entry: its block, where it is known to be open and has one. So a message without a block takes no entry.
 fn open_block<V: Copy>(entry: Known<Option<V>>, block: Option<u64>) -> Option<Option<u64>>
     ensures { result ≡ open_block (λ value. block) (known_of entry) }
 {
     match entry {
-        Known::Sure(Some(_)) => Some(block),
+        Known::Sure(Some(_)) => match block {
+            Some(block) => Some(Some(block)),
+            None => None,
+        },
         Known::Sure(None) | Known::Unknown => None,
     }
 }

@@ -1,26 +1,26 @@
-//! The report of a capture that begins in the middle of a run, and what is counted of its beats, by one walk over each manager's.
+//! The report of a capture that begins in the middle of a run, and what is counted of its beats: each is judged and counted at once.
 
-ghost use Rattle.std.specs.Prelude.{◌≡◌, ℕ, ◌+◌, ◌<◌, Option, length, IfOk, OnOk};
+ghost use Rattle.std.specs.Prelude.{◌≡◌, ℕ, ◌+◌, ◌<◌, [], Option, length, IfOk, OnOk};
 ghost use Rattle.std.specs.List.{All, Contains};
 ghost use Rattle.tl_tables.specs.declared.Rule.{Rule as AnyRule};
 ghost use Rattle.tl_topology.specs.Regions.{areas_of};
 ghost use Rattle.tl_beats.specs.Beats.{IsWellFormed};
-ghost use Rattle.tl_definitions.specs.Captures.{manager_beats};
 ghost use Rattle.tl_definitions.specs.Managers.{declared_links, manager_at};
 ghost use Rattle.tl_definitions.specs.Positions.{clients_of};
 ghost use Rattle.tl_check.specs.Captured.{areas_at};
 ghost use Rattle.tl_midway.specs.Counts.{managers_counted};
-ghost use Rattle.tl_midway.specs.Counted.{HasCounts, Adds, AreCounts, asked_of};
+ghost use Rattle.tl_midway.specs.Counted.{HasCounts, AreCounts, asked_of};
+ghost use Rattle.tl_midway.specs.Judged.{HasJudged, GoesOver, CountsOn, AreRowsOf, AddsManager};
 ghost use Rattle.tl_midway.specs.Report.{ArePrinted, IsMidwayReport};
-ghost use Rattle.tl_midway.specs.Walked.{rows_by};
+ghost use Rattle.tl_midway.specs.State.{IsOf};
 
 use crate::counts::Counts;
+use crate::judged::Judged;
 use crate::midway::Midway;
-use crate::state::MidwayState;
 use std::alloc::{AllocError, Global};
 use tl_beats::Row;
 use tl_capture::{Merged, Present};
-use tl_check::{sort_rows, watches_rows};
+use tl_check::{are_plain, sort_rows, watches_rows};
 use tl_client_rules::clients_of;
 use tl_edits::Inputs;
 use tl_topology::{RegionMap, Topo};
@@ -34,34 +34,66 @@ pub struct CountedReport {
     pub counts: Counts,
 }
 
-/// Counts the beats of a manager with these regions that a walk gives, by the law of the counts. Answers the rows that are printed of
-/// them, in the order of positions.
+/// Judges the beats of a manager with these regions that a walk gives, after those that were judged, and counts them.
+/// AllocError where memory is refused: then what was judged and counted is for nothing more.
 fn counted_walk<'a>(
     alloc: Global,
     topo: &Topo,
-    manager: u16,
     regions: &RegionMap,
     walk: Merged<'a>,
+    judged: &mut Judged,
     counts: &mut Counts,
-) -> Result<Vec<Row>, AllocError>
+) -> Result<(), AllocError>
     requires formed { All (λ p. IsWellFormed p.beat) walk }
-    requires linked { All (λ p. Contains (clients_of manager (declared_links topo.now)) p.link) walk }
-    ensures rows { IfOk result (λ rows. rows.items ≡ rows_by counts.old.law (manager_at topo.now manager (areas_of regions.now)) walk.entry) }
-    ensures counts { OnOk result (Adds (manager_at topo.now manager (areas_of regions.now)) walk.entry counts.old counts.new) }
+    requires linked { All (λ p. Contains (clients_of judged.old.manager (declared_links topo.now)) p.link) walk }
+    requires judged { IsOf (manager_at topo.now judged.old.manager (areas_of regions.now)) judged.old.state }
+    ensures judged { OnOk result (GoesOver topo.now (areas_of regions.now) walk.entry judged.old judged.new) }
+    ensures counts { OnOk result (CountsOn topo.now (areas_of regions.now) walk.entry judged.old counts.old counts.new) }
+    ensures manager { judged.new.manager ≡ judged.old.manager }
+    ensures law { counts.new.law ≡ counts.old.law }
+    ensures by_rule { counts.new.by_rule ≡ counts.old.by_rule }
+{
+    for at in walk {
+        let link = topo.link(at.link).unwrap();
+        counts.add(alloc, link, regions, &at, &judged.state);
+        judged
+            .state
+            .step(alloc, link, regions, &at, &mut judged.rows)?;
+    }
+    Ok(())
+}
+
+/// The same of all beats of a manager, none of which was judged. Where none of its links has caches, one link follows the other, since no
+/// rule looks across links: that takes no merge of their beats.
+fn counted_beats(
+    alloc: Global,
+    topo: &Topo,
+    present: &Present,
+    regions: &RegionMap,
+    judged: &mut Judged,
+    counts: &mut Counts,
+) -> Result<(), AllocError>
+    requires { HasJudged (manager_at topo.now judged.old.manager (areas_of regions.now)) counts.old.law [] judged.old }
+    ensures rows { OnOk result (AreRowsOf counts.old.law topo.now (areas_of regions.now) present.now judged.old.manager judged.new.rows.items) }
+    ensures counts { OnOk result (AddsManager topo.now (areas_of regions.now) present.now judged.old.manager counts.old counts.new) }
     ensures law { OnOk result (counts.new.law ≡ counts.old.law) }
     ensures by_rule { OnOk result (counts.new.by_rule ≡ counts.old.by_rule) }
 {
-    let mut state = MidwayState::new(alloc, topo, manager, counts.law)?;
-    let mut rows = Vec::new(alloc);
-    for at in walk {
-        let link = topo.link(at.link).unwrap();
-        counts.add(alloc, link, regions, &at, &state);
-        state.step(alloc, link, regions, &at, &mut rows)?;
+    // No two fragments of a link share a number or a cycle.
+    let _ = present.is_empty();
+    let links = clients_of(alloc, topo, judged.manager)?;
+    if !are_plain(topo, &links) {
+        let walk = present.walk(alloc, &links)?;
+        return counted_walk(alloc, topo, regions, walk, judged, counts);
     }
-    Ok(rows)
+    for link in &links {
+        let own = present.walk(alloc, &[*link])?;
+        counted_walk(alloc, topo, regions, own, judged, counts)?;
+    }
+    Ok(())
 }
 
-/// The same of all beats of a manager.
+/// The rows that are printed of a manager, in any order; its beats are counted.
 fn counted_manager(
     alloc: Global,
     topo: &Topo,
@@ -70,17 +102,17 @@ fn counted_manager(
     regions: &RegionMap,
     counts: &mut Counts,
 ) -> Result<Vec<Row>, AllocError>
-    ensures rows { IfOk result (λ rows. rows.items ≡ rows_by counts.old.law (manager_at topo.now manager (areas_of regions.now)) (manager_beats topo.now present.now manager)) }
-    ensures counts { OnOk result (Adds (manager_at topo.now manager (areas_of regions.now)) (manager_beats topo.now present.now manager) counts.old counts.new) }
+    ensures rows { IfOk result (λ rows. AreRowsOf counts.old.law topo.now (areas_of regions.now) present.now manager rows.items) }
+    ensures counts { OnOk result (AddsManager topo.now (areas_of regions.now) present.now manager counts.old counts.new) }
     ensures law { OnOk result (counts.new.law ≡ counts.old.law) }
     ensures by_rule { OnOk result (counts.new.by_rule ≡ counts.old.by_rule) }
 {
-    let links = clients_of(alloc, topo, manager)?;
-    let walk = present.walk(alloc, &links)?;
-    counted_walk(alloc, topo, manager, regions, walk, counts)
+    let mut judged = Judged::new(alloc, topo, manager, counts.law)?;
+    counted_beats(alloc, topo, present, regions, &mut judged, counts)?;
+    Ok(judged.rows)
 }
 
-/// The same of all managers with their regions, one after the other.
+/// The rows that are printed of all managers with their regions, one after the other.
 fn counted_managers(
     alloc: Global,
     topo: &Topo,
@@ -131,4 +163,13 @@ pub fn counted_report(
         rows: sort_rows(rows),
         counts,
     })
+}
+
+/// The rows of that report. AllocError where memory is refused.
+pub fn midway_report(alloc: Global, inputs: &Inputs, law: Midway) -> Result<Vec<Row>, AllocError>
+    ensures report { IfOk result (λ rows. IsMidwayReport law inputs.now rows.items) }
+    ensures links { IfOk result (λ rows. All (λ row. row.link < length inputs.now.topo.links) rows.items) }
+{
+    let found = counted_report(alloc, inputs, law, false)?;
+    Ok(found.rows)
 }

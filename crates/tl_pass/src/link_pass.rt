@@ -10,10 +10,9 @@ ghost use Rattle.tl_pass.specs.Parts.{HasNoCaches};
 use crate::pass::{Hitch, Pass};
 use std::alloc::{AllocError, Global};
 use std::sync::Arc;
-use tl_apart::has_caches;
 use tl_beats::{Fragment, Row};
 use tl_capture::Present;
-use tl_check::{check_all, sort_rows};
+use tl_check::{check_all, has_caches, sort_rows};
 use tl_topology::Topo;
 
 /// Whether no link of a topology has caches.

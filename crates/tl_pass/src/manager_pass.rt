@@ -7,9 +7,8 @@ ghost use Rattle.tl_pass.specs.ManagerPass.{HasTold};
 use crate::pass::{Hitch, Pass};
 use std::alloc::{AllocError, Global};
 use std::sync::Arc;
-use tl_apart::has_caches;
 use tl_beats::{Fragment, Row};
-use tl_check::sort_rows;
+use tl_check::{has_caches, sort_rows};
 use tl_stream::Stream;
 use tl_topology::Topo;
 

@@ -13,13 +13,11 @@ use Rattle.tl_beats.specs.declared.Row.{Row}
 use Rattle.tl_definitions.specs.Breaks as breaks
 use Rattle.tl_definitions.specs.Breaks.{row_of, rules_at}
 use Rattle.tl_definitions.specs.Judging.{snapshot, judging}
-use Rattle.tl_definitions.specs.Known.{Beginning}
 use Rattle.tl_definitions.specs.Passes.{rows_judged, left_after}
 use Rattle.tl_definitions.specs.Positions.{Recorded, position_order, beats_of_all}
-use Rattle.tl_definitions.specs.Printed.{printed_rules, printed_after}
 use Rattle.tl_definitions.specs.Rules.{Manager}
 use Rattle.tl_definitions.proofs.JudgingLaws.{next_snapshot, all_exact}
-use Rattle.tl_definitions.proofs.Lists.{contains_none, contains_here, contains_there, contains_kept, kept_from, mapped_from, onto, onto_reverse}
+use Rattle.tl_definitions.proofs.Lists.{contains_here, contains_kept, kept_from, onto, onto_reverse}
 use Rattle.tl_definitions.proofs.PositionLaws.{beats_are_in_order, position_total, positions_are_ordered}
 use Rattle.tl_definitions.proofs.ReportLaws.{strict_one, rows_are_breaks}
 use Rattle.tl_definitions.proofs.RisingLaws.{strict_both}
@@ -34,6 +32,8 @@ use Rattle.tl_midway.specs.Midway.{beginning_of}
 use Rattle.tl_midway.specs.Walked as walked
 use Rattle.tl_midway.specs.declared.midway.Midway.{Midway}
 use Rattle.tl_midway.specs.declared.state.MidwayState.{MidwayState}
+use Rattle.tl_midway.proofs.MidwayReportLaws.{printed_from}
+use Rattle.tl_midway.proofs.WalkLaws.{printed_both}
 use Rattle.tl_stream.specs.Courses.{beats_before}
 use Rattle.tl_stream.specs.Pasts.{IsOf, StandsFor, GoesOn, rows_after, rows_in}
 use Rattle.tl_stream.specs.declared.past.Past.{Past}
@@ -131,12 +131,6 @@ whole_both m before (p ∷ xs) ys =
     ap (λ rows. map (row_of p) (rules_at m before p) ++ rows) (whole_both m (p ∷ before) xs ys)
     ∙ sym (append_assoc (map (row_of p) (rules_at m before p)) (breaks.rows_after m (p ∷ before) xs) (breaks.rows_after m (onto (p ∷ before) xs) ys))
 
-printed_both : (m : Manager) (start : Beginning) (before xs ys : List Placed) → printed_after m start before (xs ++ ys) ≡ printed_after m start before xs ++ printed_after m start (onto before xs) ys
-printed_both m start before [] ys = refl
-printed_both m start before (p ∷ xs) ys =
-    ap (λ rows. map (row_of p) (printed_rules m start before p) ++ rows) (printed_both m start (p ∷ before) xs ys)
-    ∙ sym (append_assoc (map (row_of p) (printed_rules m start before p)) (printed_after m start (p ∷ before) xs) (printed_after m start (onto (p ∷ before) xs) ys))
-
 rows_both : (midway : Option Midway) (m : Manager) (before xs ys : List Placed) → rows_after midway m before (xs ++ ys) ≡ rows_after midway m before xs ++ rows_after midway m (onto before xs) ys
 rows_both None m before xs ys = whole_both m before xs ys
 rows_both (Some law) m before xs ys = printed_both m (beginning_of law m) before xs ys
@@ -205,18 +199,12 @@ goes_on_stands midway m old new xs ys rows stands gone =
 
 -- ---- links
 
-printed_from : (m : Manager) (start : Beginning) (before beats : List Placed) (row : Row) → Contains (printed_after m start before beats) row → (p : Placed) × Contains beats p × (row.link ≡ p.link)
-printed_from m start before [] row h = absurd (contains_none row h)
-printed_from m start before (p ∷ beats) row h =
-    elim (Contains-append_cases (map (row_of p) (printed_rules m start before p)) (printed_after m start (p ∷ before) beats) row h) [
-      | inl here ↦ (let found = mapped_from (row_of p) (printed_rules m start before p) row here in (p, contains_here p beats, sym (ap (λ (r : Row). r.link) found.2)))
-      | inr there ↦ (let found = printed_from m start (p ∷ before) beats row there in (found.0, contains_there p beats found.0 found.1, found.2))
-    ]
-
 -- A row is of the link of one of the beats.
 pub row_from_beat : (midway : Option Midway) (m : Manager) (beats : List Placed) (row : Row) → Contains (rows_in midway m beats) row → (p : Placed) × Contains beats p × (row.link ≡ p.link)
 row_from_beat None m beats row h =
     let broken = (rows_are_breaks m beats row).0 h in
     let p : Placed = broken.2 in
     (p, subst (λ ps. Contains ps p) (sym broken.3) (Contains-append_right broken.0 (p ∷ broken.1) p (contains_here p broken.1)), ap (λ (r : Row). r.link) broken.5)
-row_from_beat (Some law) m beats row h = printed_from m (beginning_of law m) [] beats row h
+row_from_beat (Some law) m beats row h =
+    let found = printed_from m (beginning_of law m) [] beats row h in
+    (found.0, found.1, ap (λ (r : Row). r.link) found.2)

@@ -4,7 +4,8 @@ use Rattle.std.proofs.lemmas.List.Elements.{Contains-get_or}
 use Rattle.std.proofs.lemmas.Option.{slice_get-get_or}
 use Rattle.tl_definitions.specs.Positions.{beats_of_all}
 use Rattle.tl_capture.specs.Windows.{beats_in}
-use Rattle.tl_board.proofs.ApartLemmas.{each_more, own_window}
+use Rattle.tl_check.proofs.LinkByLink.{each_more}
+use Rattle.tl_board.proofs.ApartLemmas.{own_window}
 use Rattle.tl_board.proofs.apart.beats_apart.Goals as goal
 
 pub window_beats-requires : goal.window_beats-requires

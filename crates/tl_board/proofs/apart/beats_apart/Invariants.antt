@@ -1,7 +1,7 @@
 use Rattle.std.proofs.Common.{◌≡◌, take}
 use Rattle.tl_definitions.specs.Positions.{beats_of_all}
 use Rattle.tl_capture.specs.Windows.{beats_in}
-use Rattle.tl_board.specs.Apart.{of_each}
+use Rattle.tl_check.specs.LinkByLink.{of_each}
 use Rattle.tl_board.proofs.apart.beats_apart.Given as goal
 
 -- those of the first links

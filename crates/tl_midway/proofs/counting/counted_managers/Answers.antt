@@ -1,13 +1,11 @@
 use Rattle.std.proofs.Common.{◌≡◌, ◌+◌, ◌++◌, ℕ, length, ap, subst, ◌∙◌, arith}
 use Rattle.tl_topology.specs.Regions.{areas_of}
-use Rattle.tl_definitions.specs.Captures.{manager_beats}
-use Rattle.tl_definitions.specs.Managers.{manager_at}
 use Rattle.tl_check.specs.Captured.{areas_at}
 use Rattle.tl_check.proofs.ScratchLaws.{own_areas}
 use Rattle.tl_midway.specs.Counts.{managers_counted}
 use Rattle.tl_midway.specs.Counted.{HasCounts, asked_of}
+use Rattle.tl_midway.specs.Judged.{AreRowsOf}
 use Rattle.tl_midway.specs.Report.{ArePrinted}
-use Rattle.tl_midway.specs.Walked.{rows_by}
 use Rattle.tl_midway.proofs.CountsLaws.{manager_added}
 use Rattle.tl_midway.proofs.MidwayReportLaws.{manager_more}
 use Rattle.tl_midway.proofs.counting.counted_managers.Goals as goal
@@ -23,8 +21,7 @@ loop-manager-preserved c =
     own_areas c.args.regions.now k c.get.result _ c.unwrap_or-own.result c.unwrap_or-own.ensures c.new-none.ensures c.get.ensures.lookup.0 c.get.ensures.lookup.1 in
     record {
       rows = manager_more law topo (areas_at c.args.regions.now) fs k c.loop-manager.rows.items c.in_ok-found.found.items c.extend_from_slice.new.self.items c.loop-manager.invariant.rows
-          (c.in_ok-found.ensures.rows ∙ ap (λ l. rows_by l (manager_at topo k (areas_of c.unwrap_or-own.result.now)) (manager_beats topo fs k)) same
-          ∙ ap (λ areas. rows_by law (manager_at topo k areas) (manager_beats topo fs k)) own)
+          (subst (λ areas. AreRowsOf law topo areas fs k c.in_ok-found.found.items) own (subst (λ l. AreRowsOf l topo (areas_of c.unwrap_or-own.result.now) fs k c.in_ok-found.found.items) same c.in_ok-found.ensures.rows))
           (c.in_ok-extend_from_slice.ensures.items ∙ ap (λ found. c.loop-manager.rows.items ++ found) c.deref.ensures.value);
       counts = λ n has. manager_added law topo (areas_at c.args.regions.now) fs n k (areas_of c.unwrap_or-own.result.now) c.loop-manager.counts c.counted_manager.new.counts own same
           c.in_ok-found.ensures.counts (c.loop-manager.invariant.counts n has);

@@ -1,7 +1,7 @@
 use Rattle.std.proofs.Common.{take}
 use Rattle.std.specs.List.{All}
 use Rattle.tl_check.specs.Managers.{IsPlain}
-use Rattle.tl_board.proofs.apart.are_plain.Given as goal
+use Rattle.tl_check.proofs.managers.are_plain.Given as goal
 
 -- the first of them have none
 abbrev pub invariant-loop-link : goal.invariant-loop-link

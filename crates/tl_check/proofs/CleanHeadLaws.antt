@@ -15,7 +15,7 @@ use Rattle.tl_check.specs.CleanHeads.{IsClean}
 use Rattle.tl_check.specs.Apart.{one_link}
 use Rattle.tl_check.specs.Requests.{is_plain, breaks_open, open_order}
 use Rattle.tl_check.proofs.PlainLaws.{flow_is_open, as_plain}
-use Rattle.tl_check.proofs.LinkStateLaws.{head_rows}
+use Rattle.tl_check.proofs.PlainLinkLaws.{head_rows}
 
 -- A clean head has no rows.
 pub clean_rows : (decl : LinkDecl) (exponent : ℕ) (areas : List Area) (s : LinkSnapshot) (p : Placed) (request : Option Request) (o : Op) (rows : List Row)

@@ -12,7 +12,7 @@ pub mod Texts
 pub mod AddedLaws
 pub mod NoteLaws
 pub mod PlainLaws
-pub mod LinkStateLaws
+pub mod PlainLinkLaws
 pub mod CleanHeadLaws
 pub mod PassLaws
 pub mod LinkByLink

@@ -14,15 +14,15 @@ use Rattle.tl_definitions.specs.Positions.{Recorded, beats_of}
 use Rattle.tl_definitions.specs.Rules.{Manager}
 use Rattle.tl_link_rules.specs.Bursts.{slot_at}
 use Rattle.tl_check.specs.Requests.{Has}
-use Rattle.tl_check.specs.declared.apart.LinkState.{LinkState}
+use Rattle.tl_check.specs.declared.apart.PlainLink.{PlainLink}
 
 -- The state shows what a link below the level of caches has left, as far as its rules read it.
-pub record Shows (state : LinkState) (s : LinkSnapshot) : Type 0 where
+pub record Shows (state : PlainLink) (s : LinkSnapshot) : Type 0 where
   pub bursts : (chan : Chan) → slot_at state.bursts chan ≡ s.burst chan
   pub requests : Has state.requests s.past.flow
 
 -- The heads of unfinished bursts are well-formed.
-abbrev pub AreFormed : LinkState → Type 0
+abbrev pub AreFormed : PlainLink → Type 0
 AreFormed state = (chan : Chan) (burst : Unfinished) → slot_at state.bursts chan ≡ Some burst → IsWellFormed burst.head
 
 -- A manager all links of which are declared so.

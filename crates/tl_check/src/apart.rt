@@ -1,6 +1,6 @@
 //! One link below the level of caches: its beats judged one after the other, from its first on.
 
-ghost use Rattle.std.specs.Prelude.{◌≡◌, ◌++◌, None, false, map, OnOk};
+ghost use Rattle.std.specs.Prelude.{◌≡◌, ◌++◌, None, false, is_none, map, OnOk};
 ghost use Rattle.std.specs.List.{All};
 ghost use Rattle.tl_tables.specs.Messages.{level_le};
 ghost use Rattle.tl_tables.specs.declared.Level.TheVariants as level;
@@ -19,32 +19,40 @@ use std::alloc::{AllocError, Global};
 use tl_beats::{Placed, Row};
 use tl_capture::Merged;
 use tl_link_rules::{BurstState, check_head, check_later};
+use tl_tables::Chan;
 use tl_topology::{LinkDecl, RegionMap};
 
-/// What the beats of the link leave for those that come: the bursts that miss beats, and the requests in flight.
+/// What the beats of a link without caches leave for those that come: the bursts that miss beats, and the requests in flight.
 #[derive(Drop)]
-pub struct LinkState {
+pub struct PlainLink {
     bursts: BurstState,
     requests: Requests,
 }
 
-impl LinkState {
+impl PlainLink {
     ghost use Rattle.std.specs.Prelude.{ℕ};
 
     /// The state of a link without beats.
-    fn new(alloc: Global) -> LinkState
+    pub fn new(alloc: Global) -> PlainLink
         ensures shows { (exponent : ℕ) → Shows result (opening exponent) }
         ensures formed { AreFormed result }
     {
-        LinkState {
+        PlainLink {
             bursts: BurstState::new(),
             requests: Requests::new(alloc),
         }
     }
 
+    /// Whether the next beat of a channel is a head.
+    pub fn begins(&self, chan: Chan) -> bool
+        ensures { (s : LinkSnapshot) → Shows self.now s → result ≡ is_none (s.burst chan) }
+    {
+        self.bursts.head(chan).is_none()
+    }
+
     /// Judges the link's next beat by what the state shows: puts the rows of what it breaks at the end, and the state then shows what is
     /// left with it. AllocError where memory is refused: then state and rows may have part of the beat, and are for nothing more.
-    fn step(
+    pub fn step(
         &mut self,
         alloc: Global,
         decl: &LinkDecl,
@@ -119,7 +127,7 @@ pub fn add_link<'a>(
     requires formed { All (λ p. IsWellFormed p.beat) walk }
     ensures { OnOk result (rows.new.items ≡ rows.old.items ++ judged_rows (one_link decl.now exponent (areas_of regions.now)) walk.entry) }
 {
-    let mut state = LinkState::new(alloc);
+    let mut state = PlainLink::new(alloc);
     for at in walk {
         state.step(alloc, decl, exponent, regions, &at, rows)?;
     }

@@ -20,6 +20,7 @@ mod walked;
 mod watching;
 pub mod window_laws;
 
+pub use apart::PlainLink;
 pub use beside::Judges;
 pub use checking::check_all;
 pub use form::{Form, Plain};

@@ -25,7 +25,8 @@ use Rattle.tl_capture.proofs.PresentLemmas.{less_is}
 use Rattle.tl_midway.specs.Counts.{Test, counted_after}
 use Rattle.tl_midway.specs.LeadIns.{leads_in}
 use Rattle.tl_midway.specs.Unjudged.{asks, asks_flow, asks_permission, asks_manager, may_break, next_readings, is_unjudged}
-use Rattle.tl_midway.proofs.ApartLaws.{IsPlain, before_own, past_own, by_alike, quiet_message}
+use Rattle.tl_midway.proofs.ApartLaws.{before_own, past_own, by_alike}
+use Rattle.tl_midway.proofs.PlainMessages.{IsPlain, plain_message, kinds}
 
 -- The test asks about the beats of the beat's own link alone.
 abbrev pub IsOwn : Test → Manager → Beginning → Type 0
@@ -62,10 +63,10 @@ may_alike m start before p r due plain =
     (elim (message_of (m.links p.link) p.beat) as (λ found. message_of (m.links p.link) p.beat ≡ found
     → option_map_or (λ o. asks m (known_pasts m start (on_link p.link before)) p.link (bare o p.beat) r) found false ≡ option_map_or (λ o. asks m (known_pasts m start before) p.link (bare o p.beat) r) found false) [
       | None ↦ λ e. refl
-      | Some o ↦ λ e. (let quiet = quiet_message (m.links p.link) p.beat o plain e in
-          asks_own m (known_pasts m start (on_link p.link before)) p.link (bare o p.beat) r quiet.0 quiet.1
+      | Some o ↦ λ e. (let kind = kinds o (plain_message (m.links p.link) p.beat o plain e) in
+          asks_own m (known_pasts m start (on_link p.link before)) p.link (bare o p.beat) r kind.4 kind.1
           ∙ ap (λ past. own_asks m p.link (bare o p.beat) past r) (past_own m start before p.link)
-          ∙ sym (asks_own m (known_pasts m start before) p.link (bare o p.beat) r quiet.0 quiet.1))
+          ∙ sym (asks_own m (known_pasts m start before) p.link (bare o p.beat) r kind.4 kind.1))
     ] refl)
 may_alike m start before p r (rest missing None) plain = refl
 may_alike m start before p r (rest missing (Some head)) plain = by_alike m start before p r (rest missing (Some head)) plain

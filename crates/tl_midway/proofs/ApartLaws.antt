@@ -1,23 +1,20 @@
 -- What is printed of links without caches depends on the beats of each link alone.
 use Rattle.std.proofs.Common.{◌≡◌, ℕ, ◌==◌, ◌&&◌, ◌||◌, Bool, true, false, cond, List, [], ◌∷◌, ◌++◌, Option, Some, None, refl, sym, ap, subst, ◌∙◌}
-use Rattle.std.specs.Prelude.{map, filter, slice_get}
-use Rattle.std.specs.Option.{option_map_or, option_and_then}
+use Rattle.std.specs.Prelude.{map, filter}
+use Rattle.std.specs.Option.{option_map_or}
 use Rattle.std.specs.List.{list_all}
 use Rattle.tl_tables.specs.declared.Chan.{Chan}
 use Rattle.tl_tables.specs.declared.Chan.TheVariants as chan
-use Rattle.tl_tables.specs.declared.Level.{Level}
 use Rattle.tl_tables.specs.declared.Level.TheVariants as level
-use Rattle.tl_tables.specs.declared.Op.{Op}
 use Rattle.tl_tables.specs.declared.Op.TheVariants as op
 use Rattle.tl_tables.specs.declared.Rule.{Rule}
 use Rattle.tl_tables.specs.declared.Rule.TheVariants as rule
-use Rattle.tl_tables.specs.Messages.{same_chan, codes, least_level, level_le, op_at}
+use Rattle.tl_tables.specs.Messages.{same_chan}
 use Rattle.tl_tables.specs.Kinds.{is_grant, is_probe}
 use Rattle.tl_beats.specs.declared.Beat.{Beat}
 use Rattle.tl_beats.specs.declared.Placed.{Placed}
 use Rattle.tl_beats.specs.declared.Request.{Request}
 use Rattle.tl_beats.specs.declared.Row.{Row}
-use Rattle.tl_topology.specs.declared.LinkDecl.{LinkDecl}
 use Rattle.tl_definitions.specs.Breaks.{row_of}
 use Rattle.tl_definitions.specs.Heads.{message_of, before_on}
 use Rattle.tl_definitions.specs.Known.{Known, Beginning, KnownPast, bare, known_request, readings_of, known_pasts, known_with}
@@ -26,6 +23,7 @@ use Rattle.tl_definitions.specs.Messages.{Message, block_of}
 use Rattle.tl_definitions.specs.Printed.{Front, front, is_f1, breaks_by, breaks_surely, breaks_flow_surely, breaks_permission_surely, breaks_manager_surely, has_acquire, has_release, acquire_open, release_open, grant_open, beat_rules, printed_of, printed_rules, printed_after}
 use Rattle.tl_definitions.specs.Readings.{Reading, due, rest, readings_at, may_begin, must_begin}
 use Rattle.tl_definitions.specs.Rules.{Manager, breaks_format}
+use Rattle.tl_midway.proofs.PlainMessages.{IsPlain, plain_message, kinds}
 use Rattle.tl_definitions.proofs.LinkLaws.{same_link}
 use Rattle.tl_definitions.proofs.Lists.{kept_of_both}
 
@@ -62,37 +60,7 @@ past_own m start (p ∷ before) link =
 
 -- ---- a beat's rules
 
--- A message below the level of caches is no Grant and no Probe.
-never_both : (l found : Level) → found ≡ level.C → level_le level.C l ≡ false → level_le found l ≡ true → ⊥
-never_both l found is below reached = let also : level_le level.C l ≡ true = subst (λ k. level_le k l ≡ true) is reached in cc
-
-pub no_grant : (l : Level) (c : Chan) (o : Op) → level_le level.C l ≡ false → level_le (least_level c o) l ≡ true → (is_grant o ≡ false) × (is_probe o ≡ false)
-no_grant l c op.ProbeBlock below reached = absurd (never_both l (least_level c op.ProbeBlock) (elim c as (λ c. least_level c op.ProbeBlock ≡ level.C) [ chan.A ↦ refl | chan.B ↦ refl | chan.C ↦ refl | chan.D ↦ refl | chan.E ↦ refl ]) below reached)
-no_grant l c op.ProbePerm below reached = absurd (never_both l (least_level c op.ProbePerm) (elim c as (λ c. least_level c op.ProbePerm ≡ level.C) [ chan.A ↦ refl | chan.B ↦ refl | chan.C ↦ refl | chan.D ↦ refl | chan.E ↦ refl ]) below reached)
-no_grant l c op.Grant below reached = absurd (never_both l (least_level c op.Grant) (elim c as (λ c. least_level c op.Grant ≡ level.C) [ chan.A ↦ refl | chan.B ↦ refl | chan.C ↦ refl | chan.D ↦ refl | chan.E ↦ refl ]) below reached)
-no_grant l c op.GrantData below reached = absurd (never_both l (least_level c op.GrantData) (elim c as (λ c. least_level c op.GrantData ≡ level.C) [ chan.A ↦ refl | chan.B ↦ refl | chan.C ↦ refl | chan.D ↦ refl | chan.E ↦ refl ]) below reached)
-no_grant l c _ below reached = (refl, refl)
-
-abbrev pub IsPlain : LinkDecl → Type 0
-IsPlain link = level_le level.C link.level ≡ false
-
-pub quiet_message : (link : LinkDecl) (beat : Beat) (o : Op) → IsPlain link → message_of link beat ≡ Some o → (is_grant o ≡ false) × (is_probe o ≡ false)
-unfolding op_at
-quiet_message link beat o plain =
-    elim (slice_get (codes beat.chan) beat.opcode) as (λ code. option_and_then (λ found. option_and_then (λ o. cond (level_le (least_level beat.chan o) link.level) (Some o) None) found) code ≡ Some o
-    → (is_grant o ≡ false) × (is_probe o ≡ false)) [
-      | None ↦ λ h. cc
-      | Some found ↦ elim found as (λ found. option_and_then (λ o. cond (level_le (least_level beat.chan o) link.level) (Some o) None) found ≡ Some o → (is_grant o ≡ false) × (is_probe o ≡ false)) [
-        | None ↦ λ h. cc
-        | Some q ↦ elim (level_le (least_level beat.chan q) link.level) as (λ b. level_le (least_level beat.chan q) link.level ≡ b → cond b (Some q) None ≡ Some o → (is_grant o ≡ false) × (is_probe o ≡ false)) [
-          | true ↦ λ reached h. (let same : q ≡ o = cc in
-              subst (λ x. (is_grant x ≡ false) × (is_probe x ≡ false)) same (no_grant link.level beat.chan q plain reached))
-          | false ↦ λ reached h. cc
-        ] refl
-      ]
-    ]
-
--- So it breaks no rule of its manager for sure.
+-- A message that is no Grant and no Probe breaks no rule of its manager for sure.
 no_managers : (clients : List ℕ) (exponent : ℕ) (pasts : ℕ → KnownPast) (grants : ℕ → ℕ → Bool) (link : ℕ) (request : Known (Option Request)) (message : Message) (r : Rule)
     → is_grant message.op ≡ false → is_probe message.op ≡ false → breaks_manager_surely clients exponent pasts grants link request message r ≡ false
 no_managers clients exponent pasts grants link request message rule.M1 g p = cc
@@ -131,7 +99,7 @@ by_alike m start before p r due plain =
     elim (message_of (m.links p.link) p.beat) as (λ found. message_of (m.links p.link) p.beat ≡ found
     → option_map_or (λ o. breaks_surely m (front m start (on_link p.link before)) p.link (bare o p.beat) r) found (is_f1 r) ≡ option_map_or (λ o. breaks_surely m (front m start before) p.link (bare o p.beat) r) found (is_f1 r)) [
       | None ↦ λ e. refl
-      | Some o ↦ λ e. (let quiet = quiet_message (m.links p.link) p.beat o plain e in head_alike m start before p (bare o p.beat) r quiet.0 quiet.1)
+      | Some o ↦ λ e. (let kind = kinds o (plain_message (m.links p.link) p.beat o plain e) in head_alike m start before p (bare o p.beat) r kind.4 kind.1)
     ] refl
 by_alike m start before p r (rest missing (Some head)) plain = refl
 by_alike m start before p r (rest missing None) plain = refl

@@ -35,7 +35,8 @@ use Rattle.tl_midway.specs.declared.counts.Counts.{Counts}
 use Rattle.tl_midway.specs.declared.judged.Judged.{Judged}
 use Rattle.tl_midway.specs.declared.midway.Midway.{Midway}
 use Rattle.tl_midway.proofs.ApartCounts.{IsOwn, by_links, counts_add_up, lead_ins_are_own, unjudged_are_own}
-use Rattle.tl_midway.proofs.ApartLaws.{IsPlain, rows_own}
+use Rattle.tl_midway.proofs.ApartLaws.{rows_own}
+use Rattle.tl_midway.proofs.PlainMessages.{IsPlain}
 use Rattle.tl_midway.proofs.CountsLaws.{plus_assoc}
 use Rattle.tl_check.specs.LinkByLink.{of_each, one_after_other}
 use Rattle.tl_check.proofs.LinkByLink.{each_stays, from_each}

@@ -22,6 +22,11 @@ pub mod UnjudgedLaws
 pub mod AskedLaws
 pub mod UnjudgedStandLaws
 pub mod CountsLaws
+mod PlainMessages
 mod ApartLaws
 mod ApartCounts
 mod JudgedLaws
+mod SeenLaws
+mod NamedLaws
+mod NamedRows
+mod NoLeadIns

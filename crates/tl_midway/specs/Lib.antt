@@ -21,3 +21,4 @@ pub mod Unjudged
 pub mod Asked
 pub mod Counted
 pub mod Judged
+pub mod Named

@@ -17,6 +17,7 @@ ghost use Rattle.tl_midway.specs.State.{IsOf};
 use crate::counts::Counts;
 use crate::judged::Judged;
 use crate::midway::Midway;
+use crate::plain_links::{judges_as_whole, named_links};
 use std::alloc::{AllocError, Global};
 use tl_beats::Row;
 use tl_capture::{Merged, Present};
@@ -93,7 +94,8 @@ fn counted_beats(
     Ok(())
 }
 
-/// The rows that are printed of a manager, in any order; its beats are counted.
+/// The rows that are printed of a manager, in any order; its beats are counted. Where none of its links has caches, all begin at heads, and
+/// beats aren't counted by rule, its links are judged as if nothing had come before.
 fn counted_manager(
     alloc: Global,
     topo: &Topo,
@@ -107,6 +109,12 @@ fn counted_manager(
     ensures law { OnOk result (counts.new.law ≡ counts.old.law) }
     ensures by_rule { OnOk result (counts.new.by_rule ≡ counts.old.by_rule) }
 {
+    // No two fragments of a link share a number or a cycle.
+    let _ = present.is_empty();
+    let links = clients_of(alloc, topo, manager)?;
+    if !counts.by_rule && judges_as_whole(counts.law, topo, &links) {
+        return named_links(alloc, topo, present, manager, regions, &links);
+    }
     let mut judged = Judged::new(alloc, topo, manager, counts.law)?;
     counted_beats(alloc, topo, present, regions, &mut judged, counts)?;
     Ok(judged.rows)

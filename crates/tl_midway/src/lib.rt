@@ -17,6 +17,8 @@ mod link_readings;
 mod manager_readings;
 mod manager_rules;
 mod midway;
+mod named;
+mod plain_links;
 mod reading;
 mod readings;
 mod seen;

@@ -1,7 +1,7 @@
 use Rattle.std.proofs.Common.{◌++◌, sym, ap, ◌∙◌}
 use Rattle.std.specs.Prelude.{map}
 use Rattle.tl_definitions.specs.Breaks.{row_of}
-use Rattle.tl_check.proofs.LinkStateLaws.{still_formed}
+use Rattle.tl_check.proofs.PlainLinkLaws.{still_formed}
 use Rattle.tl_check.proofs.StepLaws.{on_ok}
 use Rattle.tl_apart.specs.LinkJudge.{alone, message_rules}
 use Rattle.tl_apart.proofs.JudgeLaws.{head_is_judged, put_both}

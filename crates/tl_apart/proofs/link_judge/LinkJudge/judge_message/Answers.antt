@@ -1,5 +1,5 @@
 use Rattle.std.proofs.Common.{◌∙◌}
-use Rattle.tl_check.proofs.LinkStateLaws.{still_formed}
+use Rattle.tl_check.proofs.PlainLinkLaws.{still_formed}
 use Rattle.tl_apart.specs.LinkJudge.{alone}
 use Rattle.tl_apart.proofs.JudgeLaws.{answered, message_next, message_rows}
 use Rattle.tl_apart.proofs.link_judge.LinkJudge.judge_message.Goals as goal

@@ -1,5 +1,5 @@
 use Rattle.std.proofs.Common.{Ok}
-use Rattle.tl_check.proofs.LinkStateLaws.{still_formed}
+use Rattle.tl_check.proofs.PlainLinkLaws.{still_formed}
 use Rattle.tl_client_rules.proofs.ClientLaws.{next_law}
 use Rattle.tl_apart.specs.LinkJudge.{alone}
 use Rattle.tl_apart.proofs.JudgeLaws.{answered, message_next}

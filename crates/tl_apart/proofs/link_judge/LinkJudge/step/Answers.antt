@@ -6,7 +6,7 @@ use Rattle.tl_definitions.specs.Events.{with_event}
 use Rattle.tl_link_rules.specs.Bursts.{slot_at}
 use Rattle.tl_apart.specs.Events.{said}
 use Rattle.tl_check.proofs.LinkLaws.{later_is_taken}
-use Rattle.tl_check.proofs.LinkStateLaws.{still_formed}
+use Rattle.tl_check.proofs.PlainLinkLaws.{still_formed}
 use Rattle.tl_check.proofs.StepLaws.{on_ok}
 use Rattle.tl_apart.specs.LinkJudge.{Shows}
 use Rattle.tl_apart.proofs.JudgeLaws.{rules_alone, next_alone, event_alone}

@@ -1,6 +1,6 @@
 use Rattle.std.proofs.Common.{◌≡◌, Some, None, sym, ◌∙◌}
 use Rattle.tl_definitions.specs.Positions.{no_link}
-use Rattle.tl_check.proofs.apart.LinkState.new.Goals as goal
+use Rattle.tl_check.proofs.apart.PlainLink.new.Goals as goal
 
 pub returns-clause-shows : goal.returns-clause-shows
 returns-clause-shows c exponent = record { bursts = λ chan. (c.new.ensures no_link 0).slots chan; requests = λ source. c.new-2.ensures source }

@@ -4,8 +4,8 @@ use Rattle.tl_beats.specs.Beats.{IsWellFormed}
 use Rattle.tl_link_rules.specs.Bursts.{slot_at}
 use Rattle.tl_check.proofs.LinkLaws.{later_is_taken}
 use Rattle.tl_check.proofs.StepLaws.{on_ok, whatever}
-use Rattle.tl_check.proofs.LinkStateLaws.{later_rows, later_next, still_formed}
-use Rattle.tl_check.proofs.apart.LinkState.step.Goals as goal
+use Rattle.tl_check.proofs.PlainLinkLaws.{later_rows, later_next, still_formed}
+use Rattle.tl_check.proofs.apart.PlainLink.step.Goals as goal
 
 pub check_later-later-requires-clause-head : goal.check_later-later-requires-clause-head
 check_later-later-requires-clause-head c =

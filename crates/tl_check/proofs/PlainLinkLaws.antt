@@ -27,7 +27,7 @@ use Rattle.tl_link_rules.specs.declared.bursts.BurstState.{BurstState}
 use Rattle.tl_link_rules.specs.Flow.{rules_in, flow_with}
 use Rattle.tl_check.specs.Apart.{Shows, one_link}
 use Rattle.tl_check.specs.Requests.{is_plain, request_at, Has}
-use Rattle.tl_check.specs.declared.apart.LinkState.{LinkState}
+use Rattle.tl_check.specs.declared.apart.PlainLink.{PlainLink}
 use Rattle.tl_check.specs.declared.requests.Requests.{Requests}
 use Rattle.tl_check.proofs.PlainLaws.{no_permission}
 
@@ -64,7 +64,7 @@ with_flow : (exponent : ℕ) (past : LinkPast) (beat : Beat) (found : Option Op)
 with_flow exponent past beat None = refl
 with_flow exponent past beat (Some o) = refl
 
-module _ (decl : LinkDecl) (exponent : ℕ) (areas : List Area) (s : LinkSnapshot) (p : Placed) (old new : LinkState) (shows : Shows old s)
+module _ (decl : LinkDecl) (exponent : ℕ) (areas : List Area) (s : LinkSnapshot) (p : Placed) (old new : PlainLink) (shows : Shows old s)
     (passed : (chan : Chan) → slot_at new.bursts chan ≡ slots_after decl p.beat (slot_at old.bursts) chan) where
   bursts : (chan : Chan) → slot_at new.bursts chan ≡ (link_next (one_link decl exponent areas) s p).burst chan
   bursts chan = passed chan ∙ ap (λ slot. cond (same_chan p.beat.chan chan) (after_beat decl p.beat slot) slot) (shows.bursts chan)

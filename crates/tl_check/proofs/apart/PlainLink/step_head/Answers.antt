@@ -4,8 +4,8 @@ use Rattle.tl_link_rules.specs.Flow.{flow_with}
 use Rattle.tl_check.proofs.StepLaws.{on_ok, whatever}
 use Rattle.tl_check.proofs.CleanHeadLaws.{clean_rows}
 use Rattle.tl_check.proofs.PlainLaws.{one_plain, all_plain}
-use Rattle.tl_check.proofs.LinkStateLaws.{head_rows, head_next, still_formed}
-use Rattle.tl_check.proofs.apart.LinkState.step_head.Goals as goal
+use Rattle.tl_check.proofs.PlainLinkLaws.{head_rows, head_next, still_formed}
+use Rattle.tl_check.proofs.apart.PlainLink.step_head.Goals as goal
 
 pub change-requires : goal.change-requires
 change-requires c = one_plain c.args.decl.now c.args.at.now.beat c.in-Some.op c.requires.plain (c.clean_message.ensures c.in-Some.op c.in-Some.is).message

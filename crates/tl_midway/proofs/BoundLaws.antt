@@ -4,8 +4,8 @@ use Rattle.tl_tables.specs.declared.Perm.{Perm}
 use Rattle.tl_tables.specs.declared.Perm.TheVariants as perm
 use Rattle.tl_definitions.specs.Known.{same_perm, set_or_joined, claimed_after, any_block_after}
 use Rattle.tl_definitions.proofs.Sure.{or_second}
-use Rattle.tl_midway.specs.declared.known_bounds.KnownBounds.{KnownBounds}
-use Rattle.tl_midway.specs.KnownBounds.{holds, may_be, AreBounds}
+use Rattle.tl_midway.specs.declared.loose_bounds.LooseBounds.{LooseBounds}
+use Rattle.tl_midway.specs.LooseBounds.{holds, may_be, AreBounds}
 
 pub each_perm : (one other : Perm → Bool) → one perm.Nothing ≡ other perm.Nothing → one perm.Branch ≡ other perm.Branch → one perm.Trunk ≡ other perm.Trunk
     → (held : Perm) → one held ≡ other held
@@ -45,7 +45,7 @@ module _ (set held : Perm) (old : Perm → Bool) where
 
 -- ---- all three
 
-module _ (old new : KnownBounds) where
+module _ (old new : LooseBounds) where
   pub bound_set : (block : ℕ) (set : Perm)
       → ((other : ℕ) → holds new.not_nothing other ≡ cond (block == other) (not (same_perm set perm.Nothing)) (holds old.not_nothing other))
       → ((other : ℕ) → holds new.not_branch other ≡ cond (block == other) (not (same_perm set perm.Branch)) (holds old.not_branch other))

@@ -1,6 +1,7 @@
 pub mod MemberLaws
 pub mod ReadingLaws
 pub mod BoundLaws
+pub mod SureLaws
 pub mod CountLaws
 pub mod CountedLaws
 pub mod OpenedLaws

@@ -1,19 +1,19 @@
 -- Which permissions the bounds of a client may be.
-use Rattle.std.specs.Prelude.{ℕ, ◌≡◌, not, is_some, Bool}
-use Rattle.tl_state.specs.BlockMap.{BlockData, value_at}
+use Rattle.std.specs.Prelude.{ℕ, ◌≡◌, Bool, Option, Some, None}
+use Rattle.tl_state.specs.BlockMap.{value_at}
 use Rattle.tl_tables.specs.declared.Perm.{Perm}
-use Rattle.tl_tables.specs.declared.Perm.TheVariants as perm
+use Rattle.tl_definitions.specs.Known.{same_perm}
+use Rattle.tl_midway.specs.LooseBounds as loose
 use Rattle.tl_midway.specs.declared.known_bounds.KnownBounds.{KnownBounds}
 
--- The block is in the set.
-abbrev pub holds : BlockData (Unit {0}) → ℕ → Bool
-holds blocks block = is_some (value_at blocks block)
+-- A bound that is known is that permission and no other.
+abbrev pub by_sure : Option Perm → Bool → Perm → Bool
+by_sure None otherwise held = otherwise
+by_sure (Some bound) otherwise held = same_perm bound held
 
 -- Whether the bound of a block may be a permission.
 abbrev pub may_be : KnownBounds → ℕ → Perm → Bool
-may_be bounds block perm.Nothing = not (holds bounds.not_nothing block)
-may_be bounds block perm.Branch = not (holds bounds.not_branch block)
-may_be bounds block perm.Trunk = not (holds bounds.not_trunk block)
+may_be bounds block held = by_sure (value_at bounds.sure block) (loose.may_be bounds.loose block held) held
 
 -- The bounds may be these.
 abbrev pub AreBounds : KnownBounds → (ℕ → Perm → Bool) → Type 0

@@ -5,6 +5,7 @@ pub mod Readings
 pub mod Known
 pub mod KnownTable
 pub mod CountedTable
+pub mod LooseBounds
 pub mod KnownBounds
 pub mod KnownLink
 pub mod Midway

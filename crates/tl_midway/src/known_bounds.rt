@@ -1,10 +1,13 @@
 //! Which permissions the bounds of a client may be.
 
-ghost use Rattle.std.specs.Prelude.{◌≡◌, ℕ, ◌==◌, true, false, Some, OnOk, if◌then◌else◌};
+ghost use Rattle.std.specs.Prelude.{◌≡◌, ℕ, true, false, None, Some, OnOk};
+ghost use Rattle.tl_state.specs.BlockMap.{value_at};
 ghost use Rattle.tl_tables.specs.declared.Perm.{Perm as AnyPerm};
-ghost use Rattle.tl_definitions.specs.Known.{same_perm, claimed_after, any_block_after};
-ghost use Rattle.tl_midway.specs.KnownBounds.{holds};
+ghost use Rattle.tl_definitions.specs.Known.{claimed_after, any_block_after};
+ghost use Rattle.tl_midway.specs.KnownBounds.{by_sure};
+ghost use Rattle.tl_midway.specs.LooseBounds as loose_bounds;
 
+use crate::loose_bounds::{LooseBounds, same_perm};
 use std::alloc::{AllocError, Global};
 use tl_state::BlockMap;
 use tl_tables::Perm;
@@ -12,42 +15,21 @@ use tl_tables::Perm;
 /// Which permissions the bound of each block may be.
 #[derive(Drop)]
 pub struct KnownBounds {
-    /// The blocks whose bound is surely not Nothing, and so on: a block in no set may have any bound. That the bounds of all
-    /// blocks may be a permission empties its set, which takes no longer than it took to fill it.
-    not_nothing: BlockMap<()>,
-    not_branch: BlockMap<()>,
-    not_trunk: BlockMap<()>,
+    /// The bounds that are known, as most are soon: one look-up each.
+    sure: BlockMap<Perm>,
+    /// Those of all other blocks.
+    loose: LooseBounds,
 }
 
-/// Whether both are the same permission.
-fn same_perm(one: Perm, other: Perm) -> bool
-    ensures { result ≡ same_perm one other }
+/// Sets all bounds that are known among the others too.
+fn set_sure(sure: &BlockMap<Perm>, loose: &mut LooseBounds) -> Result<(), AllocError>
+    ensures { OnOk result (loose_bounds.AreBounds loose.new
+        (λ block held. by_sure (value_at sure.now block) (loose_bounds.may_be loose.old block held) held)) }
 {
-    one == other
-}
-
-/// Whether the block is in the set.
-fn holds(blocks: &BlockMap<()>, block: u64) -> bool
-    ensures { result ≡ holds blocks.now block }
-{
-    blocks.get(block).is_some()
-}
-
-/// Takes the block out of the set.
-fn take_out(blocks: &mut BlockMap<()>, block: u64)
-    ensures { (other : ℕ) → holds blocks.new other ≡ (if block == other then false else holds blocks.old other) }
-{
-    blocks.take(block);
-}
-
-/// Puts the block into the set, or takes it out.
-fn put(blocks: &mut BlockMap<()>, block: u64, is_in: bool) -> Result<(), AllocError>
-    ensures { OnOk result ((other : ℕ) → holds blocks.new other ≡ (if block == other then is_in else holds blocks.old other)) }
-{
-    if is_in {
-        blocks.set(block, Some(()))?;
-    } else {
-        take_out(blocks, block);
+    for block in sure.blocks() {
+        if let Some(bound) = sure.get(block) {
+            loose.set(block, bound)?;
+        }
     }
     Ok(())
 }
@@ -60,9 +42,8 @@ impl KnownBounds {
         ensures { AreBounds result (λ block held. true) }
     {
         KnownBounds {
-            not_nothing: BlockMap::new(alloc),
-            not_branch: BlockMap::new(alloc),
-            not_trunk: BlockMap::new(alloc),
+            sure: BlockMap::new(alloc),
+            loose: LooseBounds::new(alloc),
         }
     }
 
@@ -70,10 +51,9 @@ impl KnownBounds {
     pub fn may_be(&self, block: u64, held: Perm) -> bool
         ensures { result ≡ may_be self.now block held }
     {
-        match held {
-            Perm::Nothing => !holds(&self.not_nothing, block),
-            Perm::Branch => !holds(&self.not_branch, block),
-            Perm::Trunk => !holds(&self.not_trunk, block),
+        match self.sure.get(block) {
+            Some(bound) => same_perm(bound, held),
+            None => self.loose.may_be(block, held),
         }
     }
 
@@ -81,25 +61,38 @@ impl KnownBounds {
     fn set(&mut self, block: u64, perm: Perm) -> Result<(), AllocError>
         ensures { OnOk result (AreBounds self.new (claimed_after true (Some (block, perm)) (may_be self.old))) }
     {
-        put(
-            &mut self.not_nothing,
-            block,
-            !same_perm(perm, Perm::Nothing),
-        )?;
-        put(&mut self.not_branch, block, !same_perm(perm, Perm::Branch))?;
-        put(&mut self.not_trunk, block, !same_perm(perm, Perm::Trunk))?;
+        self.sure.set(block, Some(perm))?;
+        Ok(())
+    }
+
+    /// Has the bound of the block among those that may be several permissions. What each bound may be stays.
+    fn loosen(&mut self, block: u64) -> Result<(), AllocError>
+        ensures same { OnOk result (AreBounds self.new (may_be self.old)) }
+        ensures none { OnOk result (value_at self.new.sure block ≡ None) }
+    {
+        if let Some(bound) = self.sure.take(block) {
+            self.loose.set(block, bound)?;
+        }
+        Ok(())
+    }
+
+    /// So of all blocks. That takes no longer than it took to set them.
+    fn loosen_all(&mut self) -> Result<(), AllocError>
+        ensures same { OnOk result (AreBounds self.new (may_be self.old)) }
+        ensures none { OnOk result ((block : ℕ) → value_at self.new.sure block ≡ None) }
+    {
+        set_sure(&self.sure, &mut self.loose)?;
+        self.sure.clear();
         Ok(())
     }
 
     /// The bound of the block may be this too.
-    fn join(&mut self, block: u64, perm: Perm)
-        ensures { AreBounds self.new (claimed_after false (Some (block, perm)) (may_be self.old)) }
+    fn join(&mut self, block: u64, perm: Perm) -> Result<(), AllocError>
+        ensures { OnOk result (AreBounds self.new (claimed_after false (Some (block, perm)) (may_be self.old))) }
     {
-        match perm {
-            Perm::Nothing => take_out(&mut self.not_nothing, block),
-            Perm::Branch => take_out(&mut self.not_branch, block),
-            Perm::Trunk => take_out(&mut self.not_trunk, block),
-        }
+        self.loosen(block)?;
+        self.loose.join(block, perm);
+        Ok(())
     }
 
     /// A message sets the bound of this block, if it sets one; where it may be a later beat, the bound may be what it was too.
@@ -110,34 +103,32 @@ impl KnownBounds {
         match claim {
             Some((block, perm)) => {
                 if certain {
-                    self.set(block, perm)?;
+                    self.set(block, perm)
                 } else {
-                    self.join(block, perm);
+                    self.join(block, perm)
                 }
             }
-            None => {}
+            None => Ok(()),
         }
-        Ok(())
     }
 
-    /// The bound of any block may be this too, if it is something.
-    pub fn join_all(&mut self, cap: Option<Perm>)
-        ensures { AreBounds self.new (any_block_after cap (may_be self.old)) }
+    /// The bound of any block may be this too, if it is something. AllocError where memory is refused: then the bounds are for nothing
+    /// more.
+    pub fn join_all(&mut self, cap: Option<Perm>) -> Result<(), AllocError>
+        ensures { OnOk result (AreBounds self.new (any_block_after cap (may_be self.old))) }
     {
         match cap {
             Some(perm) => self.join_each(perm),
-            None => {}
+            None => Ok(()),
         }
     }
 
     /// The bound of any block may be this too.
-    fn join_each(&mut self, perm: Perm)
-        ensures { AreBounds self.new (any_block_after (Some perm) (may_be self.old)) }
+    fn join_each(&mut self, perm: Perm) -> Result<(), AllocError>
+        ensures { OnOk result (AreBounds self.new (any_block_after (Some perm) (may_be self.old))) }
     {
-        match perm {
-            Perm::Nothing => self.not_nothing.clear(),
-            Perm::Branch => self.not_branch.clear(),
-            Perm::Trunk => self.not_trunk.clear(),
-        }
+        self.loosen_all()?;
+        self.loose.join_all(perm);
+        Ok(())
     }
 }

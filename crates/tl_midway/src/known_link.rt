@@ -275,7 +275,7 @@ impl KnownLink {
                 self.bounds.claim(certain, claimed)?;
             }
             Known::Unknown => {
-                self.bounds.join_all(cap_given(op, head));
+                self.bounds.join_all(cap_given(op, head))?;
             }
         }
         Ok(())

@@ -14,6 +14,7 @@ mod known_rules;
 pub mod laws;
 mod lead_ins;
 mod link_readings;
+mod loose_bounds;
 mod manager_readings;
 mod manager_rules;
 mod midway;

@@ -3,7 +3,9 @@
 ghost use Rattle.std.specs.Prelude.{◌≡◌, ◌≤◌, ◌^◌, false, nat_le};
 ghost use Rattle.std.specs.Option.{option_map_or};
 ghost use Rattle.tl_topology.specs.Topology.{IsSound};
+ghost use Rattle.tl_topology.specs.declared.LinkDecl.{LinkDecl as AnyLink};
 ghost use Rattle.tl_beats.specs.Beats.{IsWellFormed};
+ghost use Rattle.tl_beats.specs.declared.Beat.{Beat as AnyBeat};
 ghost use Rattle.tl_definitions.specs.Heads.{message_of};
 ghost use Rattle.tl_definitions.specs.Breaks.{breaks_later};
 ghost use Rattle.tl_definitions.specs.Readings.{is_due, missing_of, reading_after};
@@ -64,8 +66,18 @@ impl Reading {
                     };
                 }
             }
+            Reading::Rest { .. } => self.pass_later(),
+        }
+    }
+
+    /// The same after a beat that is no head: one beat fewer is missing.
+    pub fn pass_later(&mut self)
+        requires { is_due (shown_reading self.old) ≡ false }
+        ensures { (link : AnyLink) (beat : AnyBeat) → shown_reading self.new ≡ reading_after link beat (shown_reading self.old) }
+    {
+        match self {
             Reading::Rest { missing, .. } if *missing > 1 => *missing -= 1,
-            Reading::Rest { .. } => *self = Reading::Due,
+            Reading::Due | Reading::Rest { .. } => *self = Reading::Due,
         }
     }
 

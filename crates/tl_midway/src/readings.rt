@@ -4,6 +4,7 @@ ghost use Rattle.std.specs.Prelude.{◌≡◌, ◌==◌, ℕ, not, true, Some, L
 ghost use Rattle.std.specs.List.{All, find, list_any, list_all};
 ghost use Rattle.std.specs.Option.{option_copied};
 ghost use Rattle.tl_topology.specs.Topology.{IsSound};
+ghost use Rattle.tl_topology.specs.declared.LinkDecl.{LinkDecl as AnyLink};
 ghost use Rattle.tl_beats.specs.Beats.{IsWellFormed};
 ghost use Rattle.tl_beats.specs.declared.Beat.{Beat as AnyBeat};
 ghost use Rattle.tl_definitions.specs.Breaks.{later_order};
@@ -12,7 +13,7 @@ ghost use Rattle.tl_midway.specs.Members.{SameMembers};
 ghost use Rattle.tl_midway.specs.Reading.{shown_reading, is_kept, kept_of, breaks_as, may_as, IsFormed, AreFormed};
 ghost use Rattle.tl_midway.specs.Standing.{later_open};
 ghost use Rattle.tl_midway.specs.Seen.{Tells};
-ghost use Rattle.tl_midway.specs.Readings.{shown_readings};
+ghost use Rattle.tl_midway.specs.Readings.{shown_readings, IsSole};
 
 use crate::reading::Reading;
 use crate::seen::Seen;
@@ -225,7 +226,7 @@ impl Readings {
 
     /// Whether the beat surely belongs to a message of the capture, and is no head.
     pub fn is_settled(&self) -> bool
-        ensures { result ≡ true → (head : AnyBeat) × (missing : ℕ) × (shown_readings self.now ≡ rest missing (Some head) ∷ []) }
+        ensures { result ≡ true → IsSole (shown_readings self.now) }
     {
         match self.sole_head() {
             Some(_) => true,
@@ -284,6 +285,16 @@ impl Readings {
         rules
     }
 
+    /// Makes the only reading, by which this beat is no head, that of the channel's next beat after it.
+    pub(crate) fn pass_later(&mut self, beat: &Beat)
+        requires { IsSole (shown_readings self.old) }
+        ensures members { (link : AnyLink) → SameMembers (shown_readings self.new) (map (reading_after link beat.now) (shown_readings self.old)) }
+        ensures seen { (before : List AnyBeat) → Tells self.old.seen before → Tells self.new.seen (beat.now ∷ before) }
+    {
+        self.seen.add(beat);
+        self.one.pass_later();
+    }
+
     /// Makes these readings those of the channel's next beat after this one.
     pub fn pass(&mut self, link: &LinkDecl, beat: &Beat)
         requires link { IsSound link.now }
@@ -293,6 +304,10 @@ impl Readings {
     {
         self.seen.add(beat);
         self.one.pass(link, beat);
+        // Once the channel's heads are known, there are no others.
+        if self.others.is_empty() {
+            return;
+        }
         pass_all(&mut self.others, link, beat);
         // Two readings that both begin a message are one from then on.
         if self.one.is_due() {

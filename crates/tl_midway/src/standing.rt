@@ -4,7 +4,6 @@ ghost use Rattle.std.specs.Prelude.{◌≡◌, true, false};
 ghost use Rattle.tl_topology.specs.Topology.{IsSound};
 ghost use Rattle.tl_topology.specs.declared.LinkDecl.{LinkDecl as AnyLink};
 ghost use Rattle.tl_beats.specs.Beats.{IsWellFormed};
-ghost use Rattle.tl_definitions.specs.Readings.{in_lead_in};
 ghost use Rattle.tl_midway.specs.Standing.{IsKnown, Takes};
 ghost use Rattle.tl_midway.specs.declared.standing.Standing.TheVariants as standing;
 
@@ -29,7 +28,7 @@ pub enum Standing {
 
 impl Readings {
     ghost use Rattle.tl_midway.specs.Reading.{AreFormed};
-    ghost use Rattle.tl_midway.specs.Readings.{shown_readings};
+    ghost use Rattle.tl_midway.specs.Readings.{shown_readings, IsSole};
     ghost use Rattle.tl_midway.specs.Standing.{IsStanding};
 
     /// What the beat is by these readings.
@@ -53,7 +52,7 @@ impl Readings {
     /// Whether the beat is seen to go on with a message of the capture and to break no rule, as most later beats do; false says nothing.
     fn goes_on(&self, beat: &Beat) -> bool
         ensures stands { result ≡ true → (link : AnyLink) → IsStanding link beat.now (shown_readings self.now) standing.GoesOn }
-        ensures alone { result ≡ true → in_lead_in (shown_readings self.now) ≡ false }
+        ensures sole { result ≡ true → IsSole (shown_readings self.now) }
     {
         match self.sole_head() {
             Some(head) => keeps_burst(head, beat),
@@ -63,6 +62,7 @@ impl Readings {
 
     /// What the channel's next beat is, which is this one; then makes these readings those of the beat after it. Where bursts are
     /// told by their fields, those of a beat of the lead-in drop the readings that they speak against.
+    #[inline(always)]
     pub fn take(&mut self, alloc: Global, by_fields: bool, link: &LinkDecl, beat: &Beat) -> Standing
         requires link { IsSound link.now }
         requires beat { IsWellFormed beat.now }
@@ -70,9 +70,20 @@ impl Readings {
         ensures { Takes link.now by_fields beat.now self.old result self.new }
     {
         if self.goes_on(beat) {
-            self.pass(link, beat);
+            self.pass_later(beat);
             return Standing::GoesOn;
         }
+        self.take_any(alloc, by_fields, link, beat)
+    }
+
+    /// The same of any beat.
+    #[inline(never)]
+    fn take_any(&mut self, alloc: Global, by_fields: bool, link: &LinkDecl, beat: &Beat) -> Standing
+        requires link { IsSound link.now }
+        requires beat { IsWellFormed beat.now }
+        requires known { IsKnown self.old }
+        ensures { Takes link.now by_fields beat.now self.old result self.new }
+    {
         self.meet(by_fields, link, beat);
         let standing = self.standing(alloc, link, beat);
         self.pass(link, beat);

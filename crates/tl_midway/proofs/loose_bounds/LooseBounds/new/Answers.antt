@@ -1,7 +1,7 @@
 use Rattle.std.proofs.Common.{true, rules}
-use Rattle.tl_midway.specs.KnownBounds.{may_be}
+use Rattle.tl_midway.specs.LooseBounds.{may_be}
 use Rattle.tl_midway.proofs.BoundLaws.{each_perm}
-use Rattle.tl_midway.proofs.known_bounds.KnownBounds.new.Goals as goal
+use Rattle.tl_midway.proofs.loose_bounds.LooseBounds.new.Goals as goal
 
 pub returns : goal.returns
 returns c block =

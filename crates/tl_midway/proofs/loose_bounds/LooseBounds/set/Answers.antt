@@ -1,7 +1,7 @@
 use Rattle.std.proofs.Common.{◌==◌, not, cond, ap, ◌∙◌}
-use Rattle.tl_midway.specs.KnownBounds.{holds}
+use Rattle.tl_midway.specs.LooseBounds.{holds}
 use Rattle.tl_midway.proofs.BoundLaws.{bound_set}
-use Rattle.tl_midway.proofs.known_bounds.KnownBounds.set.Goals as goal
+use Rattle.tl_midway.proofs.loose_bounds.LooseBounds.set.Goals as goal
 
 pub returns : goal.returns
 returns c =

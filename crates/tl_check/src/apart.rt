@@ -52,6 +52,7 @@ impl PlainLink {
 
     /// Judges the link's next beat by what the state shows: puts the rows of what it breaks at the end, and the state then shows what is
     /// left with it. AllocError where memory is refused: then state and rows may have part of the beat, and are for nothing more.
+    #[inline(always)]
     pub fn step(
         &mut self,
         alloc: Global,
@@ -81,6 +82,7 @@ impl PlainLink {
     }
 
     /// The same where the beat is a head. Most heads are seen to break no rule, and then no list of rules is made.
+    #[inline(always)]
     fn step_head(
         &mut self,
         alloc: Global,

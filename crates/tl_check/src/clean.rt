@@ -19,6 +19,7 @@ use tl_topology::{LinkDecl, RegionMap};
 /// Whether the address of a request is a multiple of its size, and one region permits the request to all its bytes, or there are no
 /// regions.
 #[tactic(auto, using(tl_link_rules::proofs::Lanes::last_coded))]
+#[inline(always)]
 fn is_placed(regions: &RegionMap, op: Op, head: &Beat) -> bool
     requires { IsWellFormed head.now }
     ensures { result ≡ is_placed (areas_of regions.now) op head.now }
@@ -35,6 +36,7 @@ fn is_placed(regions: &RegionMap, op: Op, head: &Beat) -> bool
 }
 
 /// Whether a head with this message is seen to break no format rule of a manager with these regions.
+#[inline(always)]
 fn keeps_format(decl: &LinkDecl, regions: &RegionMap, op: Op, head: &Beat) -> bool
     requires decl { IsSound decl.now }
     requires beat { IsWellFormed head.now }
@@ -70,6 +72,7 @@ fn keeps_flow(op: Op, head: &Beat, request: &Option<Request>) -> bool
 }
 
 /// The message of a head of a link below the level of caches that is seen to break no rule of its link's own. None says nothing.
+#[inline(always)]
 pub fn clean_message(
     decl: &LinkDecl,
     regions: &RegionMap,

@@ -1,6 +1,6 @@
 //! Files whose parts are judged by several threads.
 
-ghost use Rattle.std.specs.Prelude.{◌<◌, List, IfOk};
+ghost use Rattle.std.specs.Prelude.{◌<◌, List, None, IfOk};
 ghost use Rattle.tl_beats.specs.Fragments.{Frag};
 ghost use Rattle.tl_pass.specs.Parts.{IsPart};
 ghost use Rattle.tl_pass.specs.Reports.{IsTaken};
@@ -120,14 +120,21 @@ fn part_of<R: Files + AllocGlobal>(
     queue: Queue<'_>,
     group: Group,
 ) -> Result<Part, Hitch>
-    ensures { IfOk result (λ part. (fs : List Frag) × IsPart sieve.entry.topo.now fs part) }
+    ensures { IfOk result (λ part. (fs : List Frag) × IsPart None sieve.entry.topo.now fs part) }
 {
     let mut gauge = Untold;
     let count = group.heads.count;
     let mut read = FilesRead::none_of(count, &mut gauge);
     let own = queue.only(group.heads.of(queue.heads));
     let mut supply = FileSupply::new(rt, sieve, own, &mut read);
-    Part::of(rt.alloc(), sieve.topo, group.links, count, &mut supply)
+    Part::of(
+        rt.alloc(),
+        sieve.topo,
+        None,
+        group.links,
+        count,
+        &mut supply,
+    )
 }
 
 /// The reports of groups, each made by a thread of its own.
@@ -188,7 +195,7 @@ pub(crate) fn rows_beside<R: Files + Threads + Sync + AllocGlobal, G: Gauge>(
 where
     R::File: Send,
     R::Dir: Send,
-    ensures { IfOk result (λ taken. (fs : List Frag) × IsTaken sieve.entry.topo.now fs taken) }
+    ensures { IfOk result (λ taken. (fs : List Frag) × IsTaken None sieve.entry.topo.now fs taken) }
 {
     let mut whole = Whole::new(rt.alloc());
     for round in groups.chunks(usize::from(workers) + 1) {

@@ -1,6 +1,6 @@
 //! Files of links with caches, which several threads read and judge beside each other.
 
-ghost use Rattle.std.specs.Prelude.{List, IfOk};
+ghost use Rattle.std.specs.Prelude.{List, None, IfOk};
 ghost use Rattle.tl_beats.specs.Fragments.{Frag};
 ghost use Rattle.tl_pass.specs.Reports.{IsTaken};
 
@@ -111,7 +111,7 @@ pub(crate) fn rows_of_lanes<R: Files + Threads + Sync + AllocGlobal, G: Gauge>(
 where
     R::File: Send,
     R::Dir: Send,
-    ensures { IfOk result (λ taken. (fs : List Frag) × IsTaken sieve.entry.topo.now fs taken) }
+    ensures { IfOk result (λ taken. (fs : List Frag) × IsTaken None sieve.entry.topo.now fs taken) }
 {
     let threads = usize::from(workers) + 1;
     let rounds = rounds_of(rt, queue)?;

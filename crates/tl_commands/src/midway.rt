@@ -71,12 +71,22 @@ fn unjudged_line(alloc: Global, counts: &[RuleCount]) -> Result<String, AllocErr
     }
 }
 
+/// Puts after a text by which law rows of a capture from the middle of a run stand, and how many beats are in lead-ins.
+pub(crate) fn push_lead_ins(
+    alloc: Global,
+    law: Midway,
+    count: u64,
+    notes: &mut String,
+) -> Result<(), AllocError> {
+    let lead_ins = lead_in_line(alloc, count)?;
+    notes.push_str(law_line(law))?;
+    notes.push_str(&lead_ins)
+}
+
 /// Puts what rows of a capture from the middle of a run rest on after a text: the law by which they stand, how many beats are in
 /// lead-ins, and where they are counted by rule, how many each rule leaves unjudged.
 fn push_law(alloc: Global, counts: &Counts, notes: &mut String) -> Result<(), AllocError> {
-    let lead_ins = lead_in_line(alloc, counts.lead_ins)?;
-    notes.push_str(law_line(counts.law))?;
-    notes.push_str(&lead_ins)?;
+    push_lead_ins(alloc, counts.law, counts.lead_ins, notes)?;
     if !counts.by_rule {
         return Ok(());
     }

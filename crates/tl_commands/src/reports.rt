@@ -9,18 +9,20 @@ ghost use Rattle.tl_pass.specs.Reports.{IsTaken};
 use crate::denial::{Denial, denial_of_audit, denial_of_fragments};
 use crate::fault::Fault;
 use crate::files::{fragments_of, script_of, topology_of};
+use crate::midway::push_lead_ins;
 use crate::picking::{Trouble, Written, order_of, write_audit, write_once};
 use crate::progress::{Gauge, SoFar};
 use crate::share::share_of;
 use crate::turns::report_in_turn;
-use std::alloc::Global;
+use std::alloc::{AllocError, Global};
 use std::rt::Files;
 use std::sync::Arc;
 use std::thread::Threads;
 use tl_beats::Fragment;
 use tl_check::{Judges, Plain, Report, report_text, run_once_beside};
+use tl_midway::Midway;
 use tl_options::{Capture, How, View};
-use tl_pass::Taken;
+use tl_pass::{Found, Taken};
 use tl_rows::Format;
 use tl_script::{Outcome, audit_script_beside};
 use tl_show::Shown;
@@ -98,10 +100,13 @@ impl Manner<'_, '_> {
         !self.how.summary && self.how.midway.is_none() && self.view.is_whole()
     }
 
-    /// Whether nothing is wanted but the lines of that.
+    /// Whether nothing is wanted but the lines of the report, so that fragments need not be held. Workers read a capture from the middle of a
+    /// run at once.
     fn is_bare(self) -> bool {
-        let deny = self.how.deny;
-        self.is_plain() && self.view.format == Format::Text && !deny.refused && !deny.empty
+        let How { deny, midway, .. } = self.how;
+        let is_text = self.view.is_whole() && self.view.format == Format::Text;
+        let is_alone = midway.is_none() || self.how.workers == 0;
+        is_text && is_alone && !self.how.summary && !deny.refused && !deny.empty
     }
 }
 
@@ -162,22 +167,49 @@ fn once_denied<R: Files + Threads + Sync + AllocGlobal, O: ByteOut>(
     Ok(ending.denied_by(denial_of_fragments(manner.how.deny, fragments)))
 }
 
-/// Writes the report of fragments that have these rows.
+/// How a report ends that was written with so many rows, of a whole run or of a capture that begins so, with these notes.
+fn ending_by(midway: Option<Midway>, rows: u64, notes: String) -> Ending {
+    match midway {
+        None => Ending::Came(report_of(rows)),
+        Some(_) => Ending::Picked(
+            Written {
+                rows,
+                notes,
+                summary: None,
+            },
+            None,
+        ),
+    }
+}
+
+/// What is told of the rows of a capture that begins so, of which so many beats are in lead-ins; nothing of a whole run.
+fn notes_by(alloc: Global, midway: Option<Midway>, lead_ins: u64) -> Result<String, AllocError> {
+    let mut notes = String::new(alloc);
+    if let Some(law) = midway {
+        push_lead_ins(alloc, law, lead_ins, &mut notes)?;
+    }
+    Ok(notes)
+}
+
+/// Writes the report of fragments, of a whole run or of a capture that begins so, in which this is found.
 fn write_report<O: ByteOut>(
     alloc: Global,
     topo: &Topo,
+    midway: Option<Midway>,
     taken: Taken,
     out: &mut O,
 ) -> Result<Ending, Fault>
-    requires rows { (fs : List Frag) × IsTaken topo.now fs taken }
+    requires rows { (fs : List Frag) × IsTaken midway topo.now fs taken }
     requires out { O.failure_count out.old < 2 ^ 63 }
-    ensures { (fs : List Frag) → IsTaken topo.now fs taken
-        → OnOk result (Appends (O.contents out.old) (O.contents out.new) (text_once topo.now (length fs) taken.rows.items)) }
+    ensures { (fs : List Frag) → IsTaken midway topo.now fs taken
+        → OnOk result (Appends (O.contents out.old) (O.contents out.new) (text_once topo.now (length fs) taken.found.rows.items)) }
 {
-    let report = Report::new(alloc, 1, taken.fragments, taken.rows)?;
+    let Found { rows, lead_ins } = taken.found;
+    let notes = notes_by(alloc, midway, lead_ins)?;
+    let report = Report::new(alloc, 1, taken.fragments, rows)?;
     let text = report_text(alloc, topo, &report)?;
     write_all(out, text.as_bytes())?;
-    Ok(Ending::Came(report_of(report.rows().len() as u64)))
+    Ok(ending_by(midway, report.rows().len() as u64, notes))
 }
 
 /// The report of the fragments of files on a topology, of those of a share; words stand for their files.
@@ -195,9 +227,9 @@ where
     requires { O.failure_count out.old < 2 ^ 63 }
 {
     if manner.is_bare()
-        && let Some(taken) = report_in_turn(rt, sieve, words, manner.how.workers, gauge)?
+        && let Some(taken) = report_in_turn(rt, sieve, words, manner.how, gauge)?
     {
-        return write_report(rt.alloc(), sieve.topo, taken, out);
+        return write_report(rt.alloc(), sieve.topo, manner.how.midway, taken, out);
     }
     let fragments = fragments_of(rt, words, sieve, manner.how.workers, gauge)?;
     once_denied(rt, sieve.topo, &fragments, manner, out)

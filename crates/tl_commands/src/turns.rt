@@ -16,6 +16,8 @@ use std::rt::Files;
 use std::sync::Arc;
 use std::thread::Threads;
 use tl_beats::Fragment;
+use tl_midway::Midway;
+use tl_options::How;
 use tl_pass::{Hitch, Supply, Taken, report_of};
 use tl_stream::Sieve;
 
@@ -80,21 +82,23 @@ impl<'r, 'a, 'p, 'g, R: Files + AllocGlobal, G: Gauge> Supply for FileSupply<'r,
     }
 }
 
-/// The report of the fragments of files, which are judged in this order, by so many threads beside this one: each has parts of its own
-/// where there are several, and else links.
+/// What is found in the fragments of files, of a whole run or of a capture that begins so, which are judged in this order, by so many
+/// threads beside this one: each has parts of its own where there are several, and else links. One thread judges a capture from the middle
+/// of a run.
 fn taken_of<R: Files + Threads + Sync + AllocGlobal, G: Gauge>(
     rt: &R,
     sieve: Sieve<'_>,
     queue: Queue<'_>,
+    midway: Option<Midway>,
     workers: u8,
     read: &mut FilesRead<'_, G>,
 ) -> Result<Taken, Hitch>
 where
     R::File: Send,
     R::Dir: Send,
-    ensures { IfOk result (λ taken. (fs : List Frag) × IsTaken sieve.entry.topo.now fs taken) }
+    ensures { IfOk result (λ taken. (fs : List Frag) × IsTaken midway sieve.entry.topo.now fs taken) }
 {
-    if workers > 0 {
+    if workers > 0 && midway.is_none() {
         let groups = groups_of(rt.alloc(), sieve.topo, queue.heads, workers)?;
         if groups.len() > 1 {
             return rows_beside(rt, sieve, queue, &groups, workers, read);
@@ -104,23 +108,29 @@ where
         }
     }
     let mut supply = FileSupply::new(rt, sieve, queue, read);
-    report_of(rt.alloc(), sieve.topo, queue.heads.len(), &mut supply)
+    report_of(
+        rt.alloc(),
+        sieve.topo,
+        midway,
+        queue.heads.len(),
+        &mut supply,
+    )
 }
 
-/// The report of the fragments of the files that words stand for, which are read in an order in which few are held, and judged by so many
-/// threads beside this one; None where they have to be held together: where a file can't be read again or has a fault, or fragments don't
-/// rise.
+/// What is found in the fragments of the files that words stand for, of a whole run or of a capture that begins so, which are read in an
+/// order in which few are held, and judged by so many threads beside this one; None where they have to be held together: where a file can't
+/// be read again or has a fault, fragments don't rise, or some links of a capture from the middle of a run have caches and others none.
 pub(crate) fn report_in_turn<R: Files + Threads + Sync + AllocGlobal + Clone + Drop, G: Gauge>(
     rt: &R,
     sieve: Sieve<'_>,
     words: &[&str],
-    workers: u8,
+    how: How,
     gauge: &mut G,
 ) -> Result<Option<Taken>, Fault>
 where
     R::File: Send,
     R::Dir: Send,
-    ensures { IfOk result (λ found. IfSome found (λ taken. (fs : List Frag) × IsTaken sieve.entry.topo.now fs taken)) }
+    ensures { IfOk result (λ found. IfSome found (λ taken. (fs : List Frag) × IsTaken how.midway sieve.entry.topo.now fs taken)) }
 {
     let (files, fault) = listed(rt, words)?;
     let is_fit = fault.is_none() && files.len() > 1 && files.len() <= MOST_EDITS;
@@ -132,7 +142,7 @@ where
     };
     let queue = Queue::new(&files, &heads);
     let mut read = FilesRead::none_of(files.len(), gauge);
-    match taken_of(rt, sieve, queue, workers, &mut read) {
+    match taken_of(rt, sieve, queue, how.midway, how.workers, &mut read) {
         Ok(taken) => Ok(Some(taken)),
         Err(Hitch::Memory) => Err(Fault::MEMORY),
         Err(Hitch::Fault) => Ok(None),

@@ -9,6 +9,7 @@ use Rattle.std.specs.declared.cmp.Ordering.TheVariants.{Less}
 use Rattle.tl_tables.specs.declared.Rule.{Rule}
 use Rattle.tl_tables.specs.declared.Rule.TheVariants as rule
 use Rattle.tl_tables.specs.Kinds.{is_grant, is_probe}
+use Rattle.tl_topology.specs.declared.LinkDecl.{LinkDecl}
 use Rattle.tl_beats.specs.declared.Placed.{Placed}
 use Rattle.tl_beats.specs.declared.Request.{Request}
 use Rattle.tl_definitions.specs.Heads.{message_of}
@@ -28,12 +29,15 @@ use Rattle.tl_midway.specs.Unjudged.{asks, asks_flow, asks_permission, asks_mana
 use Rattle.tl_midway.proofs.ApartLaws.{before_own, past_own, by_alike}
 use Rattle.tl_midway.proofs.PlainMessages.{IsPlain, plain_message, kinds}
 
--- The test asks about the beats of the beat's own link alone.
-abbrev pub IsOwn : Test → Manager → Beginning → Type 0
-IsOwn test m start = (before : List Placed) (p : Placed) → IsPlain (m.links p.link) → test m start (on_link p.link before) p ≡ test m start before p
+-- Of links of a kind the test asks about the beats of the beat's own link alone.
+abbrev pub IsOwnOf : (LinkDecl → Type 0) → Test → Manager → Beginning → Type 0
+IsOwnOf Kind test m start = (before : List Placed) (p : Placed) → Kind (m.links p.link) → test m start (on_link p.link before) p ≡ test m start before p
 
-pub lead_ins_are_own : (m : Manager) (start : Beginning) → IsOwn leads_in m start
-lead_ins_are_own m start before p plain =
+abbrev pub IsOwn : Test → Manager → Beginning → Type 0
+IsOwn test m start = IsOwnOf IsPlain test m start
+
+pub lead_ins_are_own : (Kind : LinkDecl → Type 0) (m : Manager) (start : Beginning) → IsOwnOf Kind leads_in m start
+lead_ins_are_own Kind m start before p kind =
     ap (λ beats. in_lead_in (readings_after (m.links p.link) (start.most p.link p.beat.chan) start.by_fields beats)) (before_own p.link p.beat.chan before)
 
 -- ---- beats that are left unjudged
@@ -85,7 +89,7 @@ abbrev pub by_links : Test → Manager → Beginning → List ℕ → List Place
 by_links test m start [] before beats = 0
 by_links test m start (link ∷ links) before beats = counted_after test m start (on_link link before) (on_link link beats) + by_links test m start links before beats
 
-module _ (test : Test) (m : Manager) (start : Beginning) (own : IsOwn test m start) where
+module _ (Kind : LinkDecl → Type 0) (test : Test) (m : Manager) (start : Beginning) (own : IsOwnOf Kind test m start) where
   none_left : (links : List ℕ) (before : List Placed) → by_links test m start links before [] ≡ 0
   none_left [] before = refl
   none_left (link ∷ links) before = let known : by_links test m start links before [] ≡ 0 = none_left links before in omega arith
@@ -99,7 +103,7 @@ module _ (test : Test) (m : Manager) (start : Beginning) (own : IsOwn test m sta
         | false ↦ λ e. ap (λ n. counted_after test m start (on_link link before) (on_link link beats) + n) (elsewhere links before beats p (λ h. away (contains_there link links p.link h)))
       ] refl
 
-  one_more : (links : List ℕ) (before beats : List Placed) (p : Placed) → IsStrictlySortedBy nat_cmp links → Contains links p.link → IsPlain (m.links p.link)
+  one_more : (links : List ℕ) (before beats : List Placed) (p : Placed) → IsStrictlySortedBy nat_cmp links → Contains links p.link → Kind (m.links p.link)
       → one_if (test m start before p) + by_links test m start links (p ∷ before) beats ≡ by_links test m start links before (p ∷ beats)
   unfolding IsStrictlySortedBy
   one_more [] before beats p up has plain = absurd (contains_none p.link has)
@@ -119,7 +123,7 @@ module _ (test : Test) (m : Manager) (start : Beginning) (own : IsOwn test m sta
             let rest_of = one_more links before beats p up.1 there plain in omega arith)
       ] refl
 
-  pub counts_add_up : (links : List ℕ) (before beats : List Placed) → IsStrictlySortedBy nat_cmp links → ((p : Placed) → Contains beats p → Contains links p.link × IsPlain (m.links p.link))
+  pub counts_add_up : (links : List ℕ) (before beats : List Placed) → IsStrictlySortedBy nat_cmp links → ((p : Placed) → Contains beats p → Contains links p.link × Kind (m.links p.link))
       → counted_after test m start before beats ≡ by_links test m start links before beats
   counts_add_up links before [] up all = sym (none_left links before)
   counts_add_up links before (p ∷ beats) up all =

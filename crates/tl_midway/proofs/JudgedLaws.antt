@@ -155,7 +155,7 @@ count_done m entry judged first counts rest all none amid law before n has count
 -- ---- the same beats of each link
 
 asked_is_own : (asked : Option Rule) (m : Manager) (start : Beginning) → IsOwn (asked_of asked) m start
-asked_is_own None m start = lead_ins_are_own m start
+asked_is_own None m start = lead_ins_are_own IsPlain m start
 asked_is_own (Some r) m start = unjudged_are_own r m start
 
 module _ (m : Manager) (start : Beginning) (one two : List Placed) (same : (link : ℕ) → on_link link one ≡ on_link link two) where
@@ -185,9 +185,9 @@ module _ (m : Manager) (start : Beginning) (links : List ℕ) (beats : List Plac
 
   pub counts_by_link : (asked : Option Rule) → counted_after (asked_of asked) m start [] (one_after_other (of_each links beats)) ≡ counted_after (asked_of asked) m start [] beats
   counts_by_link asked =
-      counts_add_up (asked_of asked) m start (asked_is_own asked m start) links [] (one_after_other (of_each links beats)) up (λ p h. all p (from_each links beats p h))
+      counts_add_up IsPlain (asked_of asked) m start (asked_is_own asked m start) links [] (one_after_other (of_each links beats)) up (λ p h. all p (from_each links beats p h))
       ∙ same_by_links m start (one_after_other (of_each links beats)) beats stays (asked_of asked) links
-      ∙ sym (counts_add_up (asked_of asked) m start (asked_is_own asked m start) links [] beats up all)
+      ∙ sym (counts_add_up IsPlain (asked_of asked) m start (asked_is_own asked m start) links [] beats up all)
 
 -- ---- beats of the manager that is judged
 

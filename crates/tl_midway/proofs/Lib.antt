@@ -23,11 +23,12 @@ pub mod UnjudgedLaws
 pub mod AskedLaws
 pub mod UnjudgedStandLaws
 pub mod CountsLaws
-mod PlainMessages
-mod ApartLaws
+pub mod PlainMessages
+pub mod ApartLaws
 mod ApartCounts
 mod JudgedLaws
 mod SeenLaws
 mod NamedLaws
 mod NamedRows
 mod NoLeadIns
+pub mod LeadInsByLink

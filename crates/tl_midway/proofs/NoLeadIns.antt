@@ -58,3 +58,14 @@ none_counted law m beats counts n by heads has =
       lead_ins = has.lead_ins ∙ ap u64_saturate same;
       unjudged = has.unjudged ∙ ap (rule_counts n) by ∙ sym (ap (rule_counts (λ asked. n asked + counted (asked_of asked) law m beats)) by);
     }
+
+-- Where beats aren't counted by rule, those in lead-ins are all that is counted.
+pub lead_ins_added : (law : Midway) (m : Manager) (beats : List Placed) (old new : Counts) (own : ℕ) (n : Option Rule → ℕ) → old.by_rule ≡ false → new.by_rule ≡ old.by_rule → new.unjudged.items ≡ old.unjudged.items
+    → new.lead_ins ≡ u64_saturate (old.lead_ins + own) → own ≡ u64_saturate (counted leads_in law m beats) → HasCounts old n → HasCounts new (λ asked. n asked + counted (asked_of asked) law m beats)
+lead_ins_added law m beats old new own n by same unjudged put is has = record {
+  lead_ins = put ∙ both old.lead_ins own (n None) (counted leads_in law m beats) has.lead_ins is;
+  unjudged = unjudged ∙ has.unjudged ∙ ap (rule_counts n) by ∙ sym (ap (rule_counts (λ asked. n asked + counted (asked_of asked) law m beats)) (same ∙ by));
+}
+  where
+    both : (a b k l : ℕ) → a ≡ u64_saturate k → b ≡ u64_saturate l → u64_saturate (a + b) ≡ u64_saturate (k + l)
+    both a b k l one two = omega (arith, one, two)

@@ -1,13 +1,11 @@
 -- A link without caches whose channels begin at heads: what is printed of its beats is what they break after the capture alone, but for the flow rules of sources that no message of the capture has named.
-use Rattle.std.proofs.Common.{◌≡◌, ℕ, ◌+◌, ◌-◌, ◌==◌, ◌&&◌, ◌||◌, Bool, true, false, cond, List, [], ◌∷◌, ◌++◌, map, Option, Some, None, refl, sym, ap, ◌∙◌, append_assoc, append-nil}
+use Rattle.std.proofs.Common.{◌≡◌, ℕ, ◌-◌, ◌==◌, ◌&&◌, ◌||◌, Bool, true, false, cond, List, [], ◌∷◌, ◌++◌, map, Option, Some, None, refl, sym, ap, ◌∙◌, append_assoc, append-nil}
 use Rattle.std.specs.Prelude.{not, filter, nat_lt, is_some, is_none}
 use Rattle.std.specs.Option.{option_map, option_map_or}
 use Rattle.std.specs.List.{list_all}
 use Rattle.tl_tables.specs.declared.Chan.{Chan}
 use Rattle.tl_tables.specs.declared.Chan.TheVariants as chan
-use Rattle.tl_tables.specs.declared.Level.TheVariants as level
 use Rattle.tl_tables.specs.declared.Op.{Op}
-use Rattle.tl_tables.specs.declared.Op.TheVariants as op
 use Rattle.tl_tables.specs.declared.Rule.{Rule}
 use Rattle.tl_tables.specs.declared.Rule.TheVariants as rule
 use Rattle.tl_tables.specs.Messages.{same_chan, replies_to}

@@ -1,6 +1,7 @@
 -- Lead-ins of a capture: which beats are in them, and where they end. By what the capture has before a beat of a lead-in, two
 -- readings of its channel differ in how many beats are missing. So it isn't certain where the channel's next message begins.
-use Rattle.std.specs.Prelude.{ℕ, zero, suc, ◌&&◌, not, Bool, List, [], ◌∷◌, ◌++◌, length, map, Option, Some, None, if◌then◌else◌}
+use Rattle.std.specs.Prelude.{ℕ, zero, suc, ◌+◌, ◌&&◌, not, Bool, true, false, List, [], ◌∷◌, ◌++◌, length, map, Option, Some, None, if◌then◌else◌}
+use Rattle.std.specs.Io.Iter.{u64_saturate}
 use Rattle.tl_tables.specs.declared.Chan.{Chan}
 use Rattle.tl_tables.specs.declared.Chan.TheVariants as chan
 use Rattle.tl_tables.specs.Messages.{same_chan}
@@ -8,6 +9,7 @@ use Rattle.tl_beats.specs.declared.Placed.{Placed}
 use Rattle.tl_definitions.specs.Heads.{before_on}
 use Rattle.tl_definitions.specs.Known.{Beginning}
 use Rattle.tl_definitions.specs.Managers.{declared_links, manager_at}
+use Rattle.tl_definitions.specs.OpenTables.{one_if}
 use Rattle.tl_definitions.specs.Positions.{beats_of_all, links_of}
 use Rattle.tl_definitions.specs.Readings.{in_lead_in, readings_after}
 use Rattle.tl_definitions.specs.Rules.{Manager}
@@ -21,6 +23,16 @@ use Rattle.tl_midway.specs.declared.midway.Midway.{Midway}
 abbrev pub leads_in : Manager → Beginning → List Placed → Placed → Bool
 leads_in m start before p =
     in_lead_in (readings_after (m.links p.link) (start.most p.link p.beat.chan) start.by_fields (before_on p.link p.beat.chan before))
+
+-- A count with one beat more, if that is in a lead-in.
+abbrev pub with_beat : Bool → ℕ → ℕ
+with_beat true count = u64_saturate (count + 1)
+with_beat false count = count
+
+-- How many of these beats are, the newest first.
+abbrev pub lead_ins_of : Manager → Beginning → List Placed → ℕ
+lead_ins_of m start [] = 0
+lead_ins_of m start (p ∷ before) = lead_ins_of m start before + one_if (leads_in m start before p)
 
 -- The cycle of the first of these beats that is on a channel and in no lead-in, where others of the capture come before them.
 abbrev pub first_sure : Manager → Beginning → Chan → List Placed → List Placed → Option ℕ

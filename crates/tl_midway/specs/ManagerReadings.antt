@@ -1,5 +1,6 @@
 -- What the readings of a manager's links stand for.
 use Rattle.std.specs.Prelude.{ℕ, ◌≡◌, ◌<◌, Bool, List, ◌∷◌, length, map, Some}
+use Rattle.std.specs.Io.Iter.{u64_saturate}
 use Rattle.std.specs.List.{All}
 use Rattle.std.specs.List.Sorted.{IsStrictlySortedBy}
 use Rattle.std.specs.Ordering.{nat_cmp}
@@ -9,7 +10,7 @@ use Rattle.tl_definitions.specs.Heads.{before_on}
 use Rattle.tl_definitions.specs.Rules.{Manager}
 use Rattle.tl_definitions.specs.Known.{Beginning, readings_of}
 use Rattle.tl_client_rules.specs.Clients.{place_of}
-use Rattle.tl_midway.specs.LeadIns.{leads_in}
+use Rattle.tl_midway.specs.LeadIns.{leads_in, lead_ins_of}
 use Rattle.tl_midway.specs.LinkReadings as link_readings
 use Rattle.tl_midway.specs.Readings as channel
 use Rattle.tl_midway.specs.Standing.{IsStanding}
@@ -30,12 +31,13 @@ numbers_of state = map (λ (link : LinkReadings). link.number) state.links.items
 abbrev pub AreKnown : ManagerReadings → Type 0
 AreKnown state = All (λ (link : LinkReadings). link_readings.IsKnown link) state.links.items
 
--- The state has the readings of each link of the manager after these beats.
+-- The state has the readings of each link of the manager after these beats, and has counted those that are in lead-ins.
 pub record StandsFor (m : Manager) (start : Beginning) (state : ManagerReadings) (before : List Placed) : Type 0 where
   pub clients : numbers_of state ≡ m.clients
   pub rises : IsStrictlySortedBy nat_cmp m.clients
   pub by_fields : state.by_fields ≡ start.by_fields
   pub each : All (λ (link : LinkReadings). link_readings.StandsFor m start link before) state.links.items
+  pub lead_ins : state.lead_ins ≡ u64_saturate (lead_ins_of m start before)
 
 -- Of whatever manager the link is declared so in and whatever beats of it the old state stands for: this is what the next beat
 -- is, and the new state stands for them and the beat.
@@ -46,6 +48,10 @@ Takes link p old result new = (m : Manager) (start : Beginning) (before : List P
 -- Of whatever manager and whatever beats of it the state stands for: whether the next beat is in its channel's lead-in.
 abbrev pub LeadsIn : Placed → ManagerReadings → Bool → Type 0
 LeadsIn p state result = (m : Manager) (start : Beginning) (before : List Placed) → StandsFor m start state before → result ≡ leads_in m start before p
+
+-- Of whatever manager and whatever beats of it the state stands for: how many of them are in lead-ins.
+abbrev pub CountsLeadIns : ManagerReadings → ℕ → Type 0
+CountsLeadIns state result = (m : Manager) (start : Beginning) (before : List Placed) → StandsFor m start state before → result ≡ u64_saturate (lead_ins_of m start before)
 
 -- Of whatever manager and whatever beats of it the state stands for: these are the readings of the channel of this beat.
 abbrev pub OnChannel : Placed → ManagerReadings → Readings → Type 0

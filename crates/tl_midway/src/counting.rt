@@ -1,6 +1,7 @@
 //! The report of a capture that begins in the middle of a run, and what is counted of its beats: each is judged and counted at once.
 
-ghost use Rattle.std.specs.Prelude.{◌≡◌, ℕ, ◌+◌, ◌<◌, [], Option, length, IfOk, OnOk};
+ghost use Rattle.std.specs.Prelude.{◌≡◌, ℕ, ◌+◌, ◌<◌, [], Option, false, length, IfOk, OnOk};
+ghost use Rattle.std.specs.Io.Iter.{u64_saturate};
 ghost use Rattle.std.specs.List.{All, Contains};
 ghost use Rattle.tl_tables.specs.declared.Rule.{Rule as AnyRule};
 ghost use Rattle.tl_topology.specs.Regions.{areas_of};
@@ -12,12 +13,14 @@ ghost use Rattle.tl_midway.specs.Counts.{managers_counted};
 ghost use Rattle.tl_midway.specs.Counted.{HasCounts, AreCounts, asked_of};
 ghost use Rattle.tl_midway.specs.Judged.{HasJudged, GoesOver, CountsOn, AreRowsOf, AddsManager};
 ghost use Rattle.tl_midway.specs.Report.{ArePrinted, IsMidwayReport};
+ghost use Rattle.tl_midway.specs.LeadIns.{leads_in};
 ghost use Rattle.tl_midway.specs.State.{IsOf};
 
 use crate::counts::Counts;
 use crate::judged::Judged;
 use crate::midway::Midway;
 use crate::plain_links::{judges_as_whole, named_links};
+use crate::walked::{Walked, midway_rows};
 use std::alloc::{AllocError, Global};
 use tl_beats::Row;
 use tl_capture::{Merged, Present};
@@ -94,8 +97,31 @@ fn counted_beats(
     Ok(())
 }
 
-/// The rows that are printed of a manager, in any order; its beats are counted. Where none of its links has caches, all begin at heads, and
-/// beats aren't counted by rule, its links are judged as if nothing had come before.
+/// The rows that are printed of a manager, in the order of positions; of its beats those in lead-ins are counted, and none by rule.
+/// AllocError where memory is refused.
+fn walked_manager(
+    alloc: Global,
+    topo: &Topo,
+    present: &Present,
+    manager: u16,
+    regions: &RegionMap,
+    counts: &mut Counts,
+) -> Result<Vec<Row>, AllocError>
+    requires { counts.old.by_rule ≡ false }
+    ensures rows { IfOk result (λ rows. AreRowsOf counts.old.law topo.now (areas_of regions.now) present.now manager rows.items) }
+    ensures counts { OnOk result (AddsManager topo.now (areas_of regions.now) present.now manager counts.old counts.new) }
+    ensures law { OnOk result (counts.new.law ≡ counts.old.law) }
+    ensures by_rule { OnOk result (counts.new.by_rule ≡ counts.old.by_rule) }
+{
+    let links = clients_of(alloc, topo, manager)?;
+    let walk = present.walk(alloc, &links)?;
+    let found = midway_rows(alloc, topo, manager, regions, counts.law, walk)?;
+    counts.lead_ins = counts.lead_ins.saturating_add(found.lead_ins);
+    Ok(found.rows)
+}
+
+/// The rows that are printed of a manager, in any order; its beats are counted. Where beats aren't counted by rule, and none of its links
+/// has caches and all begin at heads, its links are judged as if nothing had come before.
 fn counted_manager(
     alloc: Global,
     topo: &Topo,
@@ -114,6 +140,9 @@ fn counted_manager(
     let links = clients_of(alloc, topo, manager)?;
     if !counts.by_rule && judges_as_whole(counts.law, topo, &links) {
         return named_links(alloc, topo, present, manager, regions, &links);
+    }
+    if !counts.by_rule && !are_plain(topo, &links) {
+        return walked_manager(alloc, topo, present, manager, regions, counts);
     }
     let mut judged = Judged::new(alloc, topo, manager, counts.law)?;
     counted_beats(alloc, topo, present, regions, &mut judged, counts)?;
@@ -142,6 +171,25 @@ fn counted_managers(
         rows.extend_from_slice(&found)?;
     }
     Ok(rows)
+}
+
+/// What is found in fragments of a capture that begins so, without regions: the rows that are printed of all managers, in any order, and how
+/// many of their beats are in lead-ins. AllocError where memory is refused.
+pub fn capture_rows(
+    alloc: Global,
+    topo: &Topo,
+    present: &Present,
+    law: Midway,
+) -> Result<Walked, AllocError>
+    ensures rows { IfOk result (λ found. ArePrinted law topo.now (areas_at []) present.now (length topo.now.managers) found.rows.items) }
+    ensures lead_ins { IfOk result (λ found. found.lead_ins ≡ u64_saturate (managers_counted leads_in law topo.now (areas_at []) present.now (length topo.now.managers))) }
+{
+    let mut counts = Counts::new(alloc, law, false)?;
+    let rows = counted_managers(alloc, topo, present, &[], &mut counts)?;
+    Ok(Walked {
+        rows,
+        lead_ins: counts.lead_ins,
+    })
 }
 
 /// The report of a capture that begins in the middle of a run, so as the law says, of what edits leave: the rows of `midway_report`, and

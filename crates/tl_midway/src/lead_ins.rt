@@ -60,11 +60,12 @@ fn first_sure<'a>(
 {
     let by_fields = law.by_fields();
     let mut readings = LinkReadings::new(alloc, law, number, link)?;
+    let mut passed = 0u64;
     for at in walk {
         if is_sure(&readings, chan, &at.beat) {
             return Ok(Some(at.beat.cycle));
         }
-        drop(readings.take(alloc, by_fields, link, &at.beat));
+        drop(readings.take(alloc, by_fields, link, &at.beat, &mut passed));
     }
     Ok(None)
 }

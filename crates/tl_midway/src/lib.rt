@@ -29,7 +29,7 @@ mod table;
 mod unjudged;
 mod walked;
 
-pub use counting::{CountedReport, counted_report, midway_report};
+pub use counting::{CountedReport, capture_rows, counted_report, midway_report};
 pub use counts::{Counts, RuleCount};
 pub use known::Known;
 pub use known_link::KnownLink;
@@ -43,4 +43,4 @@ pub use readings::Readings;
 pub use seen::Seen;
 pub use standing::Standing;
 pub use state::MidwayState;
-pub use walked::{midway_rows, walk_on};
+pub use walked::{Walked, midway_rows, walk_on};

@@ -4,6 +4,7 @@ ghost use Rattle.std.specs.Prelude.{◌≡◌, IfOk};
 ghost use Rattle.tl_topology.specs.Topology.{IsSound};
 ghost use Rattle.tl_beats.specs.Beats.{IsWellFormed};
 ghost use Rattle.tl_definitions.specs.Readings.{in_lead_in};
+ghost use Rattle.tl_midway.specs.LeadIns.{with_beat};
 ghost use Rattle.tl_midway.specs.LinkReadings.{IsFirst, IsKnown, Takes, channel_of};
 ghost use Rattle.tl_midway.specs.Readings.{shown_readings};
 
@@ -76,18 +77,27 @@ impl LinkReadings {
     }
 
     /// What the link's next beat is, which is this one; then makes the readings of its channel those of the beat after it.
-    pub fn take(&mut self, alloc: Global, by_fields: bool, link: &LinkDecl, beat: &Beat) -> Standing
+    /// Adds the beat to those of lead-ins if it is one; 2^64 - 1 stays.
+    pub fn take(
+        &mut self,
+        alloc: Global,
+        by_fields: bool,
+        link: &LinkDecl,
+        beat: &Beat,
+        lead_ins: &mut u64,
+    ) -> Standing
         requires link { IsSound link.now }
         requires beat { IsWellFormed beat.now }
         requires known { IsKnown self.old }
-        ensures { Takes link.now by_fields beat.now self.old result self.new }
+        ensures takes { Takes link.now by_fields beat.now self.old result self.new }
+        ensures lead_ins { lead_ins.new ≡ with_beat (in_lead_in (shown_readings (channel_of self.old beat.now.chan))) lead_ins.old }
     {
         match beat.chan {
-            Chan::A => self.a.take(alloc, by_fields, link, beat),
-            Chan::B => self.b.take(alloc, by_fields, link, beat),
-            Chan::C => self.c.take(alloc, by_fields, link, beat),
-            Chan::D => self.d.take(alloc, by_fields, link, beat),
-            Chan::E => self.e.take(alloc, by_fields, link, beat),
+            Chan::A => self.a.take(alloc, by_fields, link, beat, lead_ins),
+            Chan::B => self.b.take(alloc, by_fields, link, beat, lead_ins),
+            Chan::C => self.c.take(alloc, by_fields, link, beat, lead_ins),
+            Chan::D => self.d.take(alloc, by_fields, link, beat, lead_ins),
+            Chan::E => self.e.take(alloc, by_fields, link, beat, lead_ins),
         }
     }
 }

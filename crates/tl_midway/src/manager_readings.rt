@@ -29,6 +29,8 @@ pub struct ManagerReadings {
     by_fields: bool,
     /// One for each link of the manager, in the order of their numbers.
     links: Vec<LinkReadings>,
+    /// How many beats were in lead-ins; 2^64 - 1 where there were more.
+    lead_ins: u64,
 }
 
 /// The readings of the first beats of these links of a topology.
@@ -59,7 +61,7 @@ fn place_in(links: &[LinkReadings], link: u16) -> Option<usize>
 
 impl ManagerReadings {
     ghost use Rattle.tl_midway.specs.Standing.{IsKnown};
-    ghost use Rattle.tl_midway.specs.ManagerReadings.{StandsFor, Takes, AreKnown, LeadsIn, OnChannel, numbers_of};
+    ghost use Rattle.tl_midway.specs.ManagerReadings.{StandsFor, Takes, AreKnown, LeadsIn, CountsLeadIns, OnChannel, numbers_of};
 
     /// The readings of the first beats of a manager's links, where its capture begins so. AllocError where memory is refused.
     pub fn new(
@@ -75,6 +77,7 @@ impl ManagerReadings {
         Ok(ManagerReadings {
             by_fields: law.by_fields(),
             links: first_readings(alloc, topo, law, &numbers)?,
+            lead_ins: 0,
         })
     }
 
@@ -105,6 +108,13 @@ impl ManagerReadings {
         self.links[place].in_lead_in(at.beat.chan)
     }
 
+    /// How many beats were in lead-ins; 2^64 - 1 where there were more.
+    pub fn lead_ins(&self) -> u64
+        ensures { CountsLeadIns self.now result }
+    {
+        self.lead_ins
+    }
+
     /// What the next beat of the manager is, which is this one: the first of a message for certain, one that may be, or a later one.
     /// The readings of its channel are then those of the beat after it.
     pub fn take(&mut self, alloc: Global, link: &LinkDecl, at: &Placed) -> Standing
@@ -118,6 +128,6 @@ impl ManagerReadings {
     {
         let place = self.place(at.link).unwrap();
         let by_fields = self.by_fields;
-        self.links[place].take(alloc, by_fields, link, &at.beat)
+        self.links[place].take(alloc, by_fields, link, &at.beat, &mut self.lead_ins)
     }
 }

@@ -4,6 +4,8 @@ ghost use Rattle.std.specs.Prelude.{◌≡◌, true, false};
 ghost use Rattle.tl_topology.specs.Topology.{IsSound};
 ghost use Rattle.tl_topology.specs.declared.LinkDecl.{LinkDecl as AnyLink};
 ghost use Rattle.tl_beats.specs.Beats.{IsWellFormed};
+ghost use Rattle.tl_definitions.specs.Readings.{in_lead_in};
+ghost use Rattle.tl_midway.specs.LeadIns.{with_beat};
 ghost use Rattle.tl_midway.specs.Standing.{IsKnown, Takes};
 ghost use Rattle.tl_midway.specs.declared.standing.Standing.TheVariants as standing;
 
@@ -61,29 +63,49 @@ impl Readings {
     }
 
     /// What the channel's next beat is, which is this one; then makes these readings those of the beat after it. Where bursts are
-    /// told by their fields, those of a beat of the lead-in drop the readings that they speak against.
+    /// told by their fields, those of a beat of the lead-in drop the readings that they speak against. Adds the beat to those of lead-ins
+    /// if it is one; 2^64 - 1 stays.
     #[inline(always)]
-    pub fn take(&mut self, alloc: Global, by_fields: bool, link: &LinkDecl, beat: &Beat) -> Standing
+    pub fn take(
+        &mut self,
+        alloc: Global,
+        by_fields: bool,
+        link: &LinkDecl,
+        beat: &Beat,
+        lead_ins: &mut u64,
+    ) -> Standing
         requires link { IsSound link.now }
         requires beat { IsWellFormed beat.now }
         requires known { IsKnown self.old }
-        ensures { Takes link.now by_fields beat.now self.old result self.new }
+        ensures takes { Takes link.now by_fields beat.now self.old result self.new }
+        ensures lead_ins { lead_ins.new ≡ with_beat (in_lead_in (shown_readings self.old)) lead_ins.old }
     {
         if self.goes_on(beat) {
             self.pass_later(beat);
             return Standing::GoesOn;
         }
-        self.take_any(alloc, by_fields, link, beat)
+        self.take_any(alloc, by_fields, link, beat, lead_ins)
     }
 
     /// The same of any beat.
     #[inline(never)]
-    fn take_any(&mut self, alloc: Global, by_fields: bool, link: &LinkDecl, beat: &Beat) -> Standing
+    fn take_any(
+        &mut self,
+        alloc: Global,
+        by_fields: bool,
+        link: &LinkDecl,
+        beat: &Beat,
+        lead_ins: &mut u64,
+    ) -> Standing
         requires link { IsSound link.now }
         requires beat { IsWellFormed beat.now }
         requires known { IsKnown self.old }
-        ensures { Takes link.now by_fields beat.now self.old result self.new }
+        ensures takes { Takes link.now by_fields beat.now self.old result self.new }
+        ensures lead_ins { lead_ins.new ≡ with_beat (in_lead_in (shown_readings self.old)) lead_ins.old }
     {
+        if self.in_lead_in() {
+            *lead_ins = lead_ins.saturating_add(1);
+        }
         self.meet(by_fields, link, beat);
         let standing = self.standing(alloc, link, beat);
         self.pass(link, beat);

@@ -1,6 +1,7 @@
 //! What the beats of a manager leave for those that come, where its capture begins in the middle of a run.
 
 ghost use Rattle.std.specs.Prelude.{◌≡◌, ◌++◌, List, ◌∷◌, map, IfOk, OnOk};
+ghost use Rattle.std.specs.Io.Iter.{u64_saturate};
 ghost use Rattle.tl_topology.specs.Regions.{Area, areas_of};
 ghost use Rattle.tl_topology.specs.Topology.{IsSound};
 ghost use Rattle.tl_beats.specs.Beats.{IsWellFormed};
@@ -10,7 +11,7 @@ ghost use Rattle.tl_definitions.specs.Printed.{printed_rules};
 ghost use Rattle.tl_beats.specs.declared.Placed.{Placed as AnyPlaced};
 ghost use Rattle.tl_definitions.specs.Known.{Beginning};
 ghost use Rattle.tl_definitions.specs.Rules.{Manager};
-ghost use Rattle.tl_midway.specs.LeadIns.{leads_in};
+ghost use Rattle.tl_midway.specs.LeadIns.{leads_in, lead_ins_of};
 ghost use Rattle.tl_midway.specs.State.{StandsFor, WhereServed, IsNew, HasLink, IsKnown};
 
 use crate::known_pasts::KnownPasts;
@@ -53,6 +54,13 @@ impl MidwayState {
         ensures { (m : Manager) (start : Beginning) (before : List AnyPlaced) → StandsFor m start self.now before → result ≡ leads_in m start before at.now }
     {
         self.readings.in_lead_in(at)
+    }
+
+    /// How many beats were in lead-ins; 2^64 - 1 where there were more.
+    pub fn lead_ins(&self) -> u64
+        ensures { (m : Manager) (start : Beginning) (before : List AnyPlaced) → StandsFor m start self.now before → result ≡ u64_saturate (lead_ins_of m start before) }
+    {
+        self.readings.lead_ins()
     }
 
     /// Judges the manager's next beat: puts the rows at the end that it has whatever came before the capture, and the state then stands

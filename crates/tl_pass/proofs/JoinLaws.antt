@@ -1,6 +1,7 @@
 -- What is found of some links and what is found of others is found of all of them, where nothing that is judged together is parted.
-use Rattle.std.proofs.Common.{◌≡◌, ℕ, ◌+◌, ◌<◌, ◌≤◌, inl, inr, Bool, true, false, ◌||◌, List, [], ◌∷◌, ◌++◌, length, get_or, refl, sym, ap, subst, ◌∙◌, arith}
-use Rattle.std.specs.Prelude.{◌==◌, ◌↔◌, ◌⊎◌, filter, not, nat_lt}
+use Rattle.std.proofs.Common.{◌≡◌, ℕ, zero, suc, ◌+◌, ◌<◌, ◌≤◌, inl, inr, Bool, true, false, ◌||◌, List, [], ◌∷◌, ◌++◌, length, get_or, refl, sym, ap, subst, ◌∙◌, arith}
+use Rattle.std.specs.Prelude.{◌==◌, ◌↔◌, ◌⊎◌, Option, Some, None, filter, not, nat_lt, reverse}
+use Rattle.std.specs.Io.Iter.{u64_saturate}
 use Rattle.std.specs.List.{Contains, list_any}
 use Rattle.std.specs.List.Sorted.{IsStrictlySortedBy}
 use Rattle.std.specs.Option.{option_map_or}
@@ -19,22 +20,42 @@ use Rattle.tl_definitions.specs.Captures.{captures_from, manager_beats}
 use Rattle.tl_definitions.specs.Managers.{declared_links, manager_at}
 use Rattle.tl_definitions.specs.Positions.{Recorded, all_placed, beats_of, beats_of_all, by_range, clients_of, in_order, no_link}
 use Rattle.tl_definitions.specs.Report.{of_manager, Finds, FindsIn}
+use Rattle.tl_definitions.specs.Known.{Beginning}
+use Rattle.tl_definitions.specs.LinkPasses.{on_link}
+use Rattle.tl_definitions.specs.Printed.{printed_after}
 use Rattle.tl_definitions.specs.Rules.{Manager}
-use Rattle.tl_definitions.proofs.Lists.{contains_none, contains_here, contains_there, contains_cases, none_kept, all_by, all_of}
+use Rattle.tl_definitions.proofs.LinkLaws.{itself}
+use Rattle.tl_definitions.proofs.Lists.{contains_none, contains_here, contains_there, contains_cases, contains_kept, kept_from, none_kept, all_by, all_of}
 use Rattle.tl_definitions.proofs.OrderLaws.{then_less, below}
 use Rattle.tl_definitions.proofs.ReportLaws.{stands_in}
 use Rattle.tl_client_rules.proofs.ClientsLaws.{clients_below}
 use Rattle.tl_client_rules.proofs.DeclaredLaws.{client_is_declared}
 use Rattle.tl_capture.specs.Present.{IsCapture, IsPresent, AreNumbered, is_of, range_order}
 use Rattle.tl_capture.proofs.EntryLemmas.{all_kept}
+use Rattle.tl_capture.proofs.LawLemmas.{links_are_kept, one_link_is_its_own}
 use Rattle.tl_capture.proofs.PresentLemmas.{no_ranges}
 use Rattle.tl_check.specs.Apart.{judged_rows, rows_of_links}
 use Rattle.tl_check.specs.Captured.{areas_at, captures_with}
 use Rattle.tl_check.specs.Managers.{has_caches, cached_links, plain_links, AreMerged}
-use Rattle.tl_check.proofs.CaptureLaws.{capture_with}
+use Rattle.tl_check.proofs.CaptureLaws.{capture_with, linked_in}
 use Rattle.tl_check.proofs.PassLaws.{links_are_found}
 use Rattle.tl_check.proofs.ScratchLaws.{finds_alone}
+use Rattle.tl_midway.specs.Counts.{manager_counted, managers_counted}
+use Rattle.tl_midway.specs.LeadIns.{leads_in, lead_ins_of}
+use Rattle.tl_midway.specs.Midway.{beginning_of}
+use Rattle.tl_midway.specs.Walked.{rows_by}
+use Rattle.tl_midway.specs.declared.midway.Midway.{Midway}
+use Rattle.tl_midway.proofs.ApartLaws.{rows_own}
+use Rattle.tl_midway.proofs.LeadInsByLink.{link_lead_ins, links_lead_ins, manager_lead_ins}
+use Rattle.tl_midway.proofs.MidwayReportLaws.{printed_from}
 use Rattle.tl_pass.specs.Parts.{HasNoCaches, manager_of, IsCut, CanPart, AreFrom, HasJudged}
+use Rattle.tl_pass.specs.Reports.{IsFound, IsFoundIn, CountsLeadIns}
+
+both_sums : (a b c x y z : ℕ) → a ≡ b + c → x ≡ y + z → a + x ≡ (b + y) + (c + z)
+both_sums a b c x y z one two = omega (arith, one, two)
+
+both_sums_after : (x y z a b c : ℕ) → x ≡ y + z → a ≡ b + c → x + a ≡ (y + b) + (z + c)
+both_sums_after x y z a b c one two = omega (arith, one, two)
 
 -- A list in strict order after another, all of it above.
 strict_both : (xs ys : List Recorded) → IsStrictlySortedBy range_order xs → IsStrictlySortedBy range_order ys → ((x y : Recorded) → Contains xs x → Contains ys y → range_order x y ≡ Less)
@@ -79,7 +100,38 @@ capture_there topo fs number (m ∷ managers) row k from below h = elim (k == nu
       (known.0, contains_there (capture_with topo none fs number) (captures_from topo none fs (number + 1) managers ++ []) known.0 known.1, known.2))
 ] refl
 
+-- ---- what is found of a manager's beats
+
+-- The row is found in these beats of a manager: of a whole run, or of a capture that begins so.
+abbrev pub FoundOf : Option Midway → Manager → List Placed → Row → Type 0
+FoundOf None m beats row = Finds (of_manager m beats) row
+FoundOf (Some law) m beats row = Contains (rows_by law m beats) row
+
+abbrev FoundAt : Option Midway → Topology → List Recorded → ℕ → Row → Type 0
+FoundAt midway topo fs k row = FoundOf midway (manager_at topo k (none k)) (manager_beats topo fs k) row
+
+of_some_manager : (midway : Option Midway) (topo : Topology) (fs : List Recorded) (row : Row) → IsFound midway topo fs row → (k : ℕ) × (k < length topo.managers) × FoundAt midway topo fs k row
+of_some_manager None topo fs row is = let at = capture_from topo fs 0 topo.managers row is in (at.0, omega (arith, at.2), at.3)
+of_some_manager (Some law) topo fs row is = is
+
+of_a_manager : (midway : Option Midway) (topo : Topology) (fs : List Recorded) (row : Row) (k : ℕ) → k < length topo.managers → FoundAt midway topo fs k row → IsFound midway topo fs row
+of_a_manager None topo fs row k below h = capture_there topo fs 0 topo.managers row k (omega arith) (omega (arith, below)) h
+of_a_manager (Some law) topo fs row k below h = (k, below, h)
+
+no_row : (midway : Option Midway) (m : Manager) (beats : List Placed) (row : Row) → beats ≡ [] → FoundOf midway m beats row → ⊥
+no_row None m beats row empty h = let stands = stands_in (of_manager m beats) row h in contains_none stands.0 (subst (λ ps. Contains ps stands.0) empty stands.1)
+no_row (Some law) m beats row empty h = contains_none row (subst (λ ps. Contains (rows_by law m ps) row) empty h)
+
 -- ---- a manager of links without caches
+
+-- The same of the beats of one of its links.
+abbrev OnLink : Option Midway → Manager → List Placed → Row → Type 0
+OnLink None m beats row = Contains (judged_rows m beats) row
+OnLink (Some law) m beats row = Contains (rows_by law m beats) row
+
+no_row_on : (midway : Option Midway) (m : Manager) (beats : List Placed) (row : Row) → beats ≡ [] → OnLink midway m beats row → ⊥
+no_row_on None m beats row empty h = contains_none row (subst (λ ps. Contains (judged_rows m ps) row) empty h)
+no_row_on (Some law) m beats row empty h = contains_none row (subst (λ ps. Contains (rows_by law m ps) row) empty h)
 
 some_link : (m : Manager) (fs : List Recorded) (links : List ℕ) (row : Row) → Contains (rows_of_links m fs links) row
     → (link : ℕ) × Contains links link × Contains (judged_rows m (beats_of link fs)) row
@@ -133,13 +185,49 @@ module _ (topo : Topology) (plain : HasNoCaches topo) where
     both_ways = links_are_found topo fs is k (none k) (rows_of_links (served k) fs (plain_links topo (links k))) [] (rows_of_links (served k) fs (plain_links topo (links k)))
         refl (nothing_merged fs k) (sym (append-nil (rows_of_links (served k) fs (plain_links topo (links k))))) row
 
-    on_some : Finds (capture_with topo none fs k) row → (link : ℕ) × Contains (links k) link × Contains (judged_rows (served k) (beats_of link fs)) row
-    on_some h = some_link (served k) fs (links k) row
+    on_some_whole : Finds (capture_with topo none fs k) row → (link : ℕ) × Contains (links k) link × Contains (judged_rows (served k) (beats_of link fs)) row
+    on_some_whole h = some_link (served k) fs (links k) row
         (subst (λ ls. Contains (rows_of_links (served k) fs ls) row) (all_plain k) (both_ways.1 (capture_with topo none fs k, contains_here (capture_with topo none fs k) [], h)))
 
-    from_link : (link : ℕ) → Contains (links k) link → Contains (judged_rows (served k) (beats_of link fs)) row → Finds (capture_with topo none fs k) row
-    from_link link on h = finds_alone (capture_with topo none fs k) row
+    from_link_whole : (link : ℕ) → Contains (links k) link → Contains (judged_rows (served k) (beats_of link fs)) row → Finds (capture_with topo none fs k) row
+    from_link_whole link on h = finds_alone (capture_with topo none fs k) row
         (both_ways.0 (subst (λ ls. Contains (rows_of_links (served k) fs ls) row) (sym (all_plain k)) (each_link (served k) fs (links k) link row on h)))
+
+    abbrev beats : List Placed
+    beats = manager_beats topo fs k
+
+    own_of : (link : ℕ) → Contains (links k) link → on_link link beats ≡ beats_of link fs
+    own_of link on = links_are_kept (links k) fs link is on
+
+    on_some_middle : (law : Midway) → Contains (rows_by law (served k) beats) row → (link : ℕ) × Contains (links k) link × Contains (rows_by law (served k) (beats_of link fs)) row
+    on_some_middle law h =
+        let start : Beginning = beginning_of law (served k) in
+        let from = printed_from (served k) start [] beats row h in
+        let p : Placed = from.0 in
+        let on : Contains (links k) p.link = linked_in topo fs is (links k) p from.1 in
+        let here : row.link ≡ p.link = ap (λ (r : Row). r.link) from.2 in
+        let kept : Contains (filter (λ (r : Row). r.link == p.link) (printed_after (served k) start [] beats)) row =
+        contains_kept (λ (r : Row). r.link == p.link) (printed_after (served k) start [] beats) row h (ap (λ n. n == p.link) here ∙ itself p.link) in (
+          p.link,
+          on,
+          subst (λ ps. Contains (printed_after (served k) start [] ps) row) (own_of p.link on)
+              (subst (λ rows. Contains rows row) (rows_own (served k) start [] beats p.link (client_plain k p.link on)) kept),
+        )
+
+    from_link_middle : (law : Midway) (link : ℕ) → Contains (links k) link → Contains (rows_by law (served k) (beats_of link fs)) row → Contains (rows_by law (served k) beats) row
+    from_link_middle law link on h =
+        let start : Beginning = beginning_of law (served k) in
+        (kept_from (λ (r : Row). r.link == link) (printed_after (served k) start [] beats) row
+        (subst (λ rows. Contains rows row) (sym (rows_own (served k) start [] beats link (client_plain k link on)))
+        (subst (λ ps. Contains (printed_after (served k) start [] ps) row) (sym (own_of link on)) h))).0
+
+    on_some : (midway : Option Midway) → FoundAt midway topo fs k row → (link : ℕ) × Contains (links k) link × OnLink midway (served k) (beats_of link fs) row
+    on_some None h = on_some_whole h
+    on_some (Some law) h = on_some_middle law h
+
+    from_link : (midway : Option Midway) (link : ℕ) → Contains (links k) link → OnLink midway (served k) (beats_of link fs) row → FoundAt midway topo fs k row
+    from_link None link on h = from_link_whole link on h
+    from_link (Some law) link on h = from_link_middle law link on h
 
 -- A link of a manager's is of that manager.
 manager_is : (topo : Topology) (k link : ℕ) → Contains (clients_of k (declared_links topo)) link → manager_of topo link ≡ k
@@ -154,10 +242,10 @@ manager_is topo k link h =
 -- ---- some links, and others after them
 
 -- What is found of both is found of one of them.
-pub record Joins (topo : Topology) (fs gs : List Recorded) : Type 0 where
-  pub come : (k : ℕ) (row : Row) → Finds (capture_with topo none (fs ++ gs) k) row → Finds (capture_with topo none fs k) row ⊎ Finds (capture_with topo none gs k) row
-  pub first : (k : ℕ) (row : Row) → Finds (capture_with topo none fs k) row → Finds (capture_with topo none (fs ++ gs) k) row
-  pub second : (k : ℕ) (row : Row) → Finds (capture_with topo none gs k) row → Finds (capture_with topo none (fs ++ gs) k) row
+pub record Joins (midway : Option Midway) (topo : Topology) (fs gs : List Recorded) : Type 0 where
+  pub come : (k : ℕ) (row : Row) → FoundAt midway topo (fs ++ gs) k row → FoundAt midway topo fs k row ⊎ FoundAt midway topo gs k row
+  pub first : (k : ℕ) (row : Row) → FoundAt midway topo fs k row → FoundAt midway topo (fs ++ gs) k row
+  pub second : (k : ℕ) (row : Row) → FoundAt midway topo gs k row → FoundAt midway topo (fs ++ gs) k row
 
 module _ (link : ℕ) (fs gs : List Recorded) (below_it : (f : Recorded) → Contains fs f → f.link < link) (from_it : AreFrom link gs) where
   apart : IsPresent fs → IsPresent gs → IsPresent (fs ++ gs)
@@ -196,34 +284,34 @@ module _ (link : ℕ) (fs gs : List Recorded) (below_it : (f : Recorded) → Con
   none_first : (l : ℕ) → nat_lt l link ≡ false → beats_of l fs ≡ []
   none_first l e = ap (λ hs. all_placed (by_range hs)) (none_kept (λ (f : Recorded). f.link == l) fs (λ f h. let less : f.link < link = below_it f h in grind (arith, nat_tests)))
 
-  one_of : (m : Manager) (l : ℕ) (row : Row) → Contains (judged_rows m (beats_of l (fs ++ gs))) row
-      → Contains (judged_rows m (beats_of l fs)) row ⊎ Contains (judged_rows m (beats_of l gs)) row
-  one_of m l row h = elim (nat_lt l link) as (λ t. nat_lt l link ≡ t → Contains (judged_rows m (beats_of l fs)) row ⊎ Contains (judged_rows m (beats_of l gs)) row) [
-    | true ↦ λ e. inl (subst (λ ps. Contains (judged_rows m ps) row) (first_beats l e) h)
-    | false ↦ λ e. inr (subst (λ ps. Contains (judged_rows m ps) row) (second_beats l e) h)
-  ] refl
+  module _ (midway : Option Midway) where
+    one_of : (m : Manager) (l : ℕ) (row : Row) → OnLink midway m (beats_of l (fs ++ gs)) row → OnLink midway m (beats_of l fs) row ⊎ OnLink midway m (beats_of l gs) row
+    one_of m l row h = elim (nat_lt l link) as (λ t. nat_lt l link ≡ t → OnLink midway m (beats_of l fs) row ⊎ OnLink midway m (beats_of l gs) row) [
+      | true ↦ λ e. inl (subst (λ ps. OnLink midway m ps row) (first_beats l e) h)
+      | false ↦ λ e. inr (subst (λ ps. OnLink midway m ps row) (second_beats l e) h)
+    ] refl
 
-  of_first : (m : Manager) (l : ℕ) (row : Row) → Contains (judged_rows m (beats_of l fs)) row → Contains (judged_rows m (beats_of l (fs ++ gs))) row
-  of_first m l row h = elim (nat_lt l link) as (λ t. nat_lt l link ≡ t → Contains (judged_rows m (beats_of l (fs ++ gs))) row) [
-    | true ↦ λ e. subst (λ ps. Contains (judged_rows m ps) row) (sym (first_beats l e)) h
-    | false ↦ λ e. absurd (contains_none row (subst (λ ps. Contains (judged_rows m ps) row) (none_first l e) h))
-  ] refl
+    of_first : (m : Manager) (l : ℕ) (row : Row) → OnLink midway m (beats_of l fs) row → OnLink midway m (beats_of l (fs ++ gs)) row
+    of_first m l row h = elim (nat_lt l link) as (λ t. nat_lt l link ≡ t → OnLink midway m (beats_of l (fs ++ gs)) row) [
+      | true ↦ λ e. subst (λ ps. OnLink midway m ps row) (sym (first_beats l e)) h
+      | false ↦ λ e. absurd (no_row_on midway m (beats_of l fs) row (none_first l e) h)
+    ] refl
 
-  of_second : (m : Manager) (l : ℕ) (row : Row) → Contains (judged_rows m (beats_of l gs)) row → Contains (judged_rows m (beats_of l (fs ++ gs))) row
-  of_second m l row h = elim (nat_lt l link) as (λ t. nat_lt l link ≡ t → Contains (judged_rows m (beats_of l (fs ++ gs))) row) [
-    | true ↦ λ e. absurd (contains_none row (subst (λ ps. Contains (judged_rows m ps) row) (none_second l e) h))
-    | false ↦ λ e. subst (λ ps. Contains (judged_rows m ps) row) (sym (second_beats l e)) h
-  ] refl
+    of_second : (m : Manager) (l : ℕ) (row : Row) → OnLink midway m (beats_of l gs) row → OnLink midway m (beats_of l (fs ++ gs)) row
+    of_second m l row h = elim (nat_lt l link) as (λ t. nat_lt l link ≡ t → OnLink midway m (beats_of l (fs ++ gs)) row) [
+      | true ↦ λ e. absurd (no_row_on midway m (beats_of l gs) row (none_second l e) h)
+      | false ↦ λ e. subst (λ ps. OnLink midway m ps row) (sym (second_beats l e)) h
+    ] refl
 
-  plain_joins : (topo : Topology) → HasNoCaches topo → IsPresent fs → IsPresent gs → Joins topo fs gs
-  plain_joins topo plain one two = record {
-    come = λ k row h. (let on = on_some topo plain (fs ++ gs) (apart one two) k row h in elim (one_of (served topo plain k) on.0 row on.2) [
-      | inl a ↦ inl (from_link topo plain fs one k row on.0 on.1 a)
-      | inr b ↦ inr (from_link topo plain gs two k row on.0 on.1 b)
-    ]);
-    first = λ k row h. (let on = on_some topo plain fs one k row h in from_link topo plain (fs ++ gs) (apart one two) k row on.0 on.1 (of_first (served topo plain k) on.0 row on.2));
-    second = λ k row h. (let on = on_some topo plain gs two k row h in from_link topo plain (fs ++ gs) (apart one two) k row on.0 on.1 (of_second (served topo plain k) on.0 row on.2));
-  }
+    plain_joins : (topo : Topology) → HasNoCaches topo → IsPresent fs → IsPresent gs → Joins midway topo fs gs
+    plain_joins topo plain one two = record {
+      come = λ k row h. (let on = on_some topo plain (fs ++ gs) (apart one two) k row midway h in elim (one_of (served topo plain k) on.0 row on.2) [
+        | inl a ↦ inl (from_link topo plain fs one k row midway on.0 on.1 a)
+        | inr b ↦ inr (from_link topo plain gs two k row midway on.0 on.1 b)
+      ]);
+      first = λ k row h. (let on = on_some topo plain fs one k row midway h in from_link topo plain (fs ++ gs) (apart one two) k row midway on.0 on.1 (of_first (served topo plain k) on.0 row on.2));
+      second = λ k row h. (let on = on_some topo plain gs two k row midway h in from_link topo plain (fs ++ gs) (apart one two) k row midway on.0 on.1 (of_second (served topo plain k) on.0 row on.2));
+    }
 
   -- ---- managers whose links are on one side
 
@@ -262,12 +350,6 @@ module _ (link : ℕ) (fs gs : List Recorded) (below_it : (f : Recorded) → Con
     nothing_before : ((l : ℕ) → Contains own l → link ≤ l) → manager_beats topo fs k ≡ []
     nothing_before high = ap (λ hs. in_order (all_placed hs)) (none_kept on_own fs (λ f h. not_own f (λ c. let above : link ≤ f.link = high f.link c in let less : f.link < link = below_it f h in omega arith)))
 
-    abbrev found_of : List Placed → Row → Type 0
-    found_of beats row = Finds (of_manager (manager_at topo k (none k)) beats) row
-
-    no_row : (beats : List Placed) (row : Row) → beats ≡ [] → found_of beats row → ⊥
-    no_row beats row empty h = let stands = stands_in (of_manager (manager_at topo k (none k)) beats) row h in contains_none stands.0 (subst (λ ps. Contains ps stands.0) empty stands.1)
-
     -- Either side has all of the manager's links.
     side : IsCut topo link → ((l : ℕ) → Contains own l → l < link) ⊎ ((l : ℕ) → Contains own l → link ≤ l)
     side cut = elim (list_any (λ l. nat_lt l link) own) as (λ t. list_any (λ l. nat_lt l link) own ≡ t → ((l : ℕ) → Contains own l → l < link) ⊎ ((l : ℕ) → Contains own l → link ≤ l)) [
@@ -300,54 +382,108 @@ module _ (link : ℕ) (fs gs : List Recorded) (below_it : (f : Recorded) → Con
         managed : (l : ℕ) → Contains own l → manager_of topo l ≡ k
         managed l h = manager_is topo k l h
 
-  cut_joins : (topo : Topology) → IsCut topo link → Joins topo fs gs
-  cut_joins topo cut = record {
-    come = λ k row h. elim (side topo k cut) [
-      | inl low ↦ inl (subst (λ ps. found_of topo k ps row) (on_first topo k low) h)
-      | inr high ↦ inr (subst (λ ps. found_of topo k ps row) (on_second topo k high) h)
-    ];
-    first = λ k row h. elim (side topo k cut) [
-      | inl low ↦ subst (λ ps. found_of topo k ps row) (sym (on_first topo k low)) h
-      | inr high ↦ absurd (no_row topo k (manager_beats topo fs k) row (nothing_before topo k high) h)
-    ];
-    second = λ k row h. elim (side topo k cut) [
-      | inl low ↦ absurd (no_row topo k (manager_beats topo gs k) row (nothing_after topo k low) h)
-      | inr high ↦ subst (λ ps. found_of topo k ps row) (sym (on_second topo k high)) h
-    ];
-  }
+  module _ (midway : Option Midway) (topo : Topology) where
+    abbrev serves : ℕ → Manager
+    serves k = manager_at topo k (none k)
 
-  joins : (topo : Topology) → CanPart topo link → IsPresent fs → IsPresent gs → Joins topo fs gs
-  joins topo can one two = elim can [ inl plain ↦ plain_joins topo plain one two | inr cut ↦ cut_joins topo cut ]
+    cut_joins : IsCut topo link → Joins midway topo fs gs
+    cut_joins cut = record {
+      come = λ k row h. elim (side topo k cut) [
+        | inl low ↦ inl (subst (λ ps. FoundOf midway (serves k) ps row) (on_first topo k low) h)
+        | inr high ↦ inr (subst (λ ps. FoundOf midway (serves k) ps row) (on_second topo k high) h)
+      ];
+      first = λ k row h. elim (side topo k cut) [
+        | inl low ↦ subst (λ ps. FoundOf midway (serves k) ps row) (sym (on_first topo k low)) h
+        | inr high ↦ absurd (no_row midway (serves k) (manager_beats topo fs k) row (nothing_before topo k high) h)
+      ];
+      second = λ k row h. elim (side topo k cut) [
+        | inl low ↦ absurd (no_row midway (serves k) (manager_beats topo gs k) row (nothing_after topo k low) h)
+        | inr high ↦ subst (λ ps. FoundOf midway (serves k) ps row) (sym (on_second topo k high)) h
+      ];
+    }
+
+    joins : CanPart topo link → IsPresent fs → IsPresent gs → Joins midway topo fs gs
+    joins can one two = elim can [ inl plain ↦ plain_joins midway topo plain one two | inr cut ↦ cut_joins cut ]
+
+  -- ---- beats of lead-ins
+
+  module _ (law : Midway) (topo : Topology) (one : IsPresent fs) (two : IsPresent gs) where
+    own_lead_ins : (m : Manager) (start : Beginning) (l : ℕ) → link_lead_ins m start (fs ++ gs) l ≡ link_lead_ins m start fs l + link_lead_ins m start gs l
+    own_lead_ins m start l = elim (nat_lt l link) as (λ t. nat_lt l link ≡ t → link_lead_ins m start (fs ++ gs) l ≡ link_lead_ins m start fs l + link_lead_ins m start gs l) [
+      | true ↦ λ e. first_only (link_lead_ins m start (fs ++ gs) l) (link_lead_ins m start fs l) (link_lead_ins m start gs l)
+          (counted_on (one_link_is_its_own l (fs ++ gs) (apart one two) ∙ first_beats l e ∙ sym (one_link_is_its_own l fs one))) (counted_on (one_link_is_its_own l gs two ∙ none_second l e))
+      | false ↦ λ e. second_only (link_lead_ins m start (fs ++ gs) l) (link_lead_ins m start fs l) (link_lead_ins m start gs l)
+          (counted_on (one_link_is_its_own l (fs ++ gs) (apart one two) ∙ second_beats l e ∙ sym (one_link_is_its_own l gs two))) (counted_on (one_link_is_its_own l fs one ∙ none_first l e))
+    ] refl
+      where
+        counted_on : {xs ys : List Placed} → xs ≡ ys → lead_ins_of m start (reverse xs) ≡ lead_ins_of m start (reverse ys)
+        counted_on same = ap (λ ps. lead_ins_of m start (reverse ps)) same
+
+        first_only : (a b c : ℕ) → a ≡ b → c ≡ 0 → a ≡ b + c
+        first_only a b c same none = omega (arith, same, none)
+
+        second_only : (a b c : ℕ) → a ≡ c → b ≡ 0 → a ≡ b + c
+        second_only a b c same none = omega (arith, same, none)
+
+    of_links : (m : Manager) (start : Beginning) (ls : List ℕ) → links_lead_ins m start (fs ++ gs) ls ≡ links_lead_ins m start fs ls + links_lead_ins m start gs ls
+    of_links m start [] = refl
+    of_links m start (l ∷ ls) =
+        both_sums (link_lead_ins m start (fs ++ gs) l) (link_lead_ins m start fs l) (link_lead_ins m start gs l) (links_lead_ins m start (fs ++ gs) ls) (links_lead_ins m start fs ls) (links_lead_ins m start gs ls)
+        (own_lead_ins m start l) (of_links m start ls)
+
+    of_managers : (n : ℕ) → managers_counted leads_in law topo none (fs ++ gs) n ≡ managers_counted leads_in law topo none fs n + managers_counted leads_in law topo none gs n
+    of_managers zero = refl
+    of_managers (suc n) =
+        let m : Manager = manager_at topo n (none n) in
+        let start : Beginning = beginning_of law m in
+        let ls : List ℕ = clients_of n (declared_links topo) in
+        both_sums_after (managers_counted leads_in law topo none (fs ++ gs) n) (managers_counted leads_in law topo none fs n) (managers_counted leads_in law topo none gs n)
+        (manager_counted leads_in law topo none (fs ++ gs) n) (manager_counted leads_in law topo none fs n) (manager_counted leads_in law topo none gs n) (of_managers n)
+        (manager_lead_ins topo (none n) (fs ++ gs) n law (apart one two) ∙ of_links m start ls
+        ∙ λ i. sym (manager_lead_ins topo (none n) fs n law one) i + sym (manager_lead_ins topo (none n) gs n law two) i)
+
+  lead_ins_of_both : (midway : Option Midway) (topo : Topology) (a b c : ℕ) → IsPresent fs → IsPresent gs → CountsLeadIns midway topo fs a → CountsLeadIns midway topo gs b → c ≡ u64_saturate (a + b)
+      → CountsLeadIns midway topo (fs ++ gs) c
+  lead_ins_of_both None topo a b c one two first second is = tt
+  lead_ins_of_both (Some law) topo a b c one two first second is =
+      is ∙ saturated a b (managers_counted leads_in law topo none fs (length topo.managers)) (managers_counted leads_in law topo none gs (length topo.managers)) first second
+      ∙ ap u64_saturate (sym (of_managers law topo one two (length topo.managers)))
+    where
+      saturated : (a b n k : ℕ) → a ≡ u64_saturate n → b ≡ u64_saturate k → u64_saturate (a + b) ≡ u64_saturate (n + k)
+      saturated a b n k first second = omega (arith, first, second)
 
 -- ---- both
 
-module _ (topo : Topology) (link next : ℕ) (fs gs : List Recorded) (rows more : List Row) (can : CanPart topo link) (had : HasJudged topo link fs rows) (two : IsPresent gs) (from_it : AreFrom link gs)
-    (short : (g : Recorded) → Contains gs g → g.link < next) (less : link ≤ next) (found : (row : Row) → Contains more row ↔ FindsIn (captures_with topo gs [] []) row) where
-  both : Joins topo fs gs
-  both = joins link fs gs had.below from_it topo can had.present two
+module _ (midway : Option Midway) (topo : Topology) (link next : ℕ) (fs gs : List Recorded) (rows more : List Row) (a b : ℕ) (can : CanPart topo link) (had : HasJudged midway topo link fs rows a)
+    (two : IsPresent gs) (from_it : AreFrom link gs) (short : (g : Recorded) → Contains gs g → g.link < next) (less : link ≤ next) (found : IsFoundIn midway topo gs more b) where
+  both : Joins midway topo fs gs
+  both = joins link fs gs had.below from_it midway topo can had.present two
 
-  come_from : (row : Row) → FindsIn (captures_with topo (fs ++ gs) [] []) row → Contains (rows ++ more) row
+  come_from : (row : Row) → IsFound midway topo (fs ++ gs) row → Contains (rows ++ more) row
   come_from row is =
-      let at = capture_from topo (fs ++ gs) 0 topo.managers row is in
-      elim (both.come at.0 row at.3) [
-        | inl a ↦ Contains-append_left rows more row ((had.found row).1 (capture_there topo fs 0 topo.managers row at.0 at.1 at.2 a))
-        | inr b ↦ Contains-append_right rows more row ((found row).1 (capture_there topo gs 0 topo.managers row at.0 at.1 at.2 b))
+      let at = of_some_manager midway topo (fs ++ gs) row is in
+      elim (both.come at.0 row at.2) [
+        | inl h ↦ Contains-append_left rows more row ((had.found.members row).1 (of_a_manager midway topo fs row at.0 at.1 h))
+        | inr h ↦ Contains-append_right rows more row ((found.members row).1 (of_a_manager midway topo gs row at.0 at.1 h))
       ]
 
-  go_to : (row : Row) → Contains (rows ++ more) row → FindsIn (captures_with topo (fs ++ gs) [] []) row
+  go_to : (row : Row) → Contains (rows ++ more) row → IsFound midway topo (fs ++ gs) row
   go_to row h = elim (Contains-append_cases rows more row h) [
-    | inl a ↦ (let at = capture_from topo fs 0 topo.managers row ((had.found row).0 a) in capture_there topo (fs ++ gs) 0 topo.managers row at.0 at.1 at.2 (both.first at.0 row at.3))
-    | inr b ↦ (let at = capture_from topo gs 0 topo.managers row ((found row).0 b) in capture_there topo (fs ++ gs) 0 topo.managers row at.0 at.1 at.2 (both.second at.0 row at.3))
+    | inl k ↦ (let at = of_some_manager midway topo fs row ((had.found.members row).0 k) in of_a_manager midway topo (fs ++ gs) row at.0 at.1 (both.first at.0 row at.2))
+    | inr k ↦ (let at = of_some_manager midway topo gs row ((found.members row).0 k) in of_a_manager midway topo (fs ++ gs) row at.0 at.1 (both.second at.0 row at.2))
   ]
 
-  pub judged_both : HasJudged topo next (fs ++ gs) (rows ++ more)
-  judged_both = record {
+  pub judged_both : (count : ℕ) → count ≡ u64_saturate (a + b) → HasJudged midway topo next (fs ++ gs) (rows ++ more) count
+  judged_both count is = record {
     present = apart link fs gs had.below from_it had.present two;
     below = λ f h. elim (Contains-append_cases fs gs f h) [
-      | inl a ↦ (let lower : f.link < link = had.below f a in omega (arith, less, lower))
-      | inr b ↦ short f b
+      | inl k ↦ (let lower : f.link < link = had.below f k in omega (arith, less, lower))
+      | inr k ↦ short f k
     ];
-    found = λ row. (go_to row, come_from row);
+    found = record {
+      members = λ row. (go_to row, come_from row);
+      counted = lead_ins_of_both link fs gs had.below from_it midway topo a b count had.present two had.found.counted found.counted is;
+    };
   }
 
 -- ---- nothing
@@ -358,15 +494,28 @@ nothing = record { each = no_ranges.each; apart = no_ranges.apart; numbers = tt 
 no_beat : (topo : Topology) (k : ℕ) → manager_beats topo [] k ≡ []
 no_beat topo k = refl
 
-pub none_found : (topo : Topology) (row : Row) → FindsIn (captures_with topo [] [] []) row → ⊥
-none_found topo row is =
-    let at = capture_from topo [] 0 topo.managers row is in
-    let stands = stands_in (capture_with topo none [] at.0) row at.3 in
-    contains_none stands.0 (subst (λ ps. Contains ps stands.0) (no_beat topo at.0) stands.1)
+none_found : (midway : Option Midway) (topo : Topology) (row : Row) → IsFound midway topo [] row → ⊥
+none_found midway topo row is =
+    let at = of_some_manager midway topo [] row is in
+    no_row midway (manager_at topo at.0 (none at.0)) (manager_beats topo [] at.0) row (no_beat topo at.0) at.2
 
-pub none_judged : (topo : Topology) (next : ℕ) → HasJudged topo next [] []
-none_judged topo next = record {
+none_counted : (law : Midway) (topo : Topology) (n : ℕ) → managers_counted leads_in law topo none [] n ≡ 0
+none_counted law topo zero = refl
+none_counted law topo (suc n) = nothing_more (managers_counted leads_in law topo none [] n) (none_counted law topo n)
+  where
+    nothing_more : (k : ℕ) → k ≡ 0 → k + 0 ≡ 0
+    nothing_more k is = omega (arith, is)
+
+no_lead_ins : (midway : Option Midway) (topo : Topology) → CountsLeadIns midway topo [] 0
+no_lead_ins None topo = tt
+no_lead_ins (Some law) topo = ap u64_saturate (sym (none_counted law topo (length topo.managers)))
+
+pub none_judged : (midway : Option Midway) (topo : Topology) (next : ℕ) → HasJudged midway topo next [] [] 0
+none_judged midway topo next = record {
   present = nothing;
   below = λ f h. absurd (contains_none f h);
-  found = λ row. ((λ h. absurd (contains_none row h)), (λ is. absurd (none_found topo row is)));
+  found = record {
+    members = λ row. ((λ h. absurd (contains_none row h)), (λ is. absurd (none_found midway topo row is)));
+    counted = no_lead_ins midway topo;
+  };
 }

@@ -1,5 +1,6 @@
 pub mod BesideLaws
 pub mod JoinLaws
 pub mod LinkPassLaws
+pub mod LinkPassOwn
 pub mod ManagerPassLaws
 pub mod StandingLaws

@@ -1,5 +1,5 @@
 -- What one fragment more tells, and what all of them tell.
-use Rattle.std.proofs.Common.{◌≡◌, ℕ, zero, suc, ◌<◌, inl, inr, true, false, List, [], ◌++◌, length, get_or, Option, None, refl, sym, subst, ◌∙◌, arith}
+use Rattle.std.proofs.Common.{◌≡◌, ℕ, zero, suc, ◌<◌, inl, inr, true, false, List, [], ◌++◌, length, get_or, Option, Some, None, refl, sym, subst, ◌∙◌, arith}
 use Rattle.std.specs.Prelude.{◌==◌, ◌↔◌}
 use Rattle.std.specs.List.{Contains}
 use Rattle.std.specs.List.Sorted.{IsStrictlySortedBy}
@@ -13,17 +13,18 @@ use Rattle.tl_definitions.specs.Managers.{declared_links}
 use Rattle.tl_definitions.specs.Positions.{Recorded}
 use Rattle.tl_definitions.specs.Report.{IsReport, row_order}
 use Rattle.tl_definitions.proofs.Lists.{contains_none}
-use Rattle.tl_capture.specs.Present.{recorded, put_in}
+use Rattle.tl_capture.specs.Present.{recorded, put_in, IsPresent}
 use Rattle.tl_check.specs.Captured.{areas_at, captures_with}
 use Rattle.tl_check.proofs.CaptureLaws.{row_linked}
 use Rattle.tl_midway.specs.declared.midway.Midway.{Midway}
-use Rattle.tl_stream.specs.Laws.{IsTold}
+use Rattle.tl_stream.specs.Laws.{IsToldBy}
 use Rattle.tl_stream.specs.Streams.{StreamData, Accepts, IsOn, areas_in, told_by}
 use Rattle.tl_stream.specs.Told.{told, untold, untold_of}
-use Rattle.tl_stream.proofs.LawLemmas.{streams_tell_the_report}
+use Rattle.tl_stream.proofs.LawLemmas.{streams_tell_the_report, streams_tell_what_is_printed}
 use Rattle.tl_stream.proofs.StreamLemmas.{one_manager}
 use Rattle.tl_pass.specs.ManagerPass.{IsToldBySome, HasTold}
 use Rattle.tl_pass.specs.Reports.{AreReportOf}
+use Rattle.tl_pass.proofs.LinkPassLaws.{sorted_report}
 
 -- ---- one fragment more
 
@@ -80,7 +81,6 @@ module _ (fs : List Recorded) (old : StreamData) (f : Frag) (new : StreamData) (
   pub told_more : HasTold come new (rows ++ more)
   told_more = record {
     accepted = is.accepted;
-    whole = is.midway ∙ had.whole;
     bare = is.regions ∙ had.bare;
     members = λ row. (
       (λ h. elim (Contains-append_cases rows more row h) [ inl before ↦ stays_told row ((had.members row).0 before) | inr now ↦ newly_told row now ]),
@@ -108,40 +108,45 @@ untold_has midway topo regions fs (suc count) row manager lt h = elim (manager =
       Contains-append_left (untold_of midway topo regions fs count) (untold topo regions fs count midway) row (untold_has midway topo regions fs count row manager less h))
 ] refl
 
-module _ (fs : List Recorded) (s : StreamData) (rows rest sorted : List Row) (had : HasTold fs s rows) (ends : rest ≡ untold_of s.midway s.topo (areas_in s) fs (length s.topo.managers))
-    (rises : IsStrictlySortedBy row_order sorted) (members : (row : Row) → Contains sorted row ↔ Contains (rows ++ rest) row) where
-  all_told : (row : Row) → Contains (rows ++ rest) row → IsTold s.topo (areas_in s) fs row
+module _ (midway : Option Midway) (fs : List Recorded) (s : StreamData) (rows rest : List Row) (begins : s.midway ≡ midway) (had : HasTold fs s rows)
+    (ends : rest ≡ untold_of s.midway s.topo (areas_in s) fs (length s.topo.managers)) where
+  all_told : (row : Row) → Contains (rows ++ rest) row → IsToldBy midway s.topo (areas_in s) fs row
   all_told row h = elim (Contains-append_cases rows rest row h) [
     | inl before ↦ (let known = (had.members row).0 before in (
       known.0,
       known.1,
-      Contains-append_left (told s.topo (areas_in s) fs known.0 None) (untold s.topo (areas_in s) fs known.0 None) row
-          (subst (λ w. Contains (told s.topo (areas_in s) fs known.0 w) row) had.whole known.2),
+      Contains-append_left (told s.topo (areas_in s) fs known.0 midway) (untold s.topo (areas_in s) fs known.0 midway) row
+          (subst (λ w. Contains (told s.topo (areas_in s) fs known.0 w) row) begins known.2),
     ))
     | inr after ↦ (let known = untold_from s.midway s.topo (areas_in s) fs (length s.topo.managers) row (subst (λ rs. Contains rs row) ends after) in (
       known.0,
       known.1,
-      Contains-append_right (told s.topo (areas_in s) fs known.0 None) (untold s.topo (areas_in s) fs known.0 None) row
-          (subst (λ w. Contains (untold s.topo (areas_in s) fs known.0 w) row) had.whole known.2),
+      Contains-append_right (told s.topo (areas_in s) fs known.0 midway) (untold s.topo (areas_in s) fs known.0 midway) row
+          (subst (λ w. Contains (untold s.topo (areas_in s) fs known.0 w) row) begins known.2),
     ))
   ]
 
-  told_all : (row : Row) → IsTold s.topo (areas_in s) fs row → Contains (rows ++ rest) row
-  told_all row known = elim (Contains-append_cases (told s.topo (areas_in s) fs known.0 None) (untold s.topo (areas_in s) fs known.0 None) row known.2) [
-    | inl before ↦ Contains-append_left rows rest row ((had.members row).1 (known.0, known.1, subst (λ w. Contains (told s.topo (areas_in s) fs known.0 w) row) (sym had.whole) before))
+  told_all : (row : Row) → IsToldBy midway s.topo (areas_in s) fs row → Contains (rows ++ rest) row
+  told_all row known = elim (Contains-append_cases (told s.topo (areas_in s) fs known.0 midway) (untold s.topo (areas_in s) fs known.0 midway) row known.2) [
+    | inl before ↦ Contains-append_left rows rest row ((had.members row).1 (known.0, known.1, subst (λ w. Contains (told s.topo (areas_in s) fs known.0 w) row) (sym begins) before))
     | inr after ↦ Contains-append_right rows rest row (subst (λ rs. Contains rs row) (sym ends)
-        (untold_has s.midway s.topo (areas_in s) fs (length s.topo.managers) row known.0 known.1 (subst (λ w. Contains (untold s.topo (areas_in s) fs known.0 w) row) (sym had.whole) after)))
+        (untold_has s.midway s.topo (areas_in s) fs (length s.topo.managers) row known.0 known.1 (subst (λ w. Contains (untold s.topo (areas_in s) fs known.0 w) row) (sym begins) after)))
   ]
 
-  report : IsReport (captures_with s.topo fs [] []) sorted
-  report =
-      subst (λ rs. IsReport (captures_with s.topo fs rs []) sorted) had.bare
-      (streams_tell_the_report s.topo s.regions fs sorted had.accepted.present rises
-      (λ row. ((λ h. all_told row ((members row).0 h)), (λ h. (members row).1 (told_all row h)))))
+  pub exactly_told : (row : Row) → Contains (rows ++ rest) row ↔ IsToldBy midway s.topo (areas_in s) fs row
+  exactly_told row = (all_told row, told_all row)
 
-  pub are_report : AreReportOf s.topo fs sorted
-  are_report = record {
-    present = had.accepted.present;
-    report = report;
-    links = λ k d below. row_linked s.topo fs had.accepted.present [] [] (get_or sorted k d) ((report.members (get_or sorted k d)).0 (Contains-get_or sorted k d below));
-  }
+-- What was told, in the order of reports, is the report.
+pub are_report : (midway : Option Midway) (topo : Topology) (fs : List Recorded) (told sorted : List Row) → IsPresent fs → ((row : Row) → Contains told row ↔ IsToldBy midway topo (areas_at []) fs row)
+    → IsStrictlySortedBy row_order sorted → ((row : Row) → Contains sorted row ↔ Contains told row) → AreReportOf midway topo fs sorted
+are_report None topo fs told sorted is are rises same =
+    let report : IsReport (captures_with topo fs [] []) sorted =
+    streams_tell_the_report topo [] fs sorted is rises (λ row. ((λ h. (are row).0 ((same row).0 h)), (λ h. (same row).1 ((are row).1 h)))) in
+    record {
+      present = is;
+      report = report;
+      links = λ k d below. row_linked topo fs is [] [] (get_or sorted k d) ((report.members (get_or sorted k d)).0 (Contains-get_or sorted k d below));
+    }
+are_report (Some law) topo fs told sorted is are rises same =
+    let printed = λ (row : Row). streams_tell_what_is_printed law topo (areas_at []) fs row is in
+    sorted_report (Some law) topo fs told sorted is (λ row. ((λ h. (printed row).0 ((are row).0 h)), (λ h. (are row).1 ((printed row).1 h)))) rises same

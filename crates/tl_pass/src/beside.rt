@@ -1,6 +1,6 @@
 //! Links whose fragments several threads take beside each other.
 
-ghost use Rattle.std.specs.Prelude.{◌≡◌, ◌<◌, ◌++◌, ℕ, List, [], length, IfOk, OnOk};
+ghost use Rattle.std.specs.Prelude.{◌≡◌, ◌<◌, ◌++◌, ℕ, List, [], None, length, IfOk, OnOk};
 ghost use Rattle.std.specs.Arc.{arc_value};
 ghost use Rattle.std.specs.List.{flat_map};
 ghost use Rattle.tl_topology.specs.Topology.{Topology};
@@ -10,7 +10,7 @@ ghost use Rattle.tl_apart.specs.FeedData.{FeedData};
 ghost use Rattle.tl_pass.specs.Beside.{AreFilled, Filled, IsBeside, IsRound};
 ghost use Rattle.tl_pass.specs.Reports.{with_next, IsTaken};
 
-use crate::pass::Hitch;
+use crate::pass::{Found, Hitch};
 use crate::supply::{Supply, Taken};
 use std::alloc::{AllocError, Global};
 use std::sync::Arc;
@@ -166,7 +166,7 @@ impl Beside {
 
     /// The report of the fragments that came. A hitch where memory is refused.
     pub fn report(self) -> Result<Taken, Hitch>
-        ensures { (topo : Topology) (fs : List Frag) → IsBeside topo fs self → IfOk result (IsTaken topo fs) }
+        ensures { (topo : Topology) (fs : List Frag) → IsBeside topo fs self → IfOk result (IsTaken None topo fs) }
     {
         let Some(fragments) = self.apart.count() else {
             return Err(Hitch::Memory);
@@ -174,7 +174,10 @@ impl Beside {
         let rows = self.apart.rows()?;
         Ok(Taken {
             fragments,
-            rows: sort_rows(rows),
+            found: Found {
+                rows: sort_rows(rows),
+                lead_ins: 0,
+            },
         })
     }
 }

@@ -13,5 +13,5 @@ pub use beside::{Beside, Lanes, feed_all};
 pub use link_pass::{LinkPass, has_no_caches};
 pub use manager_pass::ManagerPass;
 pub use part::{Links, Part, Whole, can_part};
-pub use pass::{Hitch, Pass};
+pub use pass::{Found, Hitch, Pass};
 pub use supply::{Supply, Taken, report_of};

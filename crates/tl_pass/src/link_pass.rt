@@ -1,18 +1,21 @@
 //! Links without caches, one after the other: what is judged of one is forgotten when the next begins.
 
-ghost use Rattle.std.specs.Prelude.{◌≡◌, ◌<◌, ℕ, true, List, [], IfSome, OnOk};
+ghost use Rattle.std.specs.Prelude.{◌≡◌, ◌<◌, ℕ, true, List, [], Option, IfOk, IfSome, OnOk};
 ghost use Rattle.std.specs.Arc.{arc_value};
+ghost use Rattle.tl_topology.specs.Topology.{Topology};
 ghost use Rattle.tl_definitions.specs.Positions.{Recorded};
 ghost use Rattle.tl_capture.specs.Present.{recorded, put_in};
-ghost use Rattle.tl_pass.specs.LinkPass.{HasPassed};
+ghost use Rattle.tl_midway.specs.declared.midway.Midway.{Midway as AnyMidway};
+ghost use Rattle.tl_pass.specs.LinkPass.{HasCome, IsOwn};
 ghost use Rattle.tl_pass.specs.Parts.{HasNoCaches};
 
-use crate::pass::{Hitch, Pass};
+use crate::pass::{Found, Hitch, Pass};
 use std::alloc::{AllocError, Global};
 use std::sync::Arc;
 use tl_beats::{Fragment, Row};
 use tl_capture::Present;
 use tl_check::{check_all, has_caches, sort_rows};
+use tl_midway::{Midway, capture_rows};
 use tl_topology::Topo;
 
 /// Whether no link of a topology has caches.
@@ -27,42 +30,64 @@ pub fn has_no_caches(topo: &Topo) -> bool
     true
 }
 
-/// The rows of the links that came, and the fragments of the newest. Links come with rising numbers, and the fragments of one in any order.
+/// What is found of the links that came, and the fragments of the newest. Links come with rising numbers, and the fragments of one in any
+/// order.
 #[derive(Drop)]
 pub struct LinkPass {
     topo: Arc<Topo>,
+    midway: Option<Midway>,
     link: u16,
     present: Present,
     rows: Vec<Row>,
+    lead_ins: u64,
 }
 
 impl LinkPass {
-    /// No fragment of a topology came; None where a link has caches.
-    pub fn new(alloc: Global, topo: Arc<Topo>) -> Option<LinkPass>
-        ensures none { IfSome result (λ pass. HasPassed (arc_value topo) pass.link pass.present pass.rows.items []) }
-        ensures topo { IfSome result (λ pass. arc_value pass.topo ≡ arc_value topo) }
+    /// No fragment of a topology came, of a whole run or of a capture that begins so; None where a link has caches.
+    pub fn new(alloc: Global, topo: Arc<Topo>, midway: Option<Midway>) -> Option<LinkPass>
+        ensures { IfSome result (HasCome midway (arc_value topo) []) }
     {
         if !has_no_caches(&topo) {
             return None;
         }
         Some(LinkPass {
             topo,
+            midway,
             link: 0,
             present: Present::new(alloc),
             rows: Vec::new(alloc),
+            lead_ins: 0,
         })
+    }
+
+    /// What is found in the fragments of the link that came last, the rows in any order. AllocError where memory is refused.
+    fn found(&self, alloc: Global) -> Result<Found, AllocError>
+        ensures { IfOk result (IsOwn self.now) }
+    {
+        match self.midway {
+            None => Ok(Found {
+                rows: check_all(alloc, &self.topo, &self.present, &[], &[])?,
+                lead_ins: 0,
+            }),
+            Some(law) => {
+                let found = capture_rows(alloc, &self.topo, &self.present, law)?;
+                Ok(Found {
+                    rows: found.rows,
+                    lead_ins: found.lead_ins,
+                })
+            }
+        }
     }
 
     /// Judges the link that came last, and begins with another. AllocError where memory is refused.
     fn begin(&mut self, alloc: Global, link: u16) -> Result<(), AllocError>
         requires { self.old.link < link }
-        ensures passed { (fs : List Recorded) → HasPassed (arc_value self.old.topo) self.old.link self.old.present self.old.rows.items fs
-            → OnOk result (HasPassed (arc_value self.new.topo) self.new.link self.new.present self.new.rows.items fs) }
+        ensures come { (midway : Option AnyMidway) (topo : Topology) (fs : List Recorded) → HasCome midway topo fs self.old → OnOk result (HasCome midway topo fs self.new) }
         ensures link { OnOk result (self.new.link ≡ link) }
-        ensures topo { arc_value self.new.topo ≡ arc_value self.old.topo }
     {
-        let found = check_all(alloc, &self.topo, &self.present, &[], &[])?;
-        self.rows.extend_from_slice(&found)?;
+        let found = self.found(alloc)?;
+        self.rows.extend_from_slice(&found.rows)?;
+        self.lead_ins = self.lead_ins.saturating_add(found.lead_ins);
         self.present = Present::new(alloc);
         self.link = link;
         Ok(())
@@ -70,10 +95,8 @@ impl LinkPass {
 
     /// Begins with a link, if it isn't the one that comes now. A hitch where it was before that.
     fn go_to(&mut self, alloc: Global, link: u16) -> Result<(), Hitch>
-        ensures passed { (fs : List Recorded) → HasPassed (arc_value self.old.topo) self.old.link self.old.present self.old.rows.items fs
-            → OnOk result (HasPassed (arc_value self.new.topo) self.new.link self.new.present self.new.rows.items fs) }
+        ensures come { (midway : Option AnyMidway) (topo : Topology) (fs : List Recorded) → HasCome midway topo fs self.old → OnOk result (HasCome midway topo fs self.new) }
         ensures link { OnOk result (self.new.link ≡ link) }
-        ensures topo { arc_value self.new.topo ≡ arc_value self.old.topo }
     {
         if link < self.link {
             return Err(Hitch::Fault);
@@ -86,9 +109,8 @@ impl LinkPass {
 
     /// Puts a fragment of the link that comes now to the others. A hitch where they have its number or share a cycle with it.
     fn put(&mut self, fragment: Arc<Fragment>) -> Result<(), Hitch>
-        ensures passed { (fs : List Recorded) → HasPassed (arc_value self.old.topo) self.old.link self.old.present self.old.rows.items fs
-            → OnOk result (HasPassed (arc_value self.new.topo) self.new.link self.new.present self.new.rows.items (put_in (recorded self.old.link (arc_value fragment)) fs)) }
-        ensures topo { arc_value self.new.topo ≡ arc_value self.old.topo }
+        ensures { (midway : Option AnyMidway) (topo : Topology) (fs : List Recorded) → HasCome midway topo fs self.old
+            → OnOk result (HasCome midway topo (put_in (recorded self.old.link (arc_value fragment)) fs) self.new) }
     {
         let is_there = self.present.get(self.link, fragment.number()).is_some();
         if is_there || self.present.overlapped(self.link, &fragment).is_some() {
@@ -102,7 +124,7 @@ impl LinkPass {
 }
 
 impl Pass for LinkPass {
-    ghost has_come = { λ topo fs pass. (arc_value pass.topo ≡ topo) × HasPassed topo pass.link pass.present pass.rows.items fs };
+    ghost has_come = { HasCome };
 
     fn accept(&mut self, alloc: Global, fragment: Arc<Fragment>) -> Result<(), Hitch> {
         let Some(link) = self.topo.link_of(&fragment.link()) else {
@@ -113,10 +135,13 @@ impl Pass for LinkPass {
         Ok(())
     }
 
-    fn report(self, alloc: Global) -> Result<Vec<Row>, AllocError> {
-        let found = check_all(alloc, &self.topo, &self.present, &[], &[])?;
+    fn report(self, alloc: Global) -> Result<Found, AllocError> {
+        let found = self.found(alloc)?;
         let mut rows = self.rows;
-        rows.extend_from_slice(&found)?;
-        Ok(sort_rows(rows))
+        rows.extend_from_slice(&found.rows)?;
+        Ok(Found {
+            rows: sort_rows(rows),
+            lead_ins: self.lead_ins.saturating_add(found.lead_ins),
+        })
     }
 }

@@ -4,11 +4,12 @@ ghost use Rattle.std.specs.Prelude.{◌≡◌, [], IfOk};
 ghost use Rattle.std.specs.Arc.{arc_value};
 ghost use Rattle.tl_pass.specs.ManagerPass.{HasTold};
 
-use crate::pass::{Hitch, Pass};
+use crate::pass::{Found, Hitch, Pass};
 use std::alloc::{AllocError, Global};
 use std::sync::Arc;
 use tl_beats::{Fragment, Row};
 use tl_check::{has_caches, sort_rows};
+use tl_midway::Midway;
 use tl_stream::Stream;
 use tl_topology::Topo;
 
@@ -31,20 +32,25 @@ pub struct ManagerPass {
 }
 
 impl ManagerPass {
-    /// No fragment of a topology came. AllocError where memory is refused.
-    pub fn new(alloc: Global, topo: Arc<Topo>) -> Result<ManagerPass, AllocError>
+    /// No fragment of a topology came, of a whole run or of a capture that begins so. AllocError where memory is refused.
+    pub fn new(
+        alloc: Global,
+        topo: Arc<Topo>,
+        midway: Option<Midway>,
+    ) -> Result<ManagerPass, AllocError>
         ensures none { IfOk result (λ pass. HasTold [] pass.stream pass.rows.items) }
         ensures topo { IfOk result (λ pass. pass.stream.topo ≡ arc_value topo) }
+        ensures midway { IfOk result (λ pass. pass.stream.midway ≡ midway) }
     {
         Ok(ManagerPass {
-            stream: Stream::new(alloc, topo, Vec::new(alloc), None)?,
+            stream: Stream::new(alloc, topo, Vec::new(alloc), midway)?,
             rows: Vec::new(alloc),
         })
     }
 }
 
 impl Pass for ManagerPass {
-    ghost has_come = { λ topo fs pass. (pass.stream.topo ≡ topo) × HasTold fs pass.stream pass.rows.items };
+    ghost has_come = { λ midway topo fs pass. (pass.stream.midway ≡ midway) × (pass.stream.topo ≡ topo) × HasTold fs pass.stream pass.rows.items };
 
     fn accept(&mut self, alloc: Global, fragment: Arc<Fragment>) -> Result<(), Hitch> {
         let topo = self.stream.topo();
@@ -58,10 +64,13 @@ impl Pass for ManagerPass {
         Ok(())
     }
 
-    fn report(self, alloc: Global) -> Result<Vec<Row>, AllocError> {
+    fn report(self, alloc: Global) -> Result<Found, AllocError> {
         let mut rows = self.rows;
         let rest = self.stream.end(alloc)?;
-        rows.extend_from_slice(&rest)?;
-        Ok(sort_rows(rows))
+        rows.extend_from_slice(&rest.rows)?;
+        Ok(Found {
+            rows: sort_rows(rows),
+            lead_ins: rest.lead_ins,
+        })
     }
 }

@@ -1,14 +1,15 @@
 //! Links that are judged apart from others.
 
-ghost use Rattle.std.specs.Prelude.{◌≡◌, ◌<◌, ◌≤◌, ◌++◌, ℕ, List, [], true, length, IfSome, OnOk};
+ghost use Rattle.std.specs.Prelude.{◌≡◌, ◌<◌, ◌≤◌, ◌++◌, ℕ, List, [], Option, true, length, IfSome, OnOk};
 ghost use Rattle.std.specs.List.{flat_map};
 ghost use Rattle.tl_topology.specs.Topology.{Topology};
 ghost use Rattle.tl_beats.specs.Fragments.{Frag};
+ghost use Rattle.tl_midway.specs.declared.midway.Midway.{Midway as AnyMidway};
 ghost use Rattle.tl_pass.specs.Parts.{manager_of, AreParts, CanPart, IsCut, IsPart, IsWhole};
 ghost use Rattle.tl_pass.specs.Reports.{IsTaken};
 
 use crate::link_pass::has_no_caches;
-use crate::pass::Hitch;
+use crate::pass::{Found, Hitch};
 use crate::supply::Taken;
 use std::alloc::Global;
 use tl_beats::Row;
@@ -69,39 +70,41 @@ pub fn can_part(topo: &Topo, first: u16) -> bool
     has_no_caches(topo) || is_cut(topo, first)
 }
 
-/// The report of fragments of links in a row.
+/// What is found in fragments of links in a row.
 #[derive(Drop)]
 pub struct Part {
     pub(crate) links: Links,
     /// How many fragments they are.
     pub(crate) fragments: u64,
-    pub(crate) rows: Vec<Row>,
+    pub(crate) found: Found,
 }
 
-/// The rows of links below one, of which each part came by itself.
+/// What is found of links below one, of which each part came by itself.
 #[derive(Drop)]
 pub struct Whole {
     next: u16,
     fragments: u64,
     rows: Vec<Row>,
+    lead_ins: u64,
 }
 
 impl Whole {
     /// No part came.
     pub fn new(alloc: Global) -> Whole
-        ensures { (topo : Topology) → IsWhole topo [] result }
+        ensures { (midway : Option AnyMidway) (topo : Topology) → IsWhole midway topo [] result }
     {
         Whole {
             next: 0,
             fragments: 0,
             rows: Vec::new(alloc),
+            lead_ins: 0,
         }
     }
 
     /// Adds parts one after the other. A hitch where one of them is, or can't be added.
     pub fn add_all(&mut self, topo: &Topo, parts: &[Result<Part, Hitch>]) -> Result<(), Hitch>
-        ensures { (fs : List Frag) (each : List (List Frag)) → IsWhole topo.now fs self.old → AreParts topo.now each parts.now
-            → OnOk result (IsWhole topo.now (fs ++ flat_map (λ gs. gs) each) self.new) }
+        ensures { (midway : Option AnyMidway) (fs : List Frag) (each : List (List Frag)) → IsWhole midway topo.now fs self.old → AreParts midway topo.now each parts.now
+            → OnOk result (IsWhole midway topo.now (fs ++ flat_map (λ gs. gs) each) self.new) }
     {
         for part in parts {
             match part {
@@ -115,7 +118,8 @@ impl Whole {
     /// Adds the next part. A hitch where memory is refused, and where its links come before those of another or can't be judged apart from
     /// those below.
     fn add(&mut self, topo: &Topo, part: &Part) -> Result<(), Hitch>
-        ensures { (fs gs : List Frag) → IsWhole topo.now fs self.old → IsPart topo.now gs part.now → OnOk result (IsWhole topo.now (fs ++ gs) self.new) }
+        ensures { (midway : Option AnyMidway) (fs gs : List Frag) → IsWhole midway topo.now fs self.old → IsPart midway topo.now gs part.now
+            → OnOk result (IsWhole midway topo.now (fs ++ gs) self.new) }
     {
         let links = part.links;
         if links.first < self.next || links.next < links.first || !can_part(topo, links.first) {
@@ -124,7 +128,8 @@ impl Whole {
         let Some(count) = self.fragments.checked_add(part.fragments) else {
             return Err(Hitch::Memory);
         };
-        self.rows.extend_from_slice(&part.rows)?;
+        self.rows.extend_from_slice(&part.found.rows)?;
+        self.lead_ins = self.lead_ins.saturating_add(part.found.lead_ins);
         self.next = links.next;
         self.fragments = count;
         Ok(())
@@ -132,11 +137,14 @@ impl Whole {
 
     /// The report of the fragments that came.
     pub fn report(self) -> Taken
-        ensures { (topo : Topology) (fs : List Frag) → IsWhole topo fs self → IsTaken topo fs result }
+        ensures { (midway : Option AnyMidway) (topo : Topology) (fs : List Frag) → IsWhole midway topo fs self → IsTaken midway topo fs result }
     {
         Taken {
             fragments: self.fragments,
-            rows: sort_rows(self.rows),
+            found: Found {
+                rows: sort_rows(self.rows),
+                lead_ins: self.lead_ins,
+            },
         }
     }
 }

@@ -1,6 +1,7 @@
 -- Streams that begin and that end.
 use Rattle.std.proofs.Common.{◌≡◌, ℕ, zero, suc, ◌+◌, ◌<◌, inl, inr, List, [], ◌∷◌, ◌++◌, length, get_or, Option, Some, None, refl, sym, ap, subst, ◌∙◌, arith}
 use Rattle.std.specs.Prelude.{slice_get}
+use Rattle.std.specs.Io.Iter.{u64_saturate}
 use Rattle.std.specs.List.{All, Contains}
 use Rattle.std.specs.Option.{option_and_then}
 use Rattle.std.proofs.lemmas.Option.{slice_get_within}
@@ -13,6 +14,8 @@ use Rattle.tl_definitions.proofs.Lists.{contains_none}
 use Rattle.tl_capture.specs.Present.{IsPresent}
 use Rattle.tl_capture.proofs.PresentLemmas.{no_ranges}
 use Rattle.tl_check.specs.Captured.{areas_at}
+use Rattle.tl_midway.specs.Counts.{managers_counted}
+use Rattle.tl_midway.specs.LeadIns.{leads_in}
 use Rattle.tl_midway.specs.declared.midway.Midway.{Midway}
 use Rattle.tl_stream.specs.Courses.{IsCourse, AreNewCourses, HasEnded, Judged}
 use Rattle.tl_stream.specs.Fronts.{IsFrontOf}
@@ -78,6 +81,25 @@ all_linked midway topo regions fs count rows is are k d below = untold_linked mi
 
 pub has_ended : (fs : List Recorded) (s : StreamData) → HasAccepted fs s → HasEnded s.midway s.topo (areas_in s) fs s.waiting s.courses
 has_ended fs s has = record { present = has.present; present_waiting = has.waiting; among = has.among; are_courses = has.courses }
+
+-- The same of what is equal to these, and what then follows back.
+module _ (fs : List Recorded) (s : StreamData) (topo : Topology) (regions : List (List (ℕ × Area))) (on : topo ≡ s.topo) (with : regions ≡ s.regions) where
+  pub has_ended_by : (courses : List Course) → courses ≡ s.courses → HasAccepted fs s → HasEnded s.midway topo (areas_at regions) fs s.waiting courses
+  has_ended_by courses are has =
+      subst (λ cs. HasEnded s.midway topo (areas_at regions) fs s.waiting cs) (sym are)
+      (subst (λ rs. HasEnded s.midway topo (areas_at rs) fs s.waiting s.courses) (sym with)
+      (subst (λ t. HasEnded s.midway t (areas_in s) fs s.waiting s.courses) (sym on) (has_ended fs s has)))
+
+  pub untold_back : (rows : List Row) → rows ≡ untold_of s.midway topo (areas_at regions) fs (length topo.managers) → rows ≡ untold_of s.midway s.topo (areas_in s) fs (length s.topo.managers)
+  untold_back rows is =
+      subst (λ t. rows ≡ untold_of s.midway t (areas_in s) fs (length t.managers)) on
+      (subst (λ rs. rows ≡ untold_of s.midway topo (areas_at rs) fs (length topo.managers)) with is)
+
+  pub counted_back : (law : Midway) (count : ℕ) → count ≡ u64_saturate (managers_counted leads_in law topo (areas_at regions) fs (length topo.managers))
+      → count ≡ u64_saturate (managers_counted leads_in law s.topo (areas_in s) fs (length s.topo.managers))
+  counted_back law count is =
+      subst (λ (t : Topology). count ≡ u64_saturate (managers_counted leads_in law t (areas_in s) fs (length t.managers))) on
+      (subst (λ rs. count ≡ u64_saturate (managers_counted leads_in law topo (areas_at rs) fs (length topo.managers))) with is)
 
 -- One manager more.
 pub one_more : (midway : Option Midway) (topo : Topology) (regions : ℕ → List Area) (fs waiting : List Recorded) (courses : List Course) (k : ℕ) (old new : Course) (before found after : List Row) (state : Past) → HasEnded midway topo regions fs waiting courses

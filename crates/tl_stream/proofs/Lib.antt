@@ -7,5 +7,6 @@ pub mod StreamLemmas
 pub mod LawLemmas
 pub mod AcceptLemmas
 pub mod EndLemmas
+mod EndCounts
 pub mod EndingLemmas
 pub mod ShareLemmas

@@ -1,7 +1,15 @@
 //! How far a manager is judged.
 
-ghost use Rattle.std.specs.Prelude.{◌≡◌, ◌<◌, length, is_none, IfOk, OnErr};
+ghost use Rattle.std.specs.Prelude.{◌≡◌, ◌<◌, List, length, Some, is_none, IfOk, OnErr};
+ghost use Rattle.std.specs.Io.Iter.{u64_saturate};
 ghost use Rattle.tl_topology.specs.Regions.{areas_of};
+ghost use Rattle.tl_beats.specs.declared.Placed.{Placed};
+ghost use Rattle.tl_definitions.specs.Rules.{Manager};
+ghost use Rattle.tl_midway.specs.LeadIns.{lead_ins_of};
+ghost use Rattle.tl_midway.specs.Midway.{beginning_of};
+ghost use Rattle.tl_midway.specs.declared.midway.Midway.{Midway as AnyMidway};
+ghost use Rattle.tl_stream.specs.Pasts.{StandsFor};
+ghost use Rattle.tl_stream.specs.declared.past.Past.{Past as AnyPast};
 ghost use Rattle.tl_stream.specs.Courses.{IsLost, IsNewCourse, IsRunning, Judged};
 
 use crate::past::Past;
@@ -52,6 +60,17 @@ impl Course {
         ensures { result ≡ is_none self.now.state }
     {
         self.state.is_none()
+    }
+
+    /// How many of the beats that were judged are in lead-ins; 2^64 - 1 where there are more. Where they are all of a run, none is asked for.
+    pub(crate) fn lead_ins(&self) -> u64
+        ensures { (law : AnyMidway) (m : Manager) (before : List Placed) (state : AnyPast) → self.now.state ≡ Some state → StandsFor (Some law) m state before
+            → result ≡ u64_saturate (lead_ins_of m (beginning_of law m) before) }
+    {
+        match &self.state {
+            Some(state) => state.lead_ins(),
+            None => 0,
+        }
     }
 
     /// Judges the beats that wait up to a cycle, and answers the rows of what they break, in the order of positions. AllocError where

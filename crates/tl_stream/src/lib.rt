@@ -27,5 +27,5 @@ pub use listener::Listener;
 pub use lookout::Lookout;
 pub use parsers::{Parsed, Parsers};
 pub use share::{Passed, Share};
-pub use stream::Stream;
+pub use stream::{Rest, Stream};
 pub use teller::{StreamCount, TellFault, Teller, tell_line};

@@ -1,11 +1,17 @@
 //! What the beats of a manager leave for those that come.
 
-ghost use Rattle.std.specs.Prelude.{◌≡◌, ◌<◌, [], List, length, IfOk};
+ghost use Rattle.std.specs.Prelude.{◌≡◌, ◌<◌, [], List, length, Some, IfOk};
+ghost use Rattle.std.specs.Io.Iter.{u64_saturate};
 ghost use Rattle.std.specs.List.{All, Contains};
 ghost use Rattle.tl_topology.specs.Regions.{Area, areas_of};
 ghost use Rattle.tl_beats.specs.Beats.{IsWellFormed};
 ghost use Rattle.tl_definitions.specs.Managers.{declared_links, manager_at};
+ghost use Rattle.tl_beats.specs.declared.Placed.{Placed};
 ghost use Rattle.tl_definitions.specs.Positions.{clients_of};
+ghost use Rattle.tl_definitions.specs.Rules.{Manager};
+ghost use Rattle.tl_midway.specs.LeadIns.{lead_ins_of};
+ghost use Rattle.tl_midway.specs.Midway.{beginning_of};
+ghost use Rattle.tl_midway.specs.declared.midway.Midway.{Midway as AnyMidway};
 ghost use Rattle.tl_stream.specs.Pasts.{IsOf, StandsFor, GoesOn};
 
 use std::alloc::{AllocError, Global};
@@ -38,6 +44,17 @@ impl Past {
         match midway {
             None => Ok(Past::Whole(SpanState::opening(alloc, topo, manager)?)),
             Some(law) => Ok(Past::Middle(MidwayState::new(alloc, topo, manager, law)?)),
+        }
+    }
+
+    /// How many of the beats are in lead-ins; 2^64 - 1 where there are more. Where they are all of a run, none is asked for.
+    pub(crate) fn lead_ins(&self) -> u64
+        ensures { (law : AnyMidway) (m : Manager) (before : List Placed) → StandsFor (Some law) m self.now before
+            → result ≡ u64_saturate (lead_ins_of m (beginning_of law m) before) }
+    {
+        match self {
+            Past::Whole(_) => 0,
+            Past::Middle(state) => state.lead_ins(),
         }
     }
 

@@ -1,6 +1,7 @@
 //! A capture that comes in fragments.
 
 ghost use Rattle.std.specs.Prelude.{◌≡◌, ◌≤◌, ◌<◌, ◌⊎◌, ℕ, length, List, [], Option, Some, None, true, is_some, IfOk, IfSome, OnOk, slice_get};
+ghost use Rattle.std.specs.Io.Iter.{u64_saturate};
 ghost use Rattle.std.specs.Option.{option_copied};
 ghost use Rattle.std.specs.Arc.{arc_value};
 ghost use Rattle.std.specs.List.{All, Contains};
@@ -8,6 +9,8 @@ ghost use Rattle.std.specs.Result.{IsErrOf};
 ghost use Rattle.tl_definitions.specs.Positions.{Recorded};
 ghost use Rattle.tl_check.specs.Captured.{areas_at};
 ghost use Rattle.tl_capture.specs.Present.{IsPresent};
+ghost use Rattle.tl_midway.specs.Counts.{managers_counted};
+ghost use Rattle.tl_midway.specs.LeadIns.{leads_in};
 ghost use Rattle.tl_midway.specs.declared.midway.Midway.{Midway as AnyMidway};
 ghost use Rattle.tl_stream.specs.declared.fault.StreamFault.{StreamFault};
 ghost use Rattle.tl_stream.specs.Courses.{IsRunning, ForCome, HasEnded, Advances, AreNewRows, AreNewCourses, Loses};
@@ -135,19 +138,31 @@ fn advance(
     Ok(rows)
 }
 
-/// The rows of all beats that wait, one manager after the other. AllocError where memory is refused, or was before.
+/// What a stream has at its end.
+#[derive(Drop)]
+pub struct Rest {
+    /// The rows of all beats that no fragment completed, one manager after the other, each in the order of positions.
+    pub rows: Vec<Row>,
+    /// How many of all beats are in lead-ins; 2^64 - 1 where there are more. Where they are all of a run, none is asked for.
+    pub lead_ins: u64,
+}
+
+/// Judges all beats that wait, one manager after the other. AllocError where memory is refused, or was before.
 fn ended(
     alloc: Global,
     topo: &Topo,
     regions: &[RegionMap],
     waiting: &Present,
     courses: &mut [Course],
-) -> Result<Vec<Row>, AllocError>
+) -> Result<Rest, AllocError>
     requires { (midway : Option AnyMidway) × (fs : List Recorded) × HasEnded midway topo.now (areas_at regions.now) fs waiting.now courses.old }
-    ensures { (midway : Option AnyMidway) (fs : List Recorded) → HasEnded midway topo.now (areas_at regions.now) fs waiting.now courses.old
-        → IfOk result (λ rows. rows.items ≡ untold_of midway topo.now (areas_at regions.now) fs (length topo.now.managers)) }
+    ensures rows { (midway : Option AnyMidway) (fs : List Recorded) → HasEnded midway topo.now (areas_at regions.now) fs waiting.now courses.old
+        → IfOk result (λ rest. rest.rows.items ≡ untold_of midway topo.now (areas_at regions.now) fs (length topo.now.managers)) }
+    ensures lead_ins { (law : AnyMidway) (fs : List Recorded) → HasEnded (Some law) topo.now (areas_at regions.now) fs waiting.now courses.old
+        → IfOk result (λ rest. rest.lead_ins ≡ u64_saturate (managers_counted leads_in law topo.now (areas_at regions.now) fs (length topo.now.managers))) }
 {
     let none = RegionMap::new(alloc);
+    let mut lead_ins = 0u64;
     let mut rows = Vec::new(alloc);
     for manager in 0..courses.len() {
         let own = regions.get(manager).unwrap_or(&none);
@@ -157,8 +172,9 @@ fn ended(
         }
         let found = course.judge(alloc, topo, own, waiting, u64::MAX)?;
         rows.extend_from_slice(&found)?;
+        lead_ins = lead_ins.saturating_add(course.lead_ins());
     }
-    Ok(rows)
+    Ok(Rest { rows, lead_ins })
 }
 
 impl Stream {
@@ -280,11 +296,12 @@ impl Stream {
         silent_of(&self.fronts, &course.links)
     }
 
-    /// The rows of all beats that no fragment completed, one manager after the other, each in the order of positions. AllocError
-    /// where memory is refused.
-    pub fn end(mut self, alloc: Global) -> Result<Vec<Row>, AllocError>
-        ensures rest { (fs : List Recorded) → HasAccepted fs self → IfOk result (λ rows. rows.items ≡ untold_of self.midway self.topo (areas_in self) fs (length self.topo.managers)) }
-        ensures links { IfOk result (λ rows. All (λ row. row.link < length self.topo.links) rows.items) }
+    /// The rows of all beats that no fragment completed, and how many of all beats are in lead-ins. AllocError where memory is refused.
+    pub fn end(mut self, alloc: Global) -> Result<Rest, AllocError>
+        ensures rows { (fs : List Recorded) → HasAccepted fs self → IfOk result (λ rest. rest.rows.items ≡ untold_of self.midway self.topo (areas_in self) fs (length self.topo.managers)) }
+        ensures lead_ins { (law : AnyMidway) (fs : List Recorded) → self.midway ≡ Some law → HasAccepted fs self
+            → IfOk result (λ rest. rest.lead_ins ≡ u64_saturate (managers_counted leads_in law self.topo (areas_in self) fs (length self.topo.managers))) }
+        ensures links { IfOk result (λ rest. All (λ row. row.link < length self.topo.links) rest.rows.items) }
     {
         ended(
             alloc,

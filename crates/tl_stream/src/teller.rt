@@ -399,7 +399,7 @@ impl<'f, F: RowForm> Teller<'f, F> {
             ..
         } = self;
         let topo = Arc::try_clone(stream.shared_topo())?;
-        let rows = stream.end(alloc)?;
+        let rows = stream.end(alloc)?.rows;
         pass_all(alloc, form, &topo, &kept, &rows)?;
         write_rows(alloc, form, &topo, &kept, &rows, out)?;
         count.count_rows(&rows);

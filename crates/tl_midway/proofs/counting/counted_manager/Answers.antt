@@ -1,4 +1,4 @@
-use Rattle.std.proofs.Common.{ℕ, List, [], true, sym, subst, ◌∙◌}
+use Rattle.std.proofs.Common.{ℕ, List, [], sym, subst, ◌∙◌}
 use Rattle.std.specs.List.{All}
 use Rattle.std.proofs.lemmas.List.Elements.{All-contains}
 use Rattle.tl_topology.specs.Regions.{areas_of}

@@ -39,13 +39,13 @@ loop-at-preserved c =
     record {
       formed = All-tail Formed p c.next.new.self (subst (All Formed) steps c.loop-at.invariant.formed);
       linked = All-tail Linked p c.next.new.self (subst (All Linked) steps c.loop-at.invariant.linked);
-      known = known_after c.args.link.now c.by_fields-by_fields.result p.beat old new c.take.result c.take.ensures c.loop-at.invariant.known;
-      number = c.take.ensures.number ∙ c.loop-at.invariant.number;
+      known = known_after c.args.link.now c.by_fields-by_fields.result p.beat old new c.take.result c.take.ensures.takes c.loop-at.invariant.known;
+      number = c.take.ensures.takes.number ∙ c.loop-at.invariant.number;
       on = λ m is. (let start = beginning_of c.args.law m in
           let declared : c.args.link.now ≡ m.links p.link = sym is ∙ ap m.links own in
           let takes : Takes (m.links p.link) start.by_fields p.beat old c.take.result new =
           subst (λ b. Takes (m.links p.link) b p.beat old c.take.result new) (c.by_fields-by_fields.ensures m)
-          (subst (λ (d : LinkDecl). Takes d c.by_fields-by_fields.result p.beat old c.take.result new) declared c.take.ensures) in
+          (subst (λ (d : LinkDecl). Takes d c.by_fields-by_fields.result p.beat old c.take.result new) declared c.take.ensures.takes) in
           sought_more m start c.args.chan p old c.loop-at.at-iterator c.next.new.self c.args.walk steps owns c.is_sure.result c.is_sure.ensures new c.if-is_sure.false
           (λ before stands. (own_stands m start before p old new c.take.result (sym owns) takes stands).1) (c.loop-at.invariant.on m is));
     }

@@ -10,15 +10,16 @@ use Rattle.tl_pass.specs.Reports.{standing, with_next}
 use Rattle.tl_pass.proofs.StandingLaws.{one_added}
 use Rattle.tl_pass.proofs.supply.take_next.Goals as goal
 
+pub returns-in_ok-accept-in-Some-clause-counted : goal.returns-in_ok-accept-in-Some-clause-counted
+returns-in_ok-accept-in-Some-clause-counted g c fs = ap (λ next. length (with_next fs next)) c.in-Some.is ∙ length-append fs (arc_value c.in-Some.fragment ∷ [])
+
 pub returns-in_ok-accept-in-Some-clause-came : goal.returns-in_ok-accept-in-Some-clause-came
-returns-in_ok-accept-in-Some-clause-came g c fs had =
+returns-in_ok-accept-in-Some-clause-came g c midway fs had =
     let topo : Topology = c.args.topo.now in
     let f : Frag = arc_value c.in-Some.fragment in
-    let came = c.in_ok-accept-in-Some.ensures topo (standing topo fs) had in (
-      ap (λ next. length (with_next fs next)) c.in-Some.is ∙ length-append fs (f ∷ []),
-      subst (λ next. g.P.Pass.has_come topo (standing topo (with_next fs next)) c.accept.new.self) (sym c.in-Some.is)
-          (subst (λ hs. g.P.Pass.has_come topo hs c.accept.new.self) (sym (one_added topo fs f came.0 came.1)) came.2),
-    )
+    let came = c.in_ok-accept-in-Some.ensures midway topo (standing topo fs) had in
+    subst (λ next. g.P.Pass.has_come midway topo (standing topo (with_next fs next)) c.accept.new.self) (sym c.in-Some.is)
+    (subst (λ hs. g.P.Pass.has_come midway topo hs c.accept.new.self) (sym (one_added topo fs f came.0 came.1)) came.2)
 
 pub returns-in_ok-accept-in-Some-clause-within : goal.returns-in_ok-accept-in-Some-clause-within
 returns-in_ok-accept-in-Some-clause-within g c fs are =

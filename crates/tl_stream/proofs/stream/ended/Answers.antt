@@ -1,13 +1,17 @@
-use Rattle.std.proofs.Common.{◌≡◌, ◌≢◌, ℕ, ◌+◌, ◌<◌, ◌≤◌, ◌++◌, length, get_or, Some, sym, ap, subst, ◌∙◌, arith, length-set}
+use Rattle.std.proofs.Common.{◌≡◌, ◌≢◌, ℕ, ◌+◌, ◌<◌, ◌≤◌, ◌++◌, length, get_or, Some, refl, sym, ap, subst, ◌∙◌, arith, length-set}
 use Rattle.std.specs.Prelude.{slice_get}
+use Rattle.std.specs.Io.Iter.{u64_saturate}
 use Rattle.std.proofs.lemmas.Option.{slice_get-get_or}
 use Rattle.tl_topology.specs.Regions.{areas_of}
 use Rattle.tl_check.specs.Captured.{areas_at}
 use Rattle.tl_check.proofs.ScratchLaws.{own_areas}
+use Rattle.tl_midway.specs.Counts.{managers_counted}
+use Rattle.tl_midway.specs.LeadIns.{leads_in}
 use Rattle.tl_stream.specs.Courses.{IsRunning, Judged}
 use Rattle.tl_stream.specs.Told.{untold_of}
 use Rattle.tl_stream.specs.declared.course.Course.{Course}
 use Rattle.tl_stream.proofs.AcceptLemmas.{get_other, has_state}
+use Rattle.tl_stream.proofs.EndCounts.{lead_ins_more}
 use Rattle.tl_stream.proofs.EndLemmas.{one_more}
 use Rattle.tl_stream.proofs.stream.ended.Goals as goal
 
@@ -37,16 +41,25 @@ loop-manager-preserved c =
           c.extend_from_slice.new.self.items state.0 has at state.1
           (subst (λ xs. Judged c.args.topo.now xs c.args.waiting.now 18446744073709551615 course c.judge.new.self c.in_ok-found.found.items) own c.in_ok-found.ensures.ok)
           (c.loop-manager.invariant.told midway fs has) (c.in_ok-extend_from_slice.ensures.items ∙ ap (λ found. c.loop-manager.rows.items ++ found) c.deref.ensures.value);
+      lead_ins = λ law fs has. c.saturating_add-lead_ins.ensures ∙ lead_ins_more law c.args.topo.now (areas_at c.args.regions.now) fs c.args.waiting.now c.args.courses.now c.loop-manager.manager course c.judge.new.self
+          c.in_ok-found.found.items state.0 c.loop-manager.lead_ins c.lead_ins.result has at state.1
+          (subst (λ xs. Judged c.args.topo.now xs c.args.waiting.now 18446744073709551615 course c.judge.new.self c.in_ok-found.found.items) own c.in_ok-found.ensures.ok)
+          (λ after is m before stands. c.lead_ins.ensures law m before after is stands) (c.loop-manager.invariant.lead_ins law fs has);
     }
   where
     never : (k manager : ℕ) → manager + 1 ≤ k → k ≡ manager → ⊥
     never k manager later same = omega arith
 
-pub returns : goal.returns
-returns c midway fs has =
-    let end : length c.args.courses.now ≤ c.loop-manager.manager = c.loop-manager-test.false in
-    let most : c.loop-manager.manager ≤ length c.args.courses.now = c.loop-manager.auto.manager-end in
-    let many = c.loop-manager.invariant.many in
-    let count = has.are_courses.count in
-    let all : c.loop-manager.manager ≡ length c.args.topo.now.managers = omega (arith, end, most, many, count) in
-    c.loop-manager.invariant.told midway fs has ∙ ap (untold_of midway c.args.topo.now (areas_at c.args.regions.now) fs) all
+-- All managers were passed.
+all_passed : (count managers manager courses : ℕ) → courses ≡ count → manager ≤ count → courses ≤ manager → count ≡ managers → manager ≡ managers
+all_passed count managers manager courses many most end same = omega (arith, many, most, end, same)
+
+pub returns-clause-rows : goal.returns-clause-rows
+returns-clause-rows c midway fs has =
+    c.loop-manager.invariant.told midway fs has ∙ ap (untold_of midway c.args.topo.now (areas_at c.args.regions.now) fs)
+    (all_passed (length c.args.courses.now) (length c.args.topo.now.managers) c.loop-manager.manager (length c.args.courses.now) refl c.loop-manager.auto.manager-end c.loop-manager-test.false has.are_courses.count)
+
+pub returns-clause-lead_ins : goal.returns-clause-lead_ins
+returns-clause-lead_ins c law fs has =
+    c.loop-manager.invariant.lead_ins law fs has ∙ ap (λ n. u64_saturate (managers_counted leads_in law c.args.topo.now (areas_at c.args.regions.now) fs n))
+    (all_passed (length c.args.courses.now) (length c.args.topo.now.managers) c.loop-manager.manager (length c.args.courses.now) refl c.loop-manager.auto.manager-end c.loop-manager-test.false has.are_courses.count)

@@ -1,4 +1,4 @@
-use Rattle.std.proofs.Common.{get_or, ◌∙◌}
+use Rattle.std.proofs.Common.{get_or, refl, ◌∙◌}
 use Rattle.tl_definitions.specs.Managers.{declared_links, manager_at}
 use Rattle.tl_definitions.specs.Positions.{links_of}
 use Rattle.tl_client_rules.proofs.ClientsLaws.{clients_rise}
@@ -18,6 +18,7 @@ returns-clause-stands c regions =
       rises = clients_rise c.args.manager (declared_links c.args.topo.now);
       by_fields = c.by_fields.ensures m;
       each = λ k d below. first_stands c.args.law m (get_or c.in_ok-first_readings.field-0.items k d) (c.in_ok-first_readings.ensures.each k d below);
+      lead_ins = refl;
     }
 
 pub returns-clause-known : goal.returns-clause-known

@@ -9,15 +9,15 @@ take-requires-clause-known c =
 
 pub returns-clause-stands : goal.returns-clause-stands
 returns-clause-stands c =
-    all_stand c.args.link.now c.args.at.now c.args.self.now (record { by_fields = c.args.self.now.by_fields; links = with_item c.args.self.now.links c.unwrap-place.result c.take.new.self }) c.unwrap-place.result c.index_mut.result.now c.take.new.self c.take.result (sym c.place.ensures ∙ c.unwrap-place.ensures) c.requires.own
-    c.index_mut.ensures.value refl c.take.ensures refl
+    all_stand c.args.link.now c.args.at.now c.args.self.now (record { by_fields = c.args.self.now.by_fields; links = with_item c.args.self.now.links c.unwrap-place.result c.take.new.self; lead_ins = c.take.new.lead_ins }) c.unwrap-place.result c.index_mut.result.now c.take.new.self c.take.result (sym c.place.ensures ∙ c.unwrap-place.ensures) c.requires.own
+    c.index_mut.ensures.value refl c.take.ensures.takes refl c.take.ensures.lead_ins
 
 pub returns-clause-known : goal.returns-clause-known
 returns-clause-known c =
-    all_known c.args.link.now c.args.at.now c.args.self.now (record { by_fields = c.args.self.now.by_fields; links = with_item c.args.self.now.links c.unwrap-place.result c.take.new.self }) c.unwrap-place.result c.index_mut.result.now c.take.new.self c.take.result (sym c.place.ensures ∙ c.unwrap-place.ensures) c.requires.own
-    c.index_mut.ensures.value refl c.take.ensures c.requires.known
+    all_known c.args.link.now c.args.at.now c.args.self.now (record { by_fields = c.args.self.now.by_fields; links = with_item c.args.self.now.links c.unwrap-place.result c.take.new.self; lead_ins = c.take.new.lead_ins }) c.unwrap-place.result c.index_mut.result.now c.take.new.self c.take.result (sym c.place.ensures ∙ c.unwrap-place.ensures) c.requires.own
+    c.index_mut.ensures.value refl c.take.ensures.takes c.requires.known
 
 pub returns-clause-numbers : goal.returns-clause-numbers
 returns-clause-numbers c =
-    same_numbers c.args.link.now c.args.at.now c.args.self.now (record { by_fields = c.args.self.now.by_fields; links = with_item c.args.self.now.links c.unwrap-place.result c.take.new.self }) c.unwrap-place.result c.index_mut.result.now c.take.new.self c.take.result (sym c.place.ensures ∙ c.unwrap-place.ensures) c.requires.own
-    c.index_mut.ensures.value refl c.take.ensures
+    same_numbers c.args.link.now c.args.at.now c.args.self.now (record { by_fields = c.args.self.now.by_fields; links = with_item c.args.self.now.links c.unwrap-place.result c.take.new.self; lead_ins = c.take.new.lead_ins }) c.unwrap-place.result c.index_mut.result.now c.take.new.self c.take.result (sym c.place.ensures ∙ c.unwrap-place.ensures) c.requires.own
+    c.index_mut.ensures.value refl c.take.ensures.takes

@@ -1,5 +1,5 @@
 use Rattle.std.specs.Option.{option_copied}
-use Rattle.std.proofs.Common.{Some, ap}
+use Rattle.std.proofs.Common.{ap}
 use Rattle.tl_midway.specs.Readings.{shown_readings}
 use Rattle.tl_midway.proofs.StandingLaws.{sole_goes_on}
 use Rattle.tl_midway.proofs.readings.Readings.goes_on.Goals as goal

@@ -1,13 +1,22 @@
-use Rattle.std.proofs.Common.{[], sym, subst}
+use Rattle.std.proofs.Common.{[], refl, sym, subst}
 use Rattle.std.specs.Arc.{arc_value}
-use Rattle.tl_topology.specs.Topology.{Topology}
-use Rattle.tl_pass.specs.LinkPass.{HasPassed}
-use Rattle.tl_pass.specs.Parts.{HasNoCaches}
-use Rattle.tl_pass.proofs.LinkPassLaws.{none_passed}
+use Rattle.std.specs.List.{Contains}
+use Rattle.tl_definitions.proofs.Lists.{contains_none}
+use Rattle.tl_capture.specs.Present.{IsPresent}
+use Rattle.tl_pass.specs.Parts.{HasNoCaches, HasJudged}
+use Rattle.tl_pass.proofs.JoinLaws.{none_judged, nothing}
 use Rattle.tl_pass.proofs.link_pass.LinkPass.new.Goals as goal
 
-pub returns-clause-none : goal.returns-clause-none
-returns-clause-none c =
-    let topo : Topology = arc_value c.args.topo in
-    let plain : HasNoCaches topo = subst HasNoCaches c.deref.ensures (c.has_no_caches.ensures c.if-not-has_no_caches.false) in
-    subst (λ ps. HasPassed topo 0 ps c.new-2.result.items []) (sym c.new.ensures) (subst (λ rs. HasPassed topo 0 [] rs []) (sym c.new-2.ensures.items) (none_passed topo plain))
+pub returns : goal.returns
+returns c =
+    let topo = arc_value c.args.topo in
+    record {
+      begins = refl;
+      on = refl;
+      plain = subst HasNoCaches c.deref.ensures (c.has_no_caches.ensures c.if-not-has_no_caches.false);
+      done = [];
+      judged = subst (λ rs. HasJudged c.args.midway topo 0 [] rs 0) (sym c.new-2.ensures.items) (none_judged c.args.midway topo 0);
+      kept = subst IsPresent (sym c.new.ensures) nothing;
+      own = λ f h. absurd (contains_none f (subst (λ ps. Contains ps f) c.new.ensures h));
+      all = sym c.new.ensures;
+    }

@@ -1,17 +1,28 @@
-use Rattle.std.proofs.Common.{ℕ, sym, subst}
+use Rattle.std.proofs.Common.{ℕ, inl, inr, sym, ap, subst, ◌++◌, ◌∙◌}
 use Rattle.std.specs.Arc.{arc_value}
-use Rattle.tl_topology.specs.Topology.{Topology}
+use Rattle.std.specs.List.{Contains}
 use Rattle.tl_beats.specs.Fragments.{Frag}
-use Rattle.tl_capture.specs.Present.{recorded, put_in, IsPresent}
-use Rattle.tl_pass.specs.LinkPass.{HasPassed}
-use Rattle.tl_pass.proofs.LinkPassLaws.{one_more}
+use Rattle.tl_definitions.specs.Positions.{Recorded}
+use Rattle.tl_capture.specs.Present.{recorded, put_in}
+use Rattle.tl_capture.proofs.PutLemmas.{put_from}
+use Rattle.tl_pass.proofs.StandingLaws.{put_last}
 use Rattle.tl_pass.proofs.link_pass.LinkPass.put.Goals as goal
 
-pub returns-clause-passed : goal.returns-clause-passed
-returns-clause-passed c fs had =
-    let topo : Topology = arc_value c.args.self.now.topo in
-    let link : ℕ = c.args.self.now.link in
+pub returns : goal.returns
+returns c midway topo fs had =
+    let old = c.args.self.now in
     let f : Frag = arc_value c.args.fragment in
-    let there : IsPresent (put_in (recorded link f) c.args.self.now.present) = subst IsPresent c.in_ok-put.ensures.ok c.is_empty.ensures.kept in
-    subst (λ ps. HasPassed topo link ps c.args.self.now.rows.items (put_in (recorded link f) fs)) (sym c.in_ok-put.ensures.ok)
-    (one_more topo link c.args.self.now.present fs c.args.self.now.rows.items had f there)
+    let put = c.in_ok-put.ensures.ok in
+    record {
+      begins = had.begins;
+      on = had.on;
+      plain = had.plain;
+      done = had.done;
+      judged = had.judged;
+      kept = c.is_empty.ensures.kept;
+      own = λ g h. elim (put_from (recorded old.link f) old.present g (subst (λ ps. Contains ps g) put h)) [
+        | inl same ↦ ap (λ (x : Recorded). x.link) (sym same)
+        | inr before ↦ had.own g before
+      ];
+      all = ap (put_in (recorded old.link f)) had.all ∙ put_last old.link f had.done old.present had.judged.below ∙ ap (λ ps. had.done ++ ps) (sym put);
+    }

@@ -19,11 +19,11 @@ one_number : (a b : ℕ) → Some a ≡ Some b → a ≡ b
 one_number a b e = cc
 
 pub returns : goal.returns
-returns c topo fs had =
+returns c midway topo fs had =
     let old : StreamData = c.args.self.now.stream in
     let f : Frag = arc_value c.args.fragment in
     let rows : List Row = c.args.self.now.rows.items in
-    let is : Accepts fs old f c.accept.new.self c.in_ok-rows.rows.items = c.in_ok-rows.ensures.ok fs had.1.accepted in
+    let is : Accepts fs old f c.accept.new.self c.in_ok-rows.rows.items = c.in_ok-rows.ensures.ok fs had.2.accepted in
     let link : ℕ = c.in-Some.link in
     let decl : LinkDecl = c.unwrap.result.now in
     let named : number_of_name old.topo.links f.link ≡ Some link =
@@ -38,10 +38,11 @@ returns c topo fs had =
     let on : IsOn old.topo is.link decl.manager = subst (λ l. IsOn old.topo l decl.manager) same (declared_is_client decl.manager link (declared_links old.topo) decl declared refl) in
     let items = c.in_ok-extend_from_slice.ensures.items ∙ ap (λ rs. rows ++ rs) c.deref-2.ensures.value in (
       is.link,
-      subst (λ (t : Topology). number_of_name t.links f.link ≡ Some is.link) had.0 is.named,
+      subst (λ (t : Topology). number_of_name t.links f.link ≡ Some is.link) had.1 is.named,
       (
-        is.topo ∙ had.0,
+        is.midway ∙ had.0,
+        is.topo ∙ had.1,
         subst (λ rs. HasTold (put_in (recorded is.link f) fs) c.accept.new.self rs) (sym items)
-            (told_more fs old f c.accept.new.self c.in_ok-rows.rows.items rows had.1 is decl.manager below on),
+            (told_more fs old f c.accept.new.self c.in_ok-rows.rows.items rows had.2 is decl.manager below on),
       ),
     )

@@ -20,19 +20,19 @@ beside R (x' ∷ xs) (y ∷ ys) zero x all at = (let same : x' ≡ x = cc in (y,
 beside R (x' ∷ xs) (y ∷ ys) (suc i) x all at = beside R xs ys i x all.1 at
 
 pub loop-part-preserved : goal.loop-part-preserved
-loop-part-preserved c fs each had are =
+loop-part-preserved c midway fs each had are =
     let parts = c.args.parts.now in
     let i : ℕ = c.loop-part.part-index in
     let at : slice_get parts i ≡ Some (Ok c.in-Ok.part) = slice_get-get_or parts i c.part-item.result c.loop-part-test.true ∙ ap Some (sym c.part-item.is ∙ c.in-Ok.is) in
-    let found = beside (λ (r : Result Part Hitch) (gs : List Frag). IfOk r (IsPart c.args.topo.now gs)) parts each i (Ok c.in-Ok.part) are at in
-    let whole = c.in_ok-add-in-Ok.ensures (fs ++ flat_map (λ gs. gs) (take i each)) found.0 (c.loop-part.invariant fs each had are) found.2 in
+    let found = beside (λ (r : Result Part Hitch) (gs : List Frag). IfOk r (IsPart midway c.args.topo.now gs)) parts each i (Ok c.in-Ok.part) are at in
+    let whole = c.in_ok-add-in-Ok.ensures midway (fs ++ flat_map (λ gs. gs) (take i each)) found.0 (c.loop-part.invariant midway fs each had are) found.2 in
     let more : flat_map (λ gs. gs) (take (i + 1) each) ≡ flat_map (λ gs. gs) (take i each) ++ found.0 =
     ap (flat_map (λ gs. gs)) (take_more each i found.0 found.1) ∙ flat_map-append (λ gs. gs) (take i each) (found.0 ∷ []) ∙ ap (λ gs. flat_map (λ hs. hs) (take i each) ++ gs) (append-nil found.0) in
-    subst (λ gs. IsWhole c.args.topo.now gs c.add.new.self) (append_assoc fs (flat_map (λ gs. gs) (take i each)) found.0 ∙ ap (λ gs. fs ++ gs) (sym more)) whole
+    subst (λ gs. IsWhole midway c.args.topo.now gs c.add.new.self) (append_assoc fs (flat_map (λ gs. gs) (take i each)) found.0 ∙ ap (λ gs. fs ++ gs) (sym more)) whole
 
 pub returns : goal.returns
-returns c fs each had are =
+returns c midway fs each had are =
     let i : ℕ = c.loop-part.part-index in
-    let long : length each ≡ length c.args.parts.now = AllZip-long (λ (r : Result Part Hitch) (gs : List Frag). IfOk r (IsPart c.args.topo.now gs)) c.args.parts.now each are in
+    let long : length each ≡ length c.args.parts.now = AllZip-long (λ (r : Result Part Hitch) (gs : List Frag). IfOk r (IsPart midway c.args.topo.now gs)) c.args.parts.now each are in
     let all : take i each ≡ each = take_all i each (subst (λ n. n ≤ i) (sym long) c.loop-part-test.false) in
-    subst (λ gs. IsWhole c.args.topo.now (fs ++ flat_map (λ hs. hs) gs) c.loop-part.self) all (c.loop-part.invariant fs each had are)
+    subst (λ gs. IsWhole midway c.args.topo.now (fs ++ flat_map (λ hs. hs) gs) c.loop-part.self) all (c.loop-part.invariant midway fs each had are)

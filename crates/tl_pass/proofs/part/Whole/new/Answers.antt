@@ -4,4 +4,4 @@ use Rattle.tl_pass.proofs.JoinLaws.{none_judged}
 use Rattle.tl_pass.proofs.part.Whole.new.Goals as goal
 
 pub returns : goal.returns
-returns c topo = record { count = refl; judged = subst (λ rs. HasJudged topo 0 [] rs) (sym c.new.ensures.items) (none_judged topo 0) }
+returns c midway topo = record { count = refl; judged = subst (λ rs. HasJudged midway topo 0 [] rs 0) (sym c.new.ensures.items) (none_judged midway topo 0) }

@@ -1,3 +1,4 @@
+pub mod Places
 pub mod BlockMap
 pub mod BlockWalk
 pub mod Exact

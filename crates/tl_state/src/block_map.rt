@@ -8,6 +8,7 @@ ghost use Rattle.tl_state.specs.BlockMap.{home_of, held_at, own_or, AreTold, IsF
 
 use crate::block_walk::Blocks;
 use crate::exact::Exact;
+use crate::place::Place;
 use crate::same::Same;
 use std::alloc::{AllocError, Global};
 use std::collections::BTreeMap;
@@ -33,7 +34,7 @@ const SPREAD: u64 = 0x9E37_79B9_7F4A_7C15;
 #[derive(Drop)]
 pub struct BlockMap<V: Copy + Drop> {
     /// The places, each with the block that stands there and its value.
-    near: Vec<Option<(u64, V)>>,
+    near: Vec<Place<V>>,
     /// Of each place, whether a block of it may be among the others.
     told: Vec<bool>,
     /// The blocks whose place was taken.
@@ -59,9 +60,20 @@ fn home_of(places: usize, block: u64) -> usize
     (block.wrapping_mul(SPREAD) >> 40) as usize & places.saturating_sub(1)
 }
 
+/// What stands at a place.
+#[inline(always)]
+fn held_at<V: Copy + Drop>(near: &[Place<V>], place: usize) -> Option<(u64, V)>
+    ensures { result ≡ held_at near.now place }
+{
+    match near.get(place) {
+        Some(place) => place.held(),
+        None => None,
+    }
+}
+
 /// Gives a place this.
 #[inline(always)]
-fn set_place<V: Copy + Drop>(near: &mut Vec<Option<(u64, V)>>, place: usize, held: Option<(u64, V)>)
+fn set_place<V: Copy + Drop>(near: &mut Vec<Place<V>>, place: usize, held: Place<V>)
     requires { place < length near.old.items }
     ensures at { (other : ℕ) → held_at near.new.items other ≡ (if place == other then held else held_at near.old.items other) }
     ensures count { length near.new.items ≡ length near.old.items }
@@ -145,16 +157,15 @@ fn take_far<V: Copy + Drop>(
 }
 
 /// Frees the place of a block, where it is its own, and answers the value that stood there.
-fn take_near<V: Copy + Drop>(near: &mut Vec<Option<(u64, V)>>, block: u64) -> Option<V>
+fn take_near<V: Copy + Drop>(near: &mut Vec<Place<V>>, block: u64) -> Option<V>
     ensures value { result ≡ own_or block (held_at near.old.items (home_of (length near.old.items) block)) None }
     ensures places { IsFreed near.old.items near.new.items block }
     ensures count { length near.new.items ≡ length near.old.items }
 {
     let home = home_of(near.len(), block);
-    match near.get(home) {
-        Some(Some((held, value))) if *held == block => {
-            let value = *value;
-            set_place(near, home, None);
+    match held_at(near, home) {
+        Some((held, value)) if held == block => {
+            set_place(near, home, Place::free());
             Some(value)
         }
         _ => None,
@@ -183,7 +194,7 @@ impl<V: Copy + Drop> BlockMap<V> {
         ensures { IfOk result (λ blocks. (block : ℕ) → value_at blocks block ≡ None) }
     {
         let mut near = Vec::new(alloc);
-        near.resize(places, None)?;
+        near.resize(places, Place::free())?;
         let mut told = Vec::new(alloc);
         told.resize(places, false)?;
         Ok(BlockMap {
@@ -198,8 +209,8 @@ impl<V: Copy + Drop> BlockMap<V> {
     pub fn get(&self, block: u64) -> Option<V>
         ensures { result ≡ value_at self.now block }
     {
-        match self.near.get(home_of(self.near.len(), block)) {
-            Some(Some((held, value))) if *held == block => Some(*value),
+        match held_at(&self.near, home_of(self.near.len(), block)) {
+            Some((held, value)) if held == block => Some(value),
             _ => far_value(self.near.len(), &self.told, &self.far, block),
         }
     }
@@ -210,8 +221,10 @@ impl<V: Copy + Drop> BlockMap<V> {
         ensures { result ≡ has_place self.now.near block }
     {
         match self.near.get(home_of(self.near.len(), block)) {
-            Some(Some((held, _))) => *held == block,
-            Some(None) => true,
+            Some(place) => match place.held() {
+                Some((held, _)) => held == block,
+                None => true,
+            },
             None => false,
         }
     }
@@ -223,7 +236,7 @@ impl<V: Copy + Drop> BlockMap<V> {
         requires { has_place self.now.near block ≡ true }
         ensures { result ≡ value_at self.now block }
     {
-        match self.near[home_of(self.near.len(), block)] {
+        match self.near[home_of(self.near.len(), block)].held() {
             Some((_, value)) => Some(value),
             None => far_value(self.near.len(), &self.told, &self.far, block),
         }
@@ -237,7 +250,7 @@ impl<V: Copy + Drop> BlockMap<V> {
         ensures { (other : ℕ) → value_at self.new other ≡ (if block == other then Some value else value_at self.old other) }
     {
         let home = home_of(self.near.len(), block);
-        set_place(&mut self.near, home, Some((block, value)));
+        set_place(&mut self.near, home, Place::of(block, value));
     }
 
     /// Gives the block a value, at its place if that is free or its own.

@@ -1,12 +1,13 @@
 //! A walk over the blocks of a map.
 
+use crate::place::Place;
 use std::collections::btree_map::Iter;
 
 /// The blocks of a map that are left.
 #[derive(Drop)]
 pub struct Blocks<'a, V: Copy + Drop> {
     // What is left of the places.
-    near: &'a [Option<(u64, V)>],
+    near: &'a [Place<V>],
     // The blocks that are kept elsewhere.
     far: Iter<'a, u64, V>,
 }
@@ -17,7 +18,7 @@ impl<'a, V: Copy + Drop> Blocks<'a, V> {
     ghost use Rattle.tl_state.specs.BlockWalk.{blocks_left};
 
     /// All blocks at these places and these entries.
-    pub(crate) fn new(near: &'a [Option<(u64, V)>], far: Iter<'a, u64, V>) -> Self
+    pub(crate) fn new(near: &'a [Place<V>], far: Iter<'a, u64, V>) -> Self
         ensures { blocks_left result ≡ near_blocks near.now ++ map (λ e. e.0) far.entry }
     {
         Blocks { near, far }
@@ -39,8 +40,8 @@ impl<'a, V: Copy + Drop> Iterator for Blocks<'a, V> {
     fn next(&mut self) -> Option<u64> {
         while let Some((place, others)) = self.near.split_first() {
             self.near = others;
-            if let Some((block, _)) = place {
-                return Some(*block);
+            if let Some((block, _)) = place.held() {
+                return Some(block);
             }
         }
         let (block, _) = self.far.next()?;

@@ -7,6 +7,7 @@ mod changes;
 mod exact;
 mod faithful;
 mod leaves;
+mod place;
 mod same;
 mod search;
 mod share_map;

@@ -2,9 +2,6 @@
 
 ghost use Rattle.std.specs.Prelude.{◌<◌, ◌^◌};
 
-use crate::fault::Fault;
-use crate::files::{all_fragments_of, topology_of};
-use crate::progress::Gauge;
 use crate::reports::{Ending, report_of};
 use std::alloc::Global;
 use std::rt::Files;
@@ -14,6 +11,7 @@ use tl_advice::diagnose;
 use tl_beats::Fragment;
 use tl_check::all_added;
 use tl_edits::Inputs;
+use tl_files::{Fault, Gauge, all_fragments_of, topology_of};
 use tl_text::{ByteOut, write_all};
 use tl_topology::Topo;
 

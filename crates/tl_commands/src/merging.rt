@@ -2,13 +2,11 @@
 
 ghost use Rattle.std.specs.Prelude.{◌<◌, ◌^◌};
 
-use crate::fault::Fault;
-use crate::files::topology_of;
-use crate::paths::files_of;
 use crate::picking::{Trouble, file_text, text_trouble};
 use crate::reports::{Ending, ending_without, report_of};
 use std::alloc::{AllocError, Global};
 use std::rt::Files;
+use tl_files::{Fault, files_of, topology_of};
 use tl_formats::{MergeFault, MergedText, ReportFault, TextsFault, merge_texts};
 use tl_text::{ByteOut, write_all};
 use tl_topology::Topo;

@@ -3,7 +3,6 @@
 ghost use Rattle.std.specs.Prelude.{◌<◌, ◌≤◌, ◌^◌, IfOk, length};
 ghost use Rattle.std.specs.List.{All};
 
-use crate::fault::Fault;
 use crate::midway::{heads_text, push_midway};
 use crate::pasts::inputs_left;
 use std::alloc::{AllocError, AllocFailed, Global};
@@ -15,6 +14,7 @@ use tl_advice::report_summary;
 use tl_beats::{Fragment, Row};
 use tl_check::{Judges, all_added};
 use tl_edits::Inputs;
+use tl_files::Fault;
 use tl_formats::{Pick, Title, Waiver, WaiverFault, print_rows, read_waivers};
 use tl_midway::{Counts, Midway, counted_report};
 use tl_options::{How, View};

@@ -7,19 +7,16 @@ ghost use Rattle.tl_check.specs.Once.{text_once};
 ghost use Rattle.tl_pass.specs.Reports.{IsTaken};
 
 use crate::denial::{Denial, denial_of_audit, denial_of_fragments};
-use crate::fault::Fault;
-use crate::files::{fragments_of, script_of, topology_of};
 use crate::midway::push_lead_ins;
 use crate::picking::{Trouble, Written, order_of, write_audit, write_once};
-use crate::progress::{Gauge, SoFar};
 use crate::share::share_of;
-use crate::turns::report_in_turn;
 use std::alloc::{AllocError, Global};
 use std::rt::Files;
 use std::sync::Arc;
 use std::thread::Threads;
 use tl_beats::Fragment;
 use tl_check::{Judges, Plain, Report, report_text, run_once_beside};
+use tl_files::{Fault, Gauge, SoFar, fragments_of, script_of, topology_of};
 use tl_midway::Midway;
 use tl_options::{Capture, How, View};
 use tl_pass::{Found, Taken};
@@ -29,6 +26,7 @@ use tl_show::Shown;
 use tl_stream::Sieve;
 use tl_text::{ByteOut, write_all};
 use tl_topology::Topo;
+use tl_turns::report_in_turn;
 
 /// What one report with so many rows comes to.
 pub fn report_of(rows: u64) -> Outcome {

@@ -2,13 +2,12 @@
 
 ghost use Rattle.tl_script.specs.Text.{IsCommand};
 
-use crate::fault::Fault;
-use crate::files::script_of;
 use crate::settling::settlement_line;
 use std::alloc::{AllocError, Global};
 use std::rt::Files;
 use tl_beats::Watch;
 use tl_edits::{Edit, EditFault, Log};
+use tl_files::{Fault, script_of};
 use tl_script::{Asked, Command, ScriptFault, Spot, Visitor, asked_by, refusal_line, visit_all};
 use tl_topology::{RegionMap, Topo};
 

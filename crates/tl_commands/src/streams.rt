@@ -2,11 +2,7 @@
 
 ghost use Rattle.std.specs.Prelude.{◌≡◌, ◌<◌, ◌^◌, OnOk};
 
-use crate::chain::Chain;
-use crate::fault::Fault;
-use crate::files::topology_of;
 use crate::midway::law_line;
-use crate::paths::files_of;
 use crate::reports::{Ending, ending_without, report_of};
 use crate::setup::{Setup, setup_of};
 use crate::share::share_of;
@@ -15,6 +11,7 @@ use std::rt::Files;
 use std::sync::Arc;
 use std::thread::Threads;
 use tl_beats::Watch;
+use tl_files::{Chain, Fault, files_of, topology_of};
 use tl_options::StreamOptions;
 use tl_show::ShownStream;
 use tl_stream::{

@@ -1,8 +1,5 @@
 //! Which file a fault is of, and its sentence.
 
-use crate::fault::Fault;
-use crate::files::{Seen, is_passed, line_after, seen_at, whole_topology};
-use crate::paths::{files_of, list_of};
 use crate::share::share_of;
 use std::alloc::{AllocError, Global};
 use std::rt::Files;
@@ -13,6 +10,7 @@ use tl_advice::{
 };
 use tl_beats::{Fragment, FragmentFault, parse_whole_fragment};
 use tl_edits::{Change, Edit, EditFault, Log};
+use tl_files::{Fault, Seen, files_of, is_passed, line_after, list_of, seen_at, whole_topology};
 use tl_options::StreamOptions;
 use tl_script::log_of;
 use tl_stream::{Share, Sieve};

@@ -2,10 +2,7 @@
 
 ghost use Rattle.std.specs.Prelude.{◌<◌, ◌^◌};
 
-use crate::fault::Fault;
-use crate::files::{all_fragments_of, topology_of};
 use crate::picking::{Trouble, link_of};
-use crate::progress::Gauge;
 use crate::reports::{Ending, ending_without, report_of};
 use std::alloc::{AllocError, Global};
 use std::fs;
@@ -15,6 +12,7 @@ use std::thread::Threads;
 use tl_beats::{Fragment, Row};
 use tl_check::{all_added, scratch};
 use tl_edits::Inputs;
+use tl_files::{Fault, Gauge, all_fragments_of, topology_of};
 use tl_options::Picture;
 use tl_rows::{Drawing, row_named};
 use tl_tables::rule_text;

@@ -11,7 +11,7 @@ use Rattle.tl_check.specs.declared.once.OnceFault.{OnceFault}
 use Rattle.tl_check.specs.declared.once.OnceFault.TheVariants as once
 use Rattle.tl_script.specs.Audits.{audit_code_of, audit_number_of}
 use Rattle.tl_script.specs.declared.audit.AuditFault.{AuditFault}
-use Rattle.tl_commands.specs.declared.fault.Fault.{Fault}
+use Rattle.tl_files.specs.declared.fault.Fault.{Fault}
 
 abbrev pub of_topology : TopoFault → Fault
 of_topology found = record { code = topo.code_of found; number = topo.number_of found }

@@ -1,8 +1,8 @@
 use Rattle.std.proofs.Common.{None, ◌++◌, [], sym, subst}
 use Rattle.std.specs.List.{flat_map}
 use Rattle.tl_pass.specs.Parts.{AreParts}
-use Rattle.tl_commands.proofs.BesideLaws.{all_parts}
-use Rattle.tl_commands.proofs.beside.rows_beside.Goals as goal
+use Rattle.tl_turns.proofs.BesideLaws.{all_parts}
+use Rattle.tl_turns.proofs.beside.rows_beside.Goals as goal
 
 pub loop-round-preserved : goal.loop-round-preserved
 loop-round-preserved g c =

@@ -81,7 +81,7 @@ impl From<WriteFault> for Fault {
 }
 
 impl From<TopoFault> for Fault {
-    ghost use Rattle.tl_commands.specs.Faults.{of_topology};
+    ghost use Rattle.tl_files.specs.Faults.{of_topology};
 
     ghost from_gives = { λ found fault. fault ≡ of_topology found };
 
@@ -94,7 +94,7 @@ impl From<TopoFault> for Fault {
 }
 
 impl From<FragmentFault> for Fault {
-    ghost use Rattle.tl_commands.specs.Faults.{of_fragment};
+    ghost use Rattle.tl_files.specs.Faults.{of_fragment};
 
     ghost from_gives = { λ found fault. fault ≡ of_fragment found };
 
@@ -110,7 +110,7 @@ impl From<FragmentFault> for Fault {
 }
 
 impl From<TextFault> for Fault {
-    ghost use Rattle.tl_commands.specs.Faults.{of_text};
+    ghost use Rattle.tl_files.specs.Faults.{of_text};
 
     ghost from_gives = { λ found fault. fault ≡ of_text found };
 
@@ -127,7 +127,7 @@ impl From<TextFault> for Fault {
 }
 
 impl From<OnceFault> for Fault {
-    ghost use Rattle.tl_commands.specs.Faults.{of_once};
+    ghost use Rattle.tl_files.specs.Faults.{of_once};
 
     ghost from_gives = { λ found fault. fault ≡ of_once found };
 
@@ -144,7 +144,7 @@ impl From<OnceFault> for Fault {
 }
 
 impl From<AuditFault> for Fault {
-    ghost use Rattle.tl_commands.specs.Faults.{of_audit};
+    ghost use Rattle.tl_files.specs.Faults.{of_audit};
 
     ghost from_gives = { λ found fault. fault ≡ of_audit found };
 

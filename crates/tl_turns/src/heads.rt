@@ -1,10 +1,10 @@
 //! The first lines of the files of fragments, and an order in which few fragments are held at a time.
 
-use crate::fault::Fault;
 use std::alloc::{AllocError, Global};
 use std::fs;
 use std::rt::Files;
 use tl_beats::{Fragment, FragmentFault, parse_fragment};
+use tl_files::Fault;
 use tl_pass::has_no_caches;
 use tl_text::{ByteIn, CountedReader, line};
 use tl_topology::Topo;
@@ -14,7 +14,7 @@ const LINE_BYTES: usize = 256;
 
 /// What is judged apart.
 #[derive(Clone, Copy, Debug, PartialEq, Eq)]
-pub(crate) enum Parts {
+pub enum Parts {
     /// All links of a manager, where some link has caches.
     Managers,
     /// Each link by itself, where none has caches.
@@ -33,11 +33,11 @@ fn parts_of(topo: &Topo) -> Parts {
 /// What the first line of a file says of its fragment. Heads are ordered by their parts, and those of a part by the first cycles of their
 /// ranges.
 #[derive(Clone, Copy, Debug, PartialEq, Eq, PartialOrd, Ord)]
-pub(crate) struct Head {
+pub struct Head {
     /// The number of the manager, or of the link that is judged by itself.
-    pub(crate) part: u16,
+    pub part: u16,
     first: u64,
-    pub(crate) link: u16,
+    pub link: u16,
     number: u32,
     last: u64,
     /// The place of the file among all.
@@ -46,25 +46,25 @@ pub(crate) struct Head {
 
 /// Some heads in a row.
 #[derive(Clone, Copy)]
-pub(crate) struct Stretch {
+pub struct Stretch {
     /// The place of the first among all.
     from: usize,
-    pub(crate) count: usize,
+    pub count: usize,
 }
 
 impl Stretch {
     /// None, before the head at this place.
-    pub(crate) fn at(from: usize) -> Stretch {
+    pub fn at(from: usize) -> Stretch {
         Stretch { from, count: 0 }
     }
 
     /// Has the next one too.
-    pub(crate) fn grow(&mut self) {
+    pub fn grow(&mut self) {
         self.count = self.count.saturating_add(1);
     }
 
     /// The heads, of all.
-    pub(crate) fn of<'a>(self, heads: &'a [Head]) -> &'a [Head] {
+    pub fn of<'a>(self, heads: &'a [Head]) -> &'a [Head] {
         let end = self.from.saturating_add(self.count);
         heads.get(self.from..end).unwrap_or(&[])
     }
@@ -72,19 +72,19 @@ impl Stretch {
 
 /// Files of fragments, in the order in which a pass takes them.
 #[derive(Clone, Copy)]
-pub(crate) struct Queue<'a> {
+pub struct Queue<'a> {
     files: &'a [String],
-    pub(crate) heads: &'a [Head],
+    pub heads: &'a [Head],
 }
 
 impl<'a> Queue<'a> {
     /// The files of which these are the heads.
-    pub(crate) fn new(files: &'a [String], heads: &'a [Head]) -> Queue<'a> {
+    pub fn new(files: &'a [String], heads: &'a [Head]) -> Queue<'a> {
         Queue { files, heads }
     }
 
     /// Those of the files that have these heads.
-    pub(crate) fn only(self, heads: &'a [Head]) -> Queue<'a> {
+    pub fn only(self, heads: &'a [Head]) -> Queue<'a> {
         Queue {
             files: self.files,
             heads,
@@ -92,7 +92,7 @@ impl<'a> Queue<'a> {
     }
 
     /// The path of the file with the head at this place.
-    pub(crate) fn path(self, place: usize) -> Result<&'a str, Fault> {
+    pub fn path(self, place: usize) -> Result<&'a str, Fault> {
         match self.heads.get(place) {
             Some(head) => self.path_of(head),
             None => Err(Fault::FILE),
@@ -100,7 +100,7 @@ impl<'a> Queue<'a> {
     }
 
     /// The path of the file with this head.
-    pub(crate) fn path_of(self, head: &Head) -> Result<&'a str, Fault> {
+    pub fn path_of(self, head: &Head) -> Result<&'a str, Fault> {
         match self.files.get(head.file) {
             Some(path) => Ok(path.as_str()),
             None => Err(Fault::FILE),
@@ -194,7 +194,7 @@ fn are_rising(alloc: Global, links: usize, heads: &[Head]) -> Result<bool, Alloc
 
 /// The order in which a pass takes the fragments of files: part by part, and those of a part by the first cycles of their ranges. None
 /// where a file has no head, or the fragments of a link that is judged with others don't rise by number and range.
-pub(crate) fn in_turn<R: Files + AllocGlobal>(
+pub fn in_turn<R: Files + AllocGlobal>(
     rt: &R,
     topo: &Topo,
     files: &[String],

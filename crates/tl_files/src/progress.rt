@@ -171,7 +171,7 @@ impl<'r, 'e, R: Clock + AllocGlobal, E: ByteOut> Listener for Progress<'r, 'e, R
 
 /// Nobody is told.
 #[derive(Drop)]
-pub(crate) struct Untold;
+pub struct Untold;
 
 impl Gauge for Untold {
     fn tell(&mut self, _so_far: SoFar) {}
@@ -179,7 +179,7 @@ impl Gauge for Untold {
 
 /// How many files were read of those that are to be.
 #[derive(Drop)]
-pub(crate) struct FilesRead<'g, G: Gauge> {
+pub struct FilesRead<'g, G: Gauge> {
     gauge: &'g mut G,
     read: usize,
     all: usize,
@@ -188,7 +188,7 @@ pub(crate) struct FilesRead<'g, G: Gauge> {
 
 impl<'g, G: Gauge> FilesRead<'g, G> {
     /// None of so many.
-    pub(crate) fn none_of(all: usize, gauge: &'g mut G) -> FilesRead<'g, G> {
+    pub fn none_of(all: usize, gauge: &'g mut G) -> FilesRead<'g, G> {
         FilesRead {
             gauge,
             read: 0,
@@ -198,7 +198,7 @@ impl<'g, G: Gauge> FilesRead<'g, G> {
     }
 
     /// Counts a file of so many bytes, and tells how many were read.
-    pub(crate) fn count(&mut self, bytes: u64) {
+    pub fn count(&mut self, bytes: u64) {
         self.read = self.read.saturating_add(1);
         self.bytes = self.bytes.saturating_add(bytes);
         self.gauge.tell(SoFar::Files {

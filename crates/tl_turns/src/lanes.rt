@@ -5,14 +5,13 @@ ghost use Rattle.tl_beats.specs.Fragments.{Frag};
 ghost use Rattle.tl_pass.specs.Reports.{IsTaken};
 
 use crate::beside::count_files;
-use crate::files::bytes_of;
 use crate::heads::{Head, Queue, Stretch};
-use crate::progress::{FilesRead, Gauge, Untold};
 use crate::turns::FileSupply;
 use std::alloc::{AllocError, Global};
 use std::rt::Files;
 use std::thread::Threads;
 use tl_apart::LinkFeed;
+use tl_files::{FilesRead, Gauge, Untold, bytes_of};
 use tl_pass::{Beside, Hitch, Lanes, Taken, feed_all, has_no_caches};
 use tl_stream::Sieve;
 use tl_topology::Topo;
@@ -24,7 +23,7 @@ const LEAST_WORKERS: u8 = 3;
 const ROUND_BYTES: u64 = 8_388_608;
 
 /// Whether links of files are to be judged beside each other: some have caches, there are several, and so are threads.
-pub(crate) fn are_lanes(topo: &Topo, heads: &[Head], workers: u8) -> bool {
+pub fn are_lanes(topo: &Topo, heads: &[Head], workers: u8) -> bool {
     let Some(first) = heads.first() else {
         return false;
     };
@@ -101,7 +100,7 @@ impl<'r, 'a, 'q, R: Files + AllocGlobal> Lanes for FileLanes<'r, 'a, 'q, R> {
 }
 
 /// The rows of the fragments of files, of which this thread and so many beside it read and judge some links' each.
-pub(crate) fn rows_of_lanes<R: Files + Threads + Sync + AllocGlobal, G: Gauge>(
+pub fn rows_of_lanes<R: Files + Threads + Sync + AllocGlobal, G: Gauge>(
     rt: &R,
     sieve: Sieve<'_>,
     queue: Queue<'_>,

@@ -9,7 +9,7 @@ use std::rt::Files;
 
 /// Files that are read one after another, each opened once the one before it is at its end.
 #[derive(Drop)]
-pub(crate) struct Chain<'a, R: Files> {
+pub struct Chain<'a, R: Files> {
     files: &'a R,
     file: Option<R::File>,
     // Those that are to come, the next one last.
@@ -18,7 +18,7 @@ pub(crate) struct Chain<'a, R: Files> {
 
 impl<'a, R: Files> Chain<'a, R> {
     /// These files, of which the first is opened. FILE where it can't be.
-    pub(crate) fn new(files: &'a R, mut paths: Vec<String>) -> Result<Chain<'a, R>, Fault> {
+    pub fn new(files: &'a R, mut paths: Vec<String>) -> Result<Chain<'a, R>, Fault> {
         paths.reverse();
         let file = match paths.pop() {
             Some(path) => Some(opened(files, path.as_str())?),

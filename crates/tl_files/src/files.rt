@@ -33,17 +33,17 @@ pub fn topology_of<R: Files + AllocGlobal>(rt: &R, path: &str) -> Result<Topo, F
 }
 
 /// How many lines end in a text.
-pub(crate) fn line_ends(text: &[u8]) -> u64 {
+pub fn line_ends(text: &[u8]) -> u64 {
     text.iter().filter(|byte| **byte == b'\n').count() as u64
 }
 
 /// The number of the line that begins after these lines.
-pub(crate) fn line_after(lines: &[u8]) -> u64 {
+pub fn line_after(lines: &[u8]) -> u64 {
     line_ends(lines).saturating_add(1)
 }
 
 /// The topology that a whole text is; bytes after its last line are BadLine of the next.
-pub(crate) fn whole_topology(alloc: Global, text: &[u8]) -> Result<Topo, TopoFault> {
+pub fn whole_topology(alloc: Global, text: &[u8]) -> Result<Topo, TopoFault> {
     let (topo, used) = read_topo(alloc, text)?;
     if used == text.len() {
         Ok(topo)
@@ -65,7 +65,7 @@ fn fragment_text<R: Files + AllocGlobal>(rt: &R, path: &str) -> Result<Vec<u8>, 
 }
 
 /// Whether a whole text is that of a fragment that is not checked.
-pub(crate) fn is_passed(alloc: Global, sieve: Sieve<'_>, text: &[u8]) -> Result<bool, AllocError> {
+pub fn is_passed(alloc: Global, sieve: Sieve<'_>, text: &[u8]) -> Result<bool, AllocError> {
     match sieve.share.passed(alloc, sieve.topo, text)? {
         Some(passed) => Ok(passed.bytes == text.len()),
         None => Ok(false),
@@ -86,7 +86,7 @@ fn fragment_in(
 }
 
 /// Reads a fragment's file into a page.
-pub(crate) fn fill_page<R: Files + AllocGlobal, G: Gauge>(
+pub fn fill_page<R: Files + AllocGlobal, G: Gauge>(
     rt: &R,
     path: &str,
     page: &mut Page,
@@ -103,7 +103,7 @@ pub(crate) fn fill_page<R: Files + AllocGlobal, G: Gauge>(
 }
 
 /// The fragment of a file, if it is checked.
-pub(crate) fn fragment_at<R: Files + AllocGlobal, G: Gauge>(
+pub fn fragment_at<R: Files + AllocGlobal, G: Gauge>(
     rt: &R,
     path: &str,
     sieve: Sieve<'_>,
@@ -226,7 +226,7 @@ fn fragments_beside<R: Files + Threads + Sync + AllocGlobal, G: Gauge>(
 }
 
 /// How many bytes a file has; none where it can't be asked.
-pub(crate) fn bytes_of<R: Files>(rt: &R, path: &str) -> u64 {
+pub fn bytes_of<R: Files>(rt: &R, path: &str) -> u64 {
     match fs::metadata(rt, path) {
         Ok(found) => found.len(),
         Err(_) => 0,
@@ -234,7 +234,7 @@ pub(crate) fn bytes_of<R: Files>(rt: &R, path: &str) -> u64 {
 }
 
 /// Whether all of these are files of their own. What a pipe gives can't be had again, and may never come.
-pub(crate) fn are_files<R: Files + AllocGlobal>(rt: &R, paths: &[String]) -> bool {
+pub fn are_files<R: Files + AllocGlobal>(rt: &R, paths: &[String]) -> bool {
     for path in paths {
         match fs::metadata(rt, path.as_str()) {
             Ok(found) if found.is_file() => {}
@@ -245,7 +245,7 @@ pub(crate) fn are_files<R: Files + AllocGlobal>(rt: &R, paths: &[String]) -> boo
 }
 
 /// The files that words stand for, up to the first word whose files can't be had, and why they can't.
-pub(crate) fn listed<R: Files + AllocGlobal + Clone + Drop>(
+pub fn listed<R: Files + AllocGlobal + Clone + Drop>(
     rt: &R,
     words: &[&str],
 ) -> Result<(Vec<String>, Option<Fault>), Fault> {
@@ -261,7 +261,7 @@ pub(crate) fn listed<R: Files + AllocGlobal + Clone + Drop>(
 
 /// The fragments of the files that words stand for, of those that are checked, read by so many threads beside this one, where none is a
 /// pipe. The gauge is told of each file that was read. The fault is that of the first file or word that has one.
-pub(crate) fn fragments_of<R: Files + Threads + Sync + AllocGlobal + Clone + Drop, G: Gauge>(
+pub fn fragments_of<R: Files + Threads + Sync + AllocGlobal + Clone + Drop, G: Gauge>(
     rt: &R,
     words: &[&str],
     sieve: Sieve<'_>,
@@ -282,7 +282,7 @@ pub(crate) fn fragments_of<R: Files + Threads + Sync + AllocGlobal + Clone + Dro
 }
 
 /// The fragments of the files that words stand for, whatever their managers are, read by this thread alone.
-pub(crate) fn all_fragments_of<R: Files + Threads + Sync + AllocGlobal + Clone + Drop, G: Gauge>(
+pub fn all_fragments_of<R: Files + Threads + Sync + AllocGlobal + Clone + Drop, G: Gauge>(
     rt: &R,
     topo: &Topo,
     words: &[&str],
@@ -307,7 +307,7 @@ pub fn script_of<R: Files + AllocGlobal>(rt: &R, path: &str) -> Result<Vec<u8>, 
 
 /// What stands at a path.
 #[derive(Drop)]
-pub(crate) enum Seen {
+pub enum Seen {
     /// There is nothing.
     Nothing,
     /// A folder.
@@ -360,11 +360,7 @@ fn seen_there<R: Files + AllocGlobal>(
 }
 
 /// What stands at the path of a file of this role, which is read again.
-pub(crate) fn seen_at<R: Files + AllocGlobal>(
-    rt: &R,
-    path: &str,
-    role: Role,
-) -> Result<Seen, Fault> {
+pub fn seen_at<R: Files + AllocGlobal>(rt: &R, path: &str, role: Role) -> Result<Seen, Fault> {
     match fs::metadata(rt, path) {
         Ok(found) => seen_there(rt, path, role, &found),
         Err(error) => Ok(unseen(&error)),

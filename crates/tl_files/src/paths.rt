@@ -130,13 +130,13 @@ fn push_list<R: Files + AllocGlobal + Clone + Drop>(
 }
 
 /// The list that a word of the command line names, if it names one: that of `@LIST` is LIST.
-pub(crate) fn list_of(word: &str) -> Option<&str> {
+pub fn list_of(word: &str) -> Option<&str> {
     word.strip_prefix('@')
 }
 
 /// The files that a word of the command line stands for: those of a folder in the order of their names, those of the lines of LIST for
 /// `@LIST`, standard input for `-`, or its own. FILE where a folder or a list can't be read, or has no file.
-pub(crate) fn files_of<R: Files + AllocGlobal + Clone + Drop>(
+pub fn files_of<R: Files + AllocGlobal + Clone + Drop>(
     rt: &R,
     word: &str,
 ) -> Result<Vec<String>, Fault> {

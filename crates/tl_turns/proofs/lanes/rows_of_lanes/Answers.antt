@@ -1,6 +1,6 @@
 use Rattle.std.proofs.Common.{◌++◌}
 use Rattle.std.specs.List.{flat_map}
-use Rattle.tl_commands.proofs.lanes.rows_of_lanes.Goals as goal
+use Rattle.tl_turns.proofs.lanes.rows_of_lanes.Goals as goal
 
 pub loop-round-preserved : goal.loop-round-preserved
 loop-round-preserved g c =

@@ -6,7 +6,7 @@ use Rattle.tl_beats.specs.Fragments.{Frag}
 use Rattle.tl_pass.specs.Parts.{AreParts, IsPart}
 use Rattle.tl_pass.specs.declared.part.Part.{Part}
 use Rattle.tl_pass.specs.declared.pass.Hitch.{Hitch}
-use Rattle.tl_commands.specs.Beside.{IsJudged, AreJudged}
+use Rattle.tl_turns.specs.Beside.{IsJudged, AreJudged}
 
 one_of : (topo : Topology) (found : Result Part Hitch) → IsJudged topo found → (fs : List Frag) × IfOk found (IsPart None topo fs)
 one_of topo (Ok part) had = had

@@ -5,17 +5,14 @@ ghost use Rattle.tl_beats.specs.Fragments.{Frag};
 ghost use Rattle.tl_pass.specs.Reports.{IsTaken};
 
 use crate::beside::{groups_of, rows_beside};
-use crate::fault::Fault;
-use crate::files::{are_files, fragment_at, listed};
 use crate::heads::{Queue, in_turn};
 use crate::lanes::{are_lanes, rows_of_lanes};
-use crate::page::Page;
-use crate::progress::{FilesRead, Gauge};
 use std::alloc::Global;
 use std::rt::Files;
 use std::sync::Arc;
 use std::thread::Threads;
 use tl_beats::Fragment;
+use tl_files::{Fault, FilesRead, Gauge, Page, are_files, fragment_at, listed};
 use tl_midway::Midway;
 use tl_options::How;
 use tl_pass::{Hitch, Supply, Taken, report_of};
@@ -26,7 +23,7 @@ const MOST_EDITS: usize = 65_536;
 
 /// Why a pass does not go on that needs a file with this fault. Which fault is told is found by looking at the files in the order of the
 /// words.
-pub(crate) fn hitch_of(fault: Fault) -> Hitch {
+pub fn hitch_of(fault: Fault) -> Hitch {
     if fault == Fault::MEMORY {
         Hitch::Memory
     } else {
@@ -36,7 +33,7 @@ pub(crate) fn hitch_of(fault: Fault) -> Hitch {
 
 /// Files of fragments, each of which is read into one page when it is wanted.
 #[derive(Drop)]
-pub(crate) struct FileSupply<'r, 'a, 'p, 'g, R, G: Gauge> {
+pub struct FileSupply<'r, 'a, 'p, 'g, R, G: Gauge> {
     rt: &'r R,
     sieve: Sieve<'a>,
     queue: Queue<'a>,
@@ -47,7 +44,7 @@ pub(crate) struct FileSupply<'r, 'a, 'p, 'g, R, G: Gauge> {
 
 impl<'r, 'a, 'p, 'g, R: Files + AllocGlobal, G: Gauge> FileSupply<'r, 'a, 'p, 'g, R, G> {
     /// The files of a queue, none of which was read.
-    pub(crate) fn new(
+    pub fn new(
         rt: &'r R,
         sieve: Sieve<'a>,
         queue: Queue<'a>,
@@ -120,7 +117,7 @@ where
 /// What is found in the fragments of the files that words stand for, of a whole run or of a capture that begins so, which are read in an
 /// order in which few are held, and judged by so many threads beside this one; None where they have to be held together: where a file can't
 /// be read again or has a fault, fragments don't rise, or some links of a capture from the middle of a run have caches and others none.
-pub(crate) fn report_in_turn<R: Files + Threads + Sync + AllocGlobal + Clone + Drop, G: Gauge>(
+pub fn report_in_turn<R: Files + Threads + Sync + AllocGlobal + Clone + Drop, G: Gauge>(
     rt: &R,
     sieve: Sieve<'_>,
     words: &[&str],

@@ -4,15 +4,14 @@ ghost use Rattle.std.specs.Prelude.{◌<◌, List, None, IfOk};
 ghost use Rattle.tl_beats.specs.Fragments.{Frag};
 ghost use Rattle.tl_pass.specs.Parts.{IsPart};
 ghost use Rattle.tl_pass.specs.Reports.{IsTaken};
-ghost use Rattle.tl_commands.specs.Beside.{AreJudged};
+ghost use Rattle.tl_turns.specs.Beside.{AreJudged};
 
-use crate::files::bytes_of;
 use crate::heads::{Head, Queue, Stretch};
-use crate::progress::{FilesRead, Gauge, Untold};
 use crate::turns::FileSupply;
 use std::alloc::{AllocError, Global};
 use std::rt::Files;
 use std::thread::{Threads, map_indices};
+use tl_files::{FilesRead, Gauge, Untold, bytes_of};
 use tl_pass::{Hitch, Links, Part, Taken, Whole, can_part};
 use tl_stream::Sieve;
 use tl_topology::Topo;
@@ -22,7 +21,7 @@ const FILES_EACH: usize = 128;
 
 /// Fragments of links that are judged apart from all others, by their heads.
 #[derive(Clone, Copy)]
-pub(crate) struct Group {
+pub struct Group {
     links: Links,
     heads: Stretch,
 }
@@ -96,7 +95,7 @@ fn are_apart(topo: &Topo, groups: &[Group]) -> bool {
 
 /// The groups that so many threads beside this one judge, of fragments in the order in which a pass takes them; none where their links
 /// can't be judged apart.
-pub(crate) fn groups_of(
+pub fn groups_of(
     alloc: Global,
     topo: &Topo,
     heads: &[Head],
@@ -158,7 +157,7 @@ where
 }
 
 /// Counts the files with these heads.
-pub(crate) fn count_files<R: Files, G: Gauge>(
+pub fn count_files<R: Files, G: Gauge>(
     rt: &R,
     queue: Queue<'_>,
     heads: &[Head],
@@ -184,7 +183,7 @@ fn count_groups<R: Files, G: Gauge>(
 }
 
 /// The rows of the fragments of files, of which this thread and so many beside it read and judge a group each.
-pub(crate) fn rows_beside<R: Files + Threads + Sync + AllocGlobal, G: Gauge>(
+pub fn rows_beside<R: Files + Threads + Sync + AllocGlobal, G: Gauge>(
     rt: &R,
     sieve: Sieve<'_>,
     queue: Queue<'_>,

@@ -10,14 +10,14 @@ const FIRST_BYTES: usize = 65_536;
 
 /// The text of the last file that was read into it. Its room is used again for the next.
 #[derive(Drop)]
-pub(crate) struct Page {
+pub struct Page {
     bytes: Vec<u8>,
     used: usize,
 }
 
 impl Page {
     /// It has no text.
-    pub(crate) fn new(alloc: Global) -> Page {
+    pub fn new(alloc: Global) -> Page {
         Page {
             bytes: Vec::new(alloc),
             used: 0,
@@ -25,7 +25,7 @@ impl Page {
     }
 
     /// The text.
-    pub(crate) fn text(&self) -> &[u8] {
+    pub fn text(&self) -> &[u8] {
         if self.used <= self.bytes.len() {
             &self.bytes[..self.used]
         } else {
@@ -34,7 +34,7 @@ impl Page {
     }
 
     /// Reads the input to its end, of at most so many bytes. The faults are those of `read_text`; then the text is that of no file.
-    pub(crate) fn fill<I: ByteIn>(&mut self, input: &mut I, limit: u64) -> Result<(), TextFault>
+    pub fn fill<I: ByteIn>(&mut self, input: &mut I, limit: u64) -> Result<(), TextFault>
         requires limit { limit ≤ 2 ^ 32 }
         requires reads { I.read_count input.old < 2 ^ 63 }
         requires failures { I.failure_count input.old < 2 ^ 63 }

@@ -1,8 +1,9 @@
 //! What is said of files, of lines and of edits, whatever the text is.
 
 use crate::causes::{Advice, Cause};
-use crate::kinds::{Kind, Role};
+use crate::kinds::Kind;
 use tl_edits::EditFault;
+use tl_script::Role;
 use tl_topology::Topo;
 
 /// What is said of a text of another role than its place among the words.

@@ -1,31 +1,9 @@
 //! What kind of file some bytes are, told by how they begin.
 
-ghost use Rattle.std.specs.Prelude.{◌≤◌, ◌^◌};
-
 use crate::fields::field_at;
 use crate::forms::form_of_command;
+use tl_script::Role;
 use tl_show::first_line;
-
-/// What the words of the command line name.
-#[derive(Clone, Copy, Debug, PartialEq, Eq)]
-pub enum Role {
-    Topology,
-    Fragment,
-    Script,
-}
-
-impl Role {
-    /// The most bytes that its file has.
-    pub fn most(self) -> u64
-        ensures { result ≤ 2 ^ 32 }
-    {
-        match self {
-            Role::Topology => 1_048_576,
-            Role::Fragment => 8_388_608,
-            Role::Script => 67_108_864,
-        }
-    }
-}
 
 /// What a file is, where it is told by its first bytes.
 #[derive(Clone, Copy, Debug, PartialEq, Eq)]

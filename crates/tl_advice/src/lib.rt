@@ -20,7 +20,7 @@ mod tallies;
 pub use advice::edit_cause;
 pub use causes::{Advice, Cause};
 pub use doctor::{Diagnosis, diagnose};
-pub use kinds::{Role, kind_of};
+pub use kinds::kind_of;
 pub use places::{Line, Look, More, Place, Sentence};
 pub use refusals::{Script, script_sentences};
 pub use sentences::{Home, fragment_cause, length_cause, line_of, topology_cause};

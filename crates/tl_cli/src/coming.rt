@@ -11,14 +11,13 @@ use std::fs;
 use std::io::Read;
 use std::rt::Files;
 use std::sync::{Arc, OnceLock};
-use tl_advice::Role;
 use tl_beats::Watch;
 use tl_check::Report;
 use tl_commands::{Ending, Fault, Gauge, LineCounter, topology_of};
 use tl_edits::Log;
 use tl_options::How;
 use tl_run::{ComingFault, Maker, Making, Showing, carry_out_coming, run_nothing};
-use tl_script::Outcome;
+use tl_script::{Outcome, Role};
 use tl_text::{ByteIn, ByteOut, ReadFailed, TextFault};
 use tl_topology::Topo;
 

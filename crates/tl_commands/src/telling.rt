@@ -5,14 +5,14 @@ use std::alloc::{AllocError, Global};
 use std::rt::Files;
 use std::sync::Arc;
 use tl_advice::{
-    Advice, Cause, Home, Line, Look, Place, Role, Script, Sentence, edit_cause, fragment_cause,
-    kind_of, length_cause, line_at, line_of, script_sentences, topology_cause,
+    Advice, Cause, Home, Line, Look, Place, Script, Sentence, edit_cause, fragment_cause, kind_of,
+    length_cause, line_at, line_of, script_sentences, topology_cause,
 };
 use tl_beats::{Fragment, FragmentFault, parse_whole_fragment};
 use tl_edits::{Change, Edit, EditFault, Log};
 use tl_files::{Fault, Seen, files_of, is_passed, line_after, list_of, seen_at, whole_topology};
 use tl_options::StreamOptions;
-use tl_script::log_of;
+use tl_script::{Role, log_of};
 use tl_stream::{Share, Sieve};
 use tl_topology::{Topo, TopoFault, read_topo};
 

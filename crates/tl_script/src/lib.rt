@@ -10,6 +10,7 @@ pub mod laws;
 mod line;
 mod reading;
 mod replies;
+mod role;
 mod stop;
 mod visiting;
 
@@ -20,5 +21,6 @@ pub use fault::ScriptFault;
 pub use input::read_script;
 pub use reading::{monitors_of, read_command};
 pub use replies::{edit_line, refusal_line};
+pub use role::Role;
 pub use stop::{Outcome, Stop, StopCause};
 pub use visiting::{End, Spot, Visitor, visit_all};

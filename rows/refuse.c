@@ -2,7 +2,8 @@
    pthread_create by the program's own code, not by the C library, are counted from 1; those from REFUSE_FIRST to REFUSE_LAST fail.
    The file REFUSE_TALLY, of 16 bytes, has the count of calls, and how many blocks the program holds, however it ends. Each read of
    the file that BAD_FILE names gives at most BAD_STEP bytes, and none from BAD_FROM on: it fails there, as on a disk with a bad
-   sector. */
+   sector. Where FULL_STEP is set, each write to standard output takes at most so many bytes, and none after FULL_FROM: it fails there,
+   as on a full disk, or tells that it took none, where FULL_TAKES_NONE is 1. */
 #define _GNU_SOURCE
 #include <dlfcn.h>
 #include <errno.h>
@@ -28,6 +29,7 @@ struct tally {
 };
 
 typedef ssize_t reader(int, void *, size_t);
+typedef ssize_t writer(int, const void *, size_t);
 typedef int starter(pthread_t *, const pthread_attr_t *, void *(*)(void *), void *);
 
 static struct tally nowhere;
@@ -37,6 +39,10 @@ static uint64_t last_refused;
 static const char *bad_file;
 static uint64_t bad_from;
 static uint64_t bad_step;
+static uint64_t full_from;
+static uint64_t full_step;
+static uint64_t full_takes_none;
+static _Atomic uint64_t written;
 static uintptr_t own_begin;
 static uintptr_t own_end;
 
@@ -73,6 +79,9 @@ __attribute__((constructor)) static void begin(void) {
     bad_file = getenv("BAD_FILE");
     bad_from = number_in("BAD_FROM");
     bad_step = number_in("BAD_STEP");
+    full_from = number_in("FULL_FROM");
+    full_step = number_in("FULL_STEP");
+    full_takes_none = number_in("FULL_TAKES_NONE");
     dl_iterate_phdr(find_own, NULL);
 }
 
@@ -136,4 +145,18 @@ ssize_t read(int file, void *into, size_t size) {
     }
     uint64_t most = bad_from - at < bad_step ? bad_from - at : bad_step;
     return next(file, into, size < most ? size : most);
+}
+
+ssize_t write(int file, const void *from, size_t size) {
+    writer *next = (writer *)dlsym(RTLD_NEXT, "write");
+    if (file != STDOUT_FILENO || !full_step) return next(file, from, size);
+    uint64_t at = atomic_load(&written);
+    if (at >= full_from) {
+        errno = ENOSPC;
+        return full_takes_none ? 0 : -1;
+    }
+    uint64_t most = full_from - at < full_step ? full_from - at : full_step;
+    ssize_t taken = next(file, from, size < most ? size : most);
+    if (taken > 0) atomic_fetch_add(&written, taken);
+    return taken;
 }

@@ -1,6 +1,6 @@
-//! Tests of the program without its process, and of what it stands on, that no clause speaks for and no run of it shows: reads and
-//! writes that fail or are short, monitors of a user's own that a run lacks, what a cell holds while its monitor is out, calls that
-//! the program has no need of, and faults as a user of the libraries prints them.
+//! Tests of what the program stands on, that no clause speaks for and no run of it shows: reads and writes that fail or are short,
+//! monitors of a user's own that a run lacks, what a cell holds while its monitor is out, calls that the program has no need of, and
+//! faults as a user of the libraries prints them.
 #![tactic(auto)]
 
 #[cfg(test)]
@@ -23,7 +23,5 @@ mod reads;
 mod streams;
 #[cfg(test)]
 mod text;
-#[cfg(test)]
-mod words;
 #[cfg(test)]
 mod writes;

@@ -8,7 +8,3 @@ pub(crate) const REPLY: &str = "fragment dma0 2 20 29\n20 D 1 0 3 0 0 0 0\nend\n
 
 /// The same in a script, with a report.
 pub(crate) const SCRIPT: &str = "add 45\nfragment dma0 2 20 29\n20 D 1 0 3 0 0 0 0\nend\npublish\n";
-
-/// The topology with the script after it.
-pub(crate) const INPUT: &str =
-    "topo 1\nmanager m0 64\nlink dma0 m0 ul 8 3 2\nend\nadd 45\nfragment dma0 2 20 29\n20 D 1 0 3 0 0 0 0\nend\npublish\n";

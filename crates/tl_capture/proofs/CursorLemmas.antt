@@ -1,5 +1,5 @@
 -- What cursors have left.
-use Rattle.std.proofs.Common.{◌≡◌, ℕ, suc, ◌+◌, ◌<◌, inl, inr, true, false, ◌||◌, ◌&&◌, List, [], ◌∷◌, get_or, refl, sym, ap, subst, ◌∙◌, arith}
+use Rattle.std.proofs.Common.{◌≡◌, ℕ, zero, suc, length, take, take_all, drop, length-drop, ◌+◌, ◌-◌, ◌<◌, inl, inr, true, false, ◌||◌, ◌&&◌, List, [], ◌∷◌, get_or, refl, sym, ap, subst, ◌∙◌, arith}
 use Rattle.std.specs.Prelude.{◌==◌, nat_lt}
 use Rattle.std.specs.declared.cmp.Ordering.TheVariants.{Less}
 use Rattle.std.specs.Ordering.{nat_cmp, ordering_then}
@@ -29,6 +29,28 @@ pub rising_tail : (a : Beat) (beats : List Beat) → AreRising (a ∷ beats) →
 rising_tail a beats s k d lt =
     let next : suc k + 1 ≡ suc (k + 1) = omega arith in
     subst (λ n. rises (get_or (a ∷ beats) (suc k) d) (get_or (a ∷ beats) n d) ≡ true) next (s (suc k) d (omega arith))
+
+pub rising_drop : (n : ℕ) (a : Beat) (beats : List Beat) → AreRising (a ∷ beats) → AreRising (drop n beats)
+rising_drop zero a beats s = rising_tail a beats s
+rising_drop (suc n) a [] s = rising_tail a [] s
+rising_drop (suc n) a (b ∷ beats) s = rising_drop n b beats (rising_tail a (b ∷ beats) s)
+
+pub placed_drop : (link number line n : ℕ) (beats : List Beat) → drop n (placed_from link number line beats) ≡ placed_from link number (line + n) (drop n beats)
+placed_drop link number line zero beats = ap (λ k. placed_from link number k beats) (let e : line ≡ line + 0 = omega arith in e)
+placed_drop link number line (suc n) [] = refl
+placed_drop link number line (suc n) (b ∷ beats) = placed_drop link number (line + 1) n beats ∙ ap (λ k. placed_from link number k (drop n beats)) (let e : line + 1 + n ≡ line + suc n = omega arith in e)
+
+-- What a slice has from n on.
+pub from_on : (n : ℕ) (beats : List Beat) → take (length beats - n) (drop n beats) ≡ drop n beats
+from_on n beats = take_all (length beats - n) (drop n beats) (let many = length-drop n beats in omega (arith, many))
+
+-- They are of their link.
+pub placed_link : (link number line : ℕ) (beats : List Beat) (p : Placed) → Contains (placed_from link number line beats) p → p.link ≡ link
+placed_link link number line [] p h = absurd (contains_none p h)
+placed_link link number line (b ∷ beats) p h = elim (contains_cases _ (placed_from link number (line + 1) beats) p h) [
+  | inl is ↦ ap (λ (q : Placed). q.link) (sym is)
+  | inr there ↦ placed_link link number (line + 1) beats p there
+]
 
 abbrev placed_at : ℕ → ℕ → ℕ → Beat → Placed
 placed_at link number line beat = record { link = link; fragment = number; line = line; beat = beat }

@@ -16,6 +16,7 @@ pub mod MatchLemmas
 pub mod TurnLemmas
 pub mod CursorLemmas
 pub mod StackLemmas
+pub mod AheadLemmas
 pub mod SpanLemmas
 pub mod EndedLemmas
 pub mod KeyLemmas

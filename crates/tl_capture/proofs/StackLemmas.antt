@@ -252,25 +252,31 @@ rest_apart : (cs under : List Cursor) (top : Cursor) → AreReady cs → cs ≡ 
 rest_apart cs under top ready is =
     apart_tail (here top) (after top ++ all_left under) (left_apart cs (top ∷ under) (subst (λ xs. IsPermutation xs (top ∷ under)) (sym is) (IsPermutation-to_front under top)) (apart_of (all_left cs) ready.apart))
 
+apart_drop : (n : ℕ) (ps qs : List Placed) → AreApart (ps ++ qs) → AreApart (drop n ps ++ qs)
+apart_drop zero ps qs apart = apart
+apart_drop (suc n) [] qs apart = apart
+apart_drop (suc n) (p ∷ ps) qs apart = apart_drop n ps qs (apart_tail p (ps ++ qs) apart)
+
 -- Behind its last beat the others are left.
-pub top_ends : (cs under ds : List Cursor) (top : Cursor) → AreReady cs → cs ≡ under ++ top ∷ [] → after top ≡ [] → ds ≡ under → AreReady ds × (in_turn cs ≡ here top ∷ in_turn ds)
-top_ends cs under ds top ready is end same =
-    let own : AreApart (all_left under) = subst (λ ps. AreApart (ps ++ all_left under)) end (rest_apart cs under top ready is) in (
+pub top_ends : (cs under ds : List Cursor) (top : Cursor) (n : ℕ) → AreReady cs → cs ≡ under ++ top ∷ [] → drop n (after top) ≡ [] → ds ≡ under
+    → AreReady ds × (in_turn ds ≡ in_order (drop n (after top) ++ all_left under))
+top_ends cs under ds top n ready is end same =
+    let own : AreApart (all_left under) = subst (λ ps. AreApart (ps ++ all_left under)) end (apart_drop n (after top) (all_left under) (rest_apart cs under top ready is)) in (
       subst AreReady (sym same) (record { stacked = under_stacked cs under top ready is; apart = order_strict (all_left under) own }),
-      top_first cs under top ready is ∙ ap (λ ps. here top ∷ in_order (ps ++ all_left under)) end ∙ ap (λ xs. here top ∷ in_turn xs) (sym same),
+      ap in_turn same ∙ ap (λ ps. in_order (ps ++ all_left under)) (sym end),
     )
 
 -- Otherwise it is put among them again.
-pub top_moves : (cs under ds : List Cursor) (top m : Cursor) → AreReady cs → cs ≡ under ++ top ∷ [] → beats_left m ≡ after top → IsPermutation (m ∷ under) ds → AreStacked ds
-    → AreReady ds × (in_turn cs ≡ here top ∷ in_turn ds)
-top_moves cs under ds top m ready is rest moved stacked =
-    let own : AreApart (all_left (m ∷ under)) = subst (λ ps. AreApart (ps ++ all_left under)) (sym rest) (rest_apart cs under top ready is) in (
+pub top_moves : (cs under ds : List Cursor) (top m : Cursor) (n : ℕ) → AreReady cs → cs ≡ under ++ top ∷ [] → beats_left m ≡ drop n (after top) → IsPermutation (m ∷ under) ds → AreStacked ds
+    → AreReady ds × (in_turn ds ≡ in_order (drop n (after top) ++ all_left under))
+top_moves cs under ds top m n ready is rest moved stacked =
+    let own : AreApart (all_left (m ∷ under)) = subst (λ ps. AreApart (ps ++ all_left under)) (sym rest) (apart_drop n (after top) (all_left under) (rest_apart cs under top ready is)) in (
       record { stacked = stacked; apart = order_strict (all_left ds) (left_apart (m ∷ under) ds moved own) },
-      top_first cs under top ready is ∙ ap (λ ps. here top ∷ in_order (ps ++ all_left under)) (sym rest) ∙ ap (λ ps. here top ∷ ps) (left_order (m ∷ under) ds moved own),
+      sym (left_order (m ∷ under) ds moved own) ∙ ap (λ ps. in_order (ps ++ all_left under)) rest,
     )
 
-pub moved_untied : (cs under : List Cursor) (top m : Cursor) → AreReady cs → cs ≡ under ++ top ∷ [] → beats_left m ≡ after top → AreUntied m under
-moved_untied cs under top m ready is rest = untied m under (subst (λ ps. AreApart (ps ++ all_left under)) (sym rest) (rest_apart cs under top ready is))
+pub moved_untied : (cs under : List Cursor) (top m : Cursor) (n : ℕ) → AreReady cs → cs ≡ under ++ top ∷ [] → beats_left m ≡ drop n (after top) → AreUntied m under
+moved_untied cs under top m n ready is rest = untied m under (subst (λ ps. AreApart (ps ++ all_left under)) (sym rest) (apart_drop n (after top) (all_left under) (rest_apart cs under top ready is)))
 
 -- ---- the start of a walk
 

@@ -8,6 +8,7 @@ pub mod Parts
 pub mod Rising
 pub mod Cursors
 pub mod Waiting
+pub mod Runs
 pub mod Walk
 pub mod Keys
 pub mod Tallies

@@ -1,6 +1,6 @@
 //! What is left of one fragment.
 
-ghost use Rattle.std.specs.Prelude.{◌≡◌, ◌∷◌, ◌+◌, ◌≤◌, ◌<◌, ◌^◌, [], length, MatchOption};
+ghost use Rattle.std.specs.Prelude.{◌≡◌, ◌∷◌, ◌+◌, ◌≤◌, ◌<◌, ◌^◌, [], length, drop, MatchOption};
 ghost use Rattle.tl_capture.specs.Rising.{AreRising};
 
 use std::cmp::Ordering;
@@ -53,15 +53,17 @@ impl<'a> Cursor<'a> {
         }
     }
 
-    /// What is left after the next beat; None where that was the last.
-    pub(crate) fn moved(&self) -> Option<Cursor<'a>>
-        ensures { MatchOption result (after self.now ≡ []) (λ c. beats_left c ≡ after self.now) }
+    /// What is left after the next beat and so many after that; None where nothing is.
+    pub(crate) fn moved(&self, more: usize) -> Option<Cursor<'a>>
+        requires { more ≤ length self.now.rest.now }
+        ensures { MatchOption result (drop more (after self.now) ≡ []) (λ c. beats_left c ≡ drop more (after self.now)) }
     {
-        let (next, rest) = self.rest.split_first()?;
+        let left = &self.rest[more..];
+        let (next, rest) = left.split_first()?;
         Some(Cursor {
             link: self.link,
             fragment: self.fragment,
-            line: self.line + 1,
+            line: self.line + 1 + more as u32,
             next,
             rest,
         })

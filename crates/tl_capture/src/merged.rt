@@ -7,6 +7,7 @@ ghost use Rattle.tl_definitions.specs.Positions.{position_order};
 ghost use Rattle.tl_capture.specs.Waiting.{in_turn};
 
 use crate::cursor::Cursor;
+use crate::runs::Runs;
 use crate::waiting::{go_on, stacked};
 use std::marker::Model;
 use tl_beats::Placed;
@@ -40,6 +41,15 @@ impl<'a> Merged<'a> {
             cursors: stacked(cursors),
         }
     }
+
+    /// The same walk, several beats of a fragment at a time.
+    pub fn runs(self) -> Runs<'a>
+        ensures { in_turn result ≡ self.entry }
+    {
+        Runs {
+            cursors: self.cursors,
+        }
+    }
 }
 
 impl<'a> Iterator for Merged<'a> {
@@ -51,7 +61,7 @@ impl<'a> Iterator for Merged<'a> {
 
     fn next(&mut self) -> Option<Placed> {
         let top = *self.cursors.last()?;
-        go_on(&mut self.cursors, top);
+        go_on(&mut self.cursors, top, 0);
         Some(top.here())
     }
 }

@@ -1,9 +1,9 @@
 //! Cursors in a stack, the one whose next beat is least on top.
 
-ghost use Rattle.std.specs.Prelude.{◌≡◌, ◌∷◌, ◌++◌, ◌<◌, [], length, vec_len, vec_capacity};
+ghost use Rattle.std.specs.Prelude.{◌≡◌, ◌∷◌, ◌++◌, ◌<◌, ◌≤◌, [], length, drop, vec_len, vec_capacity};
 ghost use Rattle.std.specs.List.Sorted.{IsPermutation, IsStrictlySortedBy};
-ghost use Rattle.tl_definitions.specs.Positions.{position_order};
-ghost use Rattle.tl_capture.specs.Cursors.{here};
+ghost use Rattle.tl_definitions.specs.Positions.{position_order, in_order};
+ghost use Rattle.tl_capture.specs.Cursors.{here, after, all_left};
 ghost use Rattle.tl_capture.specs.Waiting.{under_top, in_turn, AreStacked, AreUntied, AreReady};
 
 use crate::cursor::Cursor;
@@ -80,14 +80,16 @@ fn drop_top<'a>(cursors: &mut Vec<Cursor<'a>>)
     cursors.pop();
 }
 
-/// Goes on after the next beat of the top, which is read.
-pub(crate) fn go_on<'a>(cursors: &mut Vec<Cursor<'a>>, top: Cursor<'a>)
+/// Goes on after the next beat of the top, which is read, and so many of its fragment's after that.
+pub(crate) fn go_on<'a>(cursors: &mut Vec<Cursor<'a>>, top: Cursor<'a>, more: usize)
     requires ready { AreReady cursors.old.items }
     requires top { cursors.old.items ≡ under_top cursors.old.items ++ top ∷ [] }
+    requires within { more ≤ length top.rest.now }
     ensures ready { AreReady cursors.new.items }
-    ensures left { in_turn cursors.old.items ≡ here top.entry ∷ in_turn cursors.new.items }
+    ensures next { in_turn cursors.old.items ≡ here top.entry ∷ in_order (after top.entry ++ all_left (under_top cursors.old.items)) }
+    ensures left { in_turn cursors.new.items ≡ in_order (drop more (after top.entry) ++ all_left (under_top cursors.old.items)) }
 {
-    match top.moved() {
+    match top.moved(more) {
         Some(moved) => put(cursors, moved),
         None => drop_top(cursors),
     }

@@ -2,8 +2,11 @@ pub mod ListLaws
 pub mod LinkLaws
 pub mod StateLaws
 pub mod StepLaws
+pub mod RunLaws
+pub mod RunStates
 pub mod JoinLaws
 pub mod WalkedLaws
+pub mod AheadLaws
 pub mod CaptureLaws
 pub mod CleanLaws
 pub mod MonitorLaws

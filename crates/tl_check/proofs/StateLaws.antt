@@ -79,10 +79,10 @@ opening_stands m state rises many opening stands counted =
 
 -- ---- lists with one item changed
 
-get_set_same : {X : Type 0} (xs : List X) (i : ℕ) (v : X) → i < length xs → slice_get (set xs i v) i ≡ Some v
+pub get_set_same : {X : Type 0} (xs : List X) (i : ℕ) (v : X) → i < length xs → slice_get (set xs i v) i ≡ Some v
 get_set_same xs i v within = slice_get-get_or (set xs i v) i v (simp length-set (omega arith)) ∙ ap Some (get_or-set_same xs i v v within)
 
-get_set_other : {X : Type 0} (xs : List X) (i j : ℕ) (v : X) → j ≢ i → slice_get (set xs i v) j ≡ slice_get xs j
+pub get_set_other : {X : Type 0} (xs : List X) (i j : ℕ) (v : X) → j ≢ i → slice_get (set xs i v) j ≡ slice_get xs j
 get_set_other xs i j v ne =
     elim (nat_lt j (length xs)) as (λ b. nat_lt j (length xs) ≡ b → slice_get (set xs i v) j ≡ slice_get xs j) [
       | true ↦ λ h. let within : j < length xs = grind (arith, nat_tests) in
@@ -91,7 +91,7 @@ get_set_other xs i j v ne =
           slice_get_past (set xs i v) j (simp length-set (omega arith)) ∙ sym (slice_get_past xs j past)
     ] refl
 
-link_cases : (a b : ℕ) → (a ≡ b) ⊎ ((b ≢ a) × ((a == b) ≡ false))
+pub link_cases : (a b : ℕ) → (a ≡ b) ⊎ ((b ≢ a) × ((a == b) ≡ false))
 link_cases a b = elim (a == b) as (λ t. (a == b) ≡ t → (a ≡ b) ⊎ ((b ≢ a) × ((a == b) ≡ false))) [
   | true ↦ λ h. inl (grind (arith, nat_tests))
   | false ↦ λ h. inr ((λ e. grind (arith, nat_tests)), h)

@@ -1,5 +1,6 @@
 pub mod Links
 pub mod States
+pub mod Runs
 pub mod Jobs
 pub mod Laws
 pub mod Captured

@@ -1,6 +1,6 @@
 //! What the beats of a manager leave for those that come.
 
-ghost use Rattle.std.specs.Prelude.{◌≡◌, ◌<◌, ◌++◌, List, [], None, Some, length, IfSome, IfOk, OnOk};
+ghost use Rattle.std.specs.Prelude.{◌≡◌, ◌<◌, ◌≤◌, ◌++◌, ℕ, List, [], None, Some, length, take, IfSome, IfOk, OnOk};
 ghost use Rattle.std.specs.Bool.{Decides};
 ghost use Rattle.tl_topology.specs.Regions.{Area, areas_of};
 ghost use Rattle.tl_topology.specs.Topology.{IsSound};
@@ -8,6 +8,7 @@ ghost use Rattle.tl_beats.specs.Beats.{IsWellFormed};
 ghost use Rattle.tl_definitions.specs.Heads.{message_of};
 ghost use Rattle.tl_definitions.specs.Judging.{judged_next, judged_rules};
 ghost use Rattle.tl_definitions.specs.Managers.{manager_at};
+ghost use Rattle.tl_definitions.specs.Positions.{placed_from};
 ghost use Rattle.tl_definitions.specs.Rules.{Manager};
 ghost use Rattle.tl_client_rules.specs.Clients.{place_of};
 ghost use Rattle.tl_client_rules.specs.Manager as managers;
@@ -15,16 +16,17 @@ ghost use Rattle.tl_client_rules.specs.Manager.{AreSettled};
 ghost use Rattle.tl_state.specs.SameItems.{SameItems};
 ghost use Rattle.tl_check.specs.Links.{SameLink, AreOpening};
 ghost use Rattle.tl_link_rules.specs.Flow.{answered_in};
+ghost use Rattle.tl_check.specs.Runs.{HasRun};
 ghost use Rattle.tl_check.specs.States.{shown, rows_at, burst_at, flow_at, HasLink, IsOf, StandsFor, SameSpan, AreFormed, Serves};
 
 use crate::links::LinkState;
 use crate::rows::add_rows;
 use std::alloc::{AllocError, Global};
-use tl_beats::{Placed, Request, Row};
+use tl_beats::{Beat, Placed, Request, Row};
 use tl_client_rules::ManagerState;
 use tl_link_rules::{check_head, check_later, keeps_burst, keeps_format};
 use tl_state::Same;
-use tl_tables::{Op, op_of};
+use tl_tables::{Chan, Op, op_of};
 use tl_topology::{LinkDecl, RegionMap, Topo};
 
 /// All that the beats of a manager so far leave for those that come: for each link what is unfinished and in flight, for each
@@ -125,7 +127,19 @@ impl SpanState {
         }
     }
 
-    /// The same where the beat is a head. Most heads are seen to break no rule, and then no list of rules is made.
+    /// Goes on with the beats at the front of these, of a link of the manager, that belong to the burst which is unfinished on a channel, and
+    /// are seen to break no rule; answers how many they are.
+    pub(crate) fn run(&mut self, link: u16, chan: Chan, beats: &[Beat]) -> usize
+        requires link { HasLink self.old link }
+        ensures within { result ≤ length beats.now }
+        ensures run { (m : Manager) (fragment line : ℕ) → IsOf m self.old
+            → HasRun m self.old self.new (placed_from link fragment line (take result beats.now)) }
+    {
+        let place = self.place(link);
+        self.links[place].bursts.run(chan, beats)
+    }
+
+    /// The same as `step` where the beat is a head. Most heads are seen to break no rule, and then no list of rules is made.
     fn step_head(
         &mut self,
         alloc: Global,

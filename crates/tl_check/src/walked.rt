@@ -1,21 +1,24 @@
 //! The check of a window.
 
-ghost use Rattle.std.specs.Prelude.{◌≡◌, ◌<◌, length, IfOk};
+ghost use Rattle.std.specs.Prelude.{◌≡◌, ◌<◌, ◌≤◌, ℕ, length, take, IfOk};
 ghost use Rattle.std.specs.List.{All, Contains};
 ghost use Rattle.std.specs.List.Sorted.{IsStrictlySortedBy};
 ghost use Rattle.tl_topology.specs.Regions.{areas_of};
 ghost use Rattle.tl_topology.specs.Topology.{IsSound};
 ghost use Rattle.tl_beats.specs.Beats.{IsWellFormed};
 ghost use Rattle.tl_definitions.specs.Managers.{declared_links, manager_at};
-ghost use Rattle.tl_definitions.specs.Positions.{clients_of, position_order};
+ghost use Rattle.tl_definitions.specs.Positions.{clients_of, placed_from, position_order};
+ghost use Rattle.tl_definitions.specs.Rules.{Manager};
+ghost use Rattle.tl_capture.specs.Runs.{IsAlone};
 ghost use Rattle.tl_check.specs.Jobs.{GoesOn, Judges, manager_from};
-ghost use Rattle.tl_check.specs.States.{IsOf};
+ghost use Rattle.tl_check.specs.Runs.{HasRun};
+ghost use Rattle.tl_check.specs.States.{HasLink, IsOf};
 
 use crate::sorted::sort_rows;
 use crate::state::SpanState;
 use std::alloc::{AllocError, Global};
 use tl_beats::Row;
-use tl_capture::Merged;
+use tl_capture::{Front, Merged, Runs};
 use tl_topology::{LinkDecl, RegionMap, Topo};
 
 /// The links of a topology, by number.
@@ -30,6 +33,22 @@ fn links_of(alloc: Global, topo: &Topo) -> Result<Vec<LinkDecl>, AllocError>
         }
     }
     Ok(links)
+}
+
+/// After the next beat of a walk, goes on with those after it in its fragment that belong to its burst and are seen to break no rule, where
+/// they may be taken ahead of what other fragments have left; answers how many they are.
+fn run_on<'a>(left: &Runs<'a>, front: &Front<'a>, state: &mut SpanState) -> usize
+    requires link { HasLink state.old front.now.at.link }
+    ensures within { result ≤ length front.now.rest.now }
+    ensures alone { 1 ≤ result → IsAlone left.now }
+    ensures run { (m : Manager) (fragment line : ℕ) → IsOf m state.old
+        → HasRun m state.old state.new (placed_from front.now.at.link fragment line (take result front.now.rest.now)) }
+{
+    if front.goes_on() && left.is_alone() {
+        state.run(front.at.link, front.at.beat.chan, front.rest)
+    } else {
+        0
+    }
 }
 
 /// Judges the beats that a walk has left, one after the other, from what a state shows; answers the rows of what they break, and the
@@ -50,9 +69,12 @@ fn walk_on<'a>(
     ensures { IfOk result (λ rows. GoesOn (manager_from links.now exponent (areas_of regions.now) state.old) state.old walk.entry state.new rows.items) }
 {
     let mut rows = Vec::new(alloc);
-    for at in walk {
-        let link = &links[usize::from(at.link)];
-        state.step(alloc, link, exponent, regions, &at, &mut rows)?;
+    let mut left = walk.runs();
+    while let Some(front) = left.front() {
+        let link = &links[usize::from(front.at.link)];
+        state.step(alloc, link, exponent, regions, &front.at, &mut rows)?;
+        let more = run_on(&left, &front, state);
+        left.pass(more);
     }
     Ok(rows)
 }

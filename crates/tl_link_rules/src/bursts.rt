@@ -1,11 +1,16 @@
 //! Heads and later beats: which beat of a link begins a message, and which belongs to an earlier one.
 
-ghost use Rattle.std.specs.Prelude.{◌≡◌, ◌≤◌, ℕ, List, [], option_map};
+ghost use Rattle.std.specs.Prelude.{◌≡◌, ◌≤◌, ℕ, List, [], true, length, option_map, take};
+ghost use Rattle.std.specs.List.{All};
+ghost use Rattle.tl_tables.specs.Messages.{same_chan};
 ghost use Rattle.tl_topology.specs.Topology.{IsSound};
+ghost use Rattle.tl_topology.specs.declared.LinkDecl.{LinkDecl as Link};
 ghost use Rattle.tl_beats.specs.Beats.{IsWellFormed};
+ghost use Rattle.tl_definitions.specs.Breaks.{later_rules};
 ghost use Rattle.tl_definitions.specs.Heads.{beat_count};
-ghost use Rattle.tl_link_rules.specs.Bursts.{SameBursts};
+ghost use Rattle.tl_link_rules.specs.Bursts.{IsQuiet, SameBursts};
 
+use crate::later::keeps_burst;
 use tl_beats::Beat;
 use tl_definitions::Unfinished;
 use tl_state::Same;
@@ -35,6 +40,32 @@ pub fn beat_count(link: &LinkDecl, beat: &Beat) -> u16
     }
 }
 
+/// Whether a beat is on the channel and is seen to break no rule as a later beat of a burst with this head.
+#[inline(always)]
+fn is_quiet(chan: Chan, head: &Beat, beat: &Beat) -> bool
+    ensures own { result ≡ true → same_chan beat.now.chan chan ≡ true }
+    ensures rules { result ≡ true → (link : Link) → later_rules link beat.now head.now ≡ [] }
+{
+    beat.chan == chan && keeps_burst(head, beat)
+}
+
+/// How many beats at the front of these, at most so many, are of the channel of a burst with this head and are seen to break no rule as
+/// its later beats.
+fn quiet_count(chan: Chan, head: &Beat, most: usize, beats: &[Beat]) -> usize
+    ensures most { result ≤ most }
+    ensures within { result ≤ length beats.now }
+    ensures quiet { All (IsQuiet chan head.now) (take result beats.now) }
+{
+    let mut count = 0;
+    while count < most {
+        match beats.get(count) {
+            Some(beat) if is_quiet(chan, head, beat) => count += 1,
+            _ => return count,
+        }
+    }
+    count
+}
+
 /// The bursts of one link that still miss beats, one for each channel. [TileLink 1.8: serialization]
 #[derive(Clone, Copy, Debug, PartialEq, Eq)]
 pub struct BurstState {
@@ -46,7 +77,7 @@ impl BurstState {
     ghost use Rattle.tl_tables.specs.declared.Chan.{Chan as AnyChan};
     ghost use Rattle.tl_beats.specs.declared.Placed.{Placed};
     ghost use Rattle.tl_definitions.specs.Heads.{before_on};
-    ghost use Rattle.tl_link_rules.specs.Bursts.{place_of, place_in, slots_after, slot_at, StandsFor, StandsWith};
+    ghost use Rattle.tl_link_rules.specs.Bursts.{place_of, place_in, slots_after, slots_with, slot_at, StandsFor, StandsWith, IsRun};
 
     /// The state of a link without beats.
     pub fn new() -> BurstState
@@ -86,6 +117,29 @@ impl BurstState {
                 }
             }
         }
+    }
+
+    /// The state with the beats at the front of these that go on with the burst which is unfinished on a channel, and are seen to break
+    /// no rule; answers how many they are. Where no burst is unfinished there, they are none.
+    pub fn run(&mut self, chan: Chan, beats: &[Beat]) -> usize
+        ensures within { result ≤ length beats.now }
+        ensures quiet { IsRun chan (slot_at self.old chan) (take result beats.now) }
+        ensures next { (other : AnyChan) → slot_at self.new other ≡ slots_with chan result (slot_at self.old) other }
+    {
+        let slot = &mut self.slots[chan_index(chan)];
+        let Some(burst) = slot else {
+            return 0;
+        };
+        let count = quiet_count(chan, &burst.head, usize::from(burst.missing), beats);
+        if count == 0 {
+            return 0;
+        }
+        if count == usize::from(burst.missing) {
+            *slot = None;
+        } else {
+            burst.missing -= count as u16;
+        }
+        count
     }
 
     /// What the next beat of the link is, a head or a later beat of its head, and the state with it. [TileLink 1.8:

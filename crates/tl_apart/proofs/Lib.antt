@@ -14,4 +14,5 @@ pub mod ListLaws
 pub mod NumberLaws
 pub mod OpeningLaws
 pub mod RowLaws
+pub mod RunLaws
 pub mod ToldLaws

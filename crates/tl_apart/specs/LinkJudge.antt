@@ -1,18 +1,21 @@
 -- What the judge of one link shows.
-use Rattle.std.specs.Prelude.{ℕ, ◌≡◌, ◌++◌, List, Option, Some, filter, if◌then◌else◌}
+use Rattle.std.specs.Prelude.{ℕ, ◌≡◌, ◌++◌, List, [], Option, Some, filter, if◌then◌else◌}
 use Rattle.tl_tables.specs.declared.Chan.{Chan}
 use Rattle.tl_tables.specs.declared.Op.{Op}
 use Rattle.tl_tables.specs.declared.Rule.{Rule}
 use Rattle.tl_tables.specs.Kinds.{is_grant}
+use Rattle.tl_tables.specs.Messages.{same_chan}
 use Rattle.tl_topology.specs.Regions.{areas_of}
 use Rattle.tl_beats.specs.Beats.{IsWellFormed}
 use Rattle.tl_beats.specs.declared.Beat.{Beat}
 use Rattle.tl_beats.specs.declared.Placed.{Placed}
 use Rattle.tl_definitions.specs.declared.Unfinished.{Unfinished}
 use Rattle.tl_definitions.specs.Judging.{message_in}
-use Rattle.tl_definitions.specs.LinkPasses.{LinkSnapshot}
+use Rattle.tl_definitions.specs.Events.{link_events}
+use Rattle.tl_definitions.specs.LinkPasses.{LinkSnapshot, link_judging}
 use Rattle.tl_definitions.specs.Messages.{Message, block_of, granted_block, sinks}
 use Rattle.tl_definitions.specs.OpenTables.{entry_after}
+use Rattle.tl_definitions.specs.Passes.{rows_judged, left_after}
 use Rattle.tl_definitions.specs.Rules.{Manager, breaks_flow, breaks_permission, flow_order, permission_order}
 use Rattle.tl_link_rules.specs.Bursts.{slot_at}
 use Rattle.tl_link_rules.specs.Flow as flow_state
@@ -60,3 +63,13 @@ granted_after exponent message granted = entry_after sinks (granted_block expone
 -- The block that an event tells, if it is known.
 abbrev pub told_block : ℕ → Message → Option ℕ
 told_block exponent message = if is_grant message.op then granted_block exponent message else Some (block_of exponent message)
+
+-- A snapshot with something else unfinished on a channel.
+abbrev pub with_burst : LinkSnapshot → Chan → Option Unfinished → LinkSnapshot
+with_burst s chan slot = record { burst = λ other. if same_chan chan other then slot else s.burst other; past = s.past }
+
+-- From what it showed the judge has gone on with these later beats of its link, which break no rule and tell nothing.
+pub record HasRun (m : Manager) (s : LinkSnapshot) (exponent : ℕ) (judge : LinkJudge) (run : List Placed) : Type 0 where
+  pub rows : rows_judged (link_judging m) s run ≡ []
+  pub events : link_events m s run ≡ []
+  pub shows : Shows exponent judge (left_after (link_judging m) s run)

@@ -1,6 +1,6 @@
 //! The judge of one link: what its beats break of the link's own rules, and what they tell its manager.
 
-ghost use Rattle.std.specs.Prelude.{◌≡◌, ◌++◌, ℕ, [], Some, None, map, IfSome, OnOk};
+ghost use Rattle.std.specs.Prelude.{◌≡◌, ◌≤◌, ◌++◌, ℕ, [], Some, None, length, map, take, IfSome, OnOk};
 ghost use Rattle.std.specs.Option.{option_map, option_and_then};
 ghost use Rattle.tl_topology.specs.Topology.{IsSound};
 ghost use Rattle.tl_beats.specs.Beats.{IsWellFormed};
@@ -11,7 +11,8 @@ ghost use Rattle.tl_definitions.specs.Judging.{request_in};
 ghost use Rattle.tl_definitions.specs.LinkPasses.{LinkSnapshot, link_rules, link_next, link_judging};
 ghost use Rattle.tl_definitions.specs.OpenTables.{passes};
 ghost use Rattle.tl_definitions.specs.Passes.{rows_judged, left_after};
-ghost use Rattle.tl_definitions.specs.Positions.{placed_beats};
+ghost use Rattle.tl_definitions.specs.Positions.{placed_beats, placed_from};
+ghost use Rattle.tl_definitions.specs.Rules.{Manager};
 ghost use Rattle.tl_capture.specs.Present.{recorded};
 ghost use Rattle.tl_link_rules.specs.Bursts.{slot_at};
 ghost use Rattle.tl_link_rules.specs.Flow as flow_state;
@@ -19,7 +20,7 @@ ghost use Rattle.tl_client_rules.specs.Client as client_state;
 ghost use Rattle.tl_state.specs.Slots.{slot_of};
 ghost use Rattle.tl_apart.specs.Events.{said};
 ghost use Rattle.tl_check.specs.Apart.{opening};
-ghost use Rattle.tl_apart.specs.LinkJudge.{Shows, AreFormed, ForShown, alone, is_message, message_rules, granted_after, told_block};
+ghost use Rattle.tl_apart.specs.LinkJudge.{Shows, AreFormed, ForShown, HasRun, alone, is_message, message_rules, granted_after, told_block};
 
 use crate::event::Event;
 use std::alloc::{AllocError, Global};
@@ -30,7 +31,7 @@ use tl_client_rules::{ClientState, block_of, claim, granted_block};
 use tl_link_rules::{BurstState, FlowState, check_head, check_later, keeps_burst, keeps_format};
 use tl_state::Slots;
 use tl_tables::{
-    Op, Perm, is_above, is_grant, is_grant_ack, is_of_block, is_probe, is_probe_ack, op_of,
+    Chan, Op, Perm, is_above, is_grant, is_grant_ack, is_of_block, is_probe, is_probe_ack, op_of,
 };
 use tl_topology::{LinkDecl, RegionMap};
 
@@ -157,7 +158,19 @@ impl LinkJudge {
         }
     }
 
-    /// The same where the beat is a head. Most heads are seen to break no rule, and then no list of rules is made.
+    /// Goes on with the beats at the front of these, of its link, that belong to the burst which is unfinished on a channel, and are seen to
+    /// break no rule; answers how many they are.
+    fn run(&mut self, chan: Chan, beats: &[Beat]) -> usize
+        requires { AreFormed self.old }
+        ensures within { result ≤ length beats.now }
+        ensures formed { AreFormed self.new }
+        ensures run { (m : Manager) (s : LinkSnapshot) (exponent number fragment line : ℕ) → Shows exponent self.old s
+            → HasRun m s exponent self.new (placed_from number fragment line (take result beats.now)) }
+    {
+        self.bursts.run(chan, beats)
+    }
+
+    /// The same as `step` where the beat is a head. Most heads are seen to break no rule, and then no list of rules is made.
     fn step_head(
         &mut self,
         alloc: Global,
@@ -390,16 +403,18 @@ impl LinkJudge {
             ≡ map said found.old.events.items ++ link_events m s (placed_beats (recorded link fragment.now)))) }
         ensures formed { AreFormed self.new }
     {
-        let mut line: u32 = 2;
-        for beat in fragment.beats() {
+        let beats = fragment.beats();
+        let mut place: usize = 0;
+        while place < beats.len() {
             let at = Placed {
                 link,
                 fragment: fragment.number(),
-                line,
-                beat: *beat,
+                line: place as u32 + 2,
+                beat: beats[place],
             };
             self.step(alloc, terms, &at, found)?;
-            line += 1;
+            place += 1;
+            place += self.run(at.beat.chan, &beats[place..]);
         }
         Ok(())
     }

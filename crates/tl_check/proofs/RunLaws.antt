@@ -55,7 +55,7 @@ same_is chan.E chan.B h = cc
 same_is chan.E chan.C h = cc
 same_is chan.E chan.D h = cc
 
-same_itself : (c : Chan) → same_chan c c ≡ true
+pub same_itself : (c : Chan) → same_chan c c ≡ true
 same_itself chan.A = refl
 same_itself chan.B = refl
 same_itself chan.C = refl
@@ -178,7 +178,7 @@ ahead_fewer link (p ∷ run) beats rest ahead =
 
 -- ---- later beats of one burst
 
-run_tail : (c : Chan) (head : Beat) (n : ℕ) (run : List Beat) → length run ≤ n → All (bursts.IsQuiet c head) run → IsRun c (left head n) run
+pub run_tail : (c : Chan) (head : Beat) (n : ℕ) (run : List Beat) → length run ≤ n → All (bursts.IsQuiet c head) run → IsRun c (left head n) run
 run_tail c head n run few all = elim (nat_lt 0 n) as (λ t. nat_lt 0 n ≡ t → IsRun c (cond t (Some (record { head = head; missing = n })) None) run) [
   | true ↦ λ e. (few, all)
   | false ↦ λ e. (let none : n ≡ 0 = grind (arith, nat_tests) in empty run (omega (arith, none, few)))
@@ -188,7 +188,7 @@ run_tail c head n run few all = elim (nat_lt 0 n) as (λ t. nat_lt 0 n ≡ t →
     empty [] h = refl
     empty (b ∷ run) h = absurd (omega arith)
 
-left_more : (head : Beat) (missing n : ℕ) → suc n ≤ missing → later_left n (left head (missing - 1)) ≡ left head (missing - suc n)
+pub left_more : (head : Beat) (missing n : ℕ) → suc n ≤ missing → later_left n (left head (missing - 1)) ≡ left head (missing - suc n)
 left_more head missing zero h = refl
 left_more head missing (suc n) h = elim (nat_lt 0 (missing - 1)) as (λ t. nat_lt 0 (missing - 1) ≡ t
     → later_left (suc n) (cond t (Some (record { head = head; missing = missing - 1 })) None) ≡ left head (missing - suc (suc n))) [

@@ -16,7 +16,7 @@ use Rattle.tl_text.specs.Readings.{◌>>>◌, or_fault, Gives}
 use Rattle.tl_text.proofs.Cuts.{is_free, word_again}
 use Rattle.tl_text.proofs.Numerals.{bind_some, number_again}
 use Rattle.tl_text.proofs.Spelling.{name_free, word_step, number_step, field_step, test_step, field_again, spaced_free, number_line, all_free, lines_again, same_lines, some_line}
-use Rattle.tl_topology.specs.Naming.{name_at}
+use Rattle.tl_text.specs.Naming.{name_at}
 use Rattle.tl_beats.specs.declared.Beat.{Beat}
 use Rattle.tl_beats.specs.declared.reading.Header.{Header}
 use Rattle.tl_beats.specs.declared.fault.FragmentFault.{FragmentFault}

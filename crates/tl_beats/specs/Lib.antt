@@ -1,4 +1,5 @@
 pub mod Beats
+pub mod Exact
 pub mod Faults
 pub mod Fragments
 pub mod Fronts

@@ -7,7 +7,7 @@ use Rattle.tl_text.specs.Names.{bit_at}
 use Rattle.tl_text.specs.Readings.{◌>>>◌, or_fault}
 use Rattle.tl_tables.specs.declared.Chan.{Chan}
 use Rattle.tl_tables.specs.declared.Chan.TheVariants as chan
-use Rattle.tl_topology.specs.Naming.{name_at}
+use Rattle.tl_text.specs.Naming.{name_at}
 use Rattle.tl_beats.specs.declared.Beat.{Beat}
 use Rattle.tl_beats.specs.declared.beat_line.Message.{Message}
 use Rattle.tl_beats.specs.declared.reading.Header.{Header}

@@ -14,7 +14,7 @@ use crate::fault::FragmentFault;
 use crate::places::judge;
 use std::alloc::{AllocError, Global};
 use std::marker::Model;
-use tl_topology::Name;
+use tl_text::Name;
 
 /// The accepted beats of one link in a range of cycles: at most 65,536, each in the range and strictly before the next
 /// by cycle and channel.

@@ -2,6 +2,7 @@
 #![tactic(auto)]
 
 mod beat_line;
+mod exact;
 mod fault;
 mod fragment;
 mod front_line;

@@ -18,8 +18,7 @@ use crate::fragment::Fragment;
 use crate::front_line::{FrontLine, beat_front, later_front};
 use crate::places::placed;
 use std::alloc::Global;
-use tl_text::{ByteIn, decimal, line, read_text, word};
-use tl_topology::Name;
+use tl_text::{ByteIn, Name, decimal, line, read_text, word};
 
 /// The most bytes of a fragment's text.
 const MOST_BYTES: u64 = 8_388_608;

@@ -5,7 +5,7 @@ ghost use Rattle.tl_beats.specs.Watches.{matches, link_of};
 
 use crate::Beat;
 use tl_tables::Chan;
-use tl_topology::Name;
+use tl_text::Name;
 
 /// A kind of beat: those on one channel with one opcode. Later beats of a burst are of it too.
 #[derive(Clone, Copy, Debug, PartialEq, Eq)]

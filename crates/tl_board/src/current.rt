@@ -8,7 +8,7 @@ ghost use Rattle.tl_board.specs.Tasks.{HasNumbers, IsCurrent};
 
 use crate::task::SpanTask;
 use tl_capture::Present;
-use tl_state::Exact;
+use tl_same::Exact;
 use tl_topology::{LinkDecl, Region, RegionMap, Topo};
 
 /// Whether two links are declared alike.

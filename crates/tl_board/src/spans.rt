@@ -23,7 +23,7 @@ use tl_beats::Row;
 use tl_capture::{PieceMap, Present};
 use tl_check::SpanState;
 use tl_edits::Log;
-use tl_state::Same;
+use tl_same::Same;
 use tl_topology::Topo;
 
 /// A log of edits, and the windows of all managers: of each window in which a manager has a beat its result, from when it was

@@ -2,7 +2,7 @@
 
 ghost use Rattle.tl_board.specs.Tally.{SameTally};
 
-use tl_state::Same;
+use tl_same::Same;
 
 /// What the beats of a monitor's windows leave for those after them.
 #[derive(Clone, Copy, Debug, PartialEq, Eq, Drop)]

@@ -13,7 +13,7 @@ ghost use Rattle.tl_definitions.specs.Positions.{beats_of_all};
 
 use std::alloc::{AllocError, Global};
 use tl_capture::{PieceKey, PieceMap, Present, Stored};
-use tl_state::Same;
+use tl_same::Same;
 
 /// The keys with one of these owners and one of these windows. AllocError where memory is refused.
 pub fn keys_of(alloc: Global, owners: &[u32], windows: &[u64]) -> Result<Vec<PieceKey>, AllocError>

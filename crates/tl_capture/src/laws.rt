@@ -4,7 +4,7 @@ ghost use Rattle.tl_capture.specs.Windows.{WindowsAreWhole, LinksAreKept, Channe
 ghost use Rattle.tl_capture.specs.Touch.{WindowsAreTheirBeats, PutsAreLocal, TakesAreLocal, ClearsAreLocal};
 ghost use Rattle.tl_capture.specs.BoardLaws.{ResultsMoveOn};
 
-use tl_state::Same;
+use tl_same::Same;
 
 /// The beats of the windows that have one, one after the other, are all beats.
 pub fn windows_are_whole()

@@ -15,7 +15,7 @@ use crate::openings::Openings;
 use crate::slot::{Change, Slot, Stored};
 use crate::slots::Slots;
 use std::sync::Arc;
-use tl_state::Same;
+use tl_same::Same;
 
 /// The exit of a result.
 pub(crate) fn exit<S, R>(stored: &Stored<S, R>) -> &Arc<S>

@@ -18,7 +18,7 @@ use crate::span::span_of;
 use crate::walks::Part;
 use crate::window_beats::{WindowBeats, count};
 use tl_beats::{Beat, Fragment};
-use tl_state::Exact;
+use tl_same::Exact;
 
 impl Present {
     /// Whether these are the beats of these links, whose numbers rise, in a window. It takes no memory; it costs a look for each

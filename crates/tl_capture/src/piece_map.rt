@@ -21,7 +21,7 @@ use crate::walk::Pieces;
 use std::alloc::{AllocError, Global};
 use std::marker::Model;
 use std::sync::Arc;
-use tl_state::Same;
+use tl_same::Same;
 
 /// Owners with their opening states, and the pieces of each: its windows that hold beats, with their results and their live
 /// tickets. A piece is wanted if it has no result, or if the exit before it is there and isn't its own entry: the exit of its

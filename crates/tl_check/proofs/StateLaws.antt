@@ -30,7 +30,7 @@ use Rattle.tl_client_rules.specs.Manager as managers
 use Rattle.tl_client_rules.specs.Clients.{place_of}
 use Rattle.tl_client_rules.specs.Manager.{ManagerView, client_at, client_in, client_there, opening_view, pasts_with}
 use Rattle.tl_client_rules.proofs.ClientsLaws.{placed_at, same_link, contained_place}
-use Rattle.tl_state.specs.SameItems.{SameItems, SameOption}
+use Rattle.tl_same.specs.SameItems.{SameItems, SameOption}
 use Rattle.tl_check.specs.declared.links.LinkState.{LinkState}
 use Rattle.tl_check.specs.declared.state.SpanState.{SpanState}
 use Rattle.tl_check.specs.Links.{IsNext, AreOpening, SameLink}

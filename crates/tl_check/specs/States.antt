@@ -18,7 +18,7 @@ use Rattle.tl_link_rules.specs.Bursts.{slot_at}
 use Rattle.tl_link_rules.specs.Flow as flow
 use Rattle.tl_client_rules.specs.Clients.{place_of}
 use Rattle.tl_client_rules.specs.Manager as managers
-use Rattle.tl_state.specs.SameItems.{SameItems}
+use Rattle.tl_same.specs.SameItems.{SameItems}
 use Rattle.tl_check.specs.Links.{SameLink}
 use Rattle.tl_check.specs.declared.links.LinkState.{LinkState}
 use Rattle.tl_check.specs.declared.state.SpanState.{SpanState}

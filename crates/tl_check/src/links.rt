@@ -11,7 +11,7 @@ ghost use Rattle.tl_check.specs.Links.{IsAnswer, IsNext, IsOpening, SameLink};
 use std::alloc::{AllocError, Global};
 use tl_beats::Beat;
 use tl_link_rules::{BurstState, FlowAnswer, FlowState};
-use tl_state::Same;
+use tl_same::Same;
 use tl_tables::Op;
 use tl_topology::LinkDecl;
 

@@ -7,7 +7,7 @@ ghost use Rattle.tl_beats.specs.declared.Row.{Row as AnyRow};
 ghost use Rattle.tl_definitions.specs.Report.{row_order};
 
 use tl_beats::Row;
-use tl_state::Exact;
+use tl_same::Exact;
 
 /// The items in order, each once.
 pub fn sort_once<T: Ord + Exact + Drop>(items: Vec<T>) -> Vec<T>

@@ -13,7 +13,7 @@ ghost use Rattle.tl_definitions.specs.Rules.{Manager};
 ghost use Rattle.tl_client_rules.specs.Clients.{place_of};
 ghost use Rattle.tl_client_rules.specs.Manager as managers;
 ghost use Rattle.tl_client_rules.specs.Manager.{AreSettled};
-ghost use Rattle.tl_state.specs.SameItems.{SameItems};
+ghost use Rattle.tl_same.specs.SameItems.{SameItems};
 ghost use Rattle.tl_check.specs.Links.{SameLink, AreOpening};
 ghost use Rattle.tl_link_rules.specs.Flow.{answered_in};
 ghost use Rattle.tl_check.specs.Runs.{HasRun};
@@ -25,7 +25,7 @@ use std::alloc::{AllocError, Global};
 use tl_beats::{Beat, Placed, Request, Row};
 use tl_client_rules::ManagerState;
 use tl_link_rules::{check_head, check_later, keeps_burst, keeps_format};
-use tl_state::Same;
+use tl_same::Same;
 use tl_tables::{Chan, Op, op_of};
 use tl_topology::{LinkDecl, RegionMap, Topo};
 

@@ -12,7 +12,7 @@ use Rattle.tl_tables.specs.declared.Op.{Op}
 use Rattle.tl_topology.specs.declared.LinkDecl.{LinkDecl}
 use Rattle.tl_beats.specs.declared.Beat.{Beat}
 use Rattle.tl_beats.specs.declared.Request.{Request}
-use Rattle.tl_state.specs.SameItems.{SameItems}
+use Rattle.tl_same.specs.SameItems.{SameItems}
 use Rattle.tl_definitions.specs.Positions.{clients_from}
 use Rattle.tl_definitions.specs.Past.{LinkPast, past_of}
 use Rattle.tl_definitions.specs.Rules.{breaks_permission, permission_order, breaks_manager, manager_order}

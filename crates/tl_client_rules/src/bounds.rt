@@ -12,7 +12,8 @@ ghost use Rattle.tl_client_rules.specs.Bounds.{bound_by};
 ghost use Rattle.tl_client_rules.specs.Holds.{perm_of};
 
 use std::alloc::{AllocError, Global};
-use tl_state::{BlockMap, Exact, Faithful, Same, ShareMap};
+use tl_same::{Exact, Faithful, Same};
+use tl_state::{BlockMap, ShareMap};
 use tl_tables::Perm;
 
 /// What a client can hold of a block at most, where that is something.

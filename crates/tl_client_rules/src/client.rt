@@ -15,7 +15,8 @@ use crate::open_blocks::OpenBlocks;
 use std::alloc::{AllocError, Global};
 use tl_beats::{Beat, Request};
 use tl_link_rules::RuleList;
-use tl_state::{BlockMap, Same};
+use tl_same::Same;
+use tl_state::BlockMap;
 use tl_tables::{
     Chan, Op, Perm, Rule, cap_of, from_of, is_above, is_acquire, is_grant, is_probe, is_probe_ack,
     is_release, is_release_ack, op_of, to_of,

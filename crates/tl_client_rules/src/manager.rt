@@ -10,7 +10,7 @@ ghost use Rattle.tl_definitions.specs.Positions.{clients_of};
 ghost use Rattle.tl_definitions.specs.Managers.{declared_links, manager_at};
 ghost use Rattle.tl_definitions.specs.Heads.{message_of};
 ghost use Rattle.tl_definitions.specs.Rules.{Manager, breaks_manager, manager_order, conflicts_with_other};
-ghost use Rattle.tl_state.specs.SameItems.{SameItems};
+ghost use Rattle.tl_same.specs.SameItems.{SameItems};
 ghost use Rattle.tl_client_rules.specs.Client as client_state;
 ghost use Rattle.tl_client_rules.specs.Client.{head_with, SameClient};
 ghost use Rattle.tl_client_rules.specs.Bounds.{IsSettled};
@@ -22,7 +22,7 @@ use crate::{ClientState, block_of, claim, granted_block};
 use std::alloc::{AllocError, Global};
 use tl_beats::{Beat, Request};
 use tl_link_rules::RuleList;
-use tl_state::Same;
+use tl_same::Same;
 use tl_tables::{Op, Perm, Rule, is_grant, is_probe, op_of};
 use tl_topology::{LinkDecl, Topo};
 

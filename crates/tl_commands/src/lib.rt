@@ -3,6 +3,7 @@
 
 mod denial;
 mod doctor;
+mod laws;
 mod merging;
 mod midway;
 mod pasts;
@@ -17,6 +18,7 @@ mod views;
 
 pub use denial::{Denial, denial_of_run, edits_in};
 pub use doctor::doctor_of_files;
+pub use laws::streams_are_apart;
 pub use merging::merge_of_files;
 pub use midway::midway_notes;
 pub use picking::Written;

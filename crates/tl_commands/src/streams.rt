@@ -11,12 +11,13 @@ use std::rt::Files;
 use std::sync::Arc;
 use std::thread::Threads;
 use tl_beats::Watch;
+use tl_check::{PlainRows, RowForm};
 use tl_files::{Chain, Fault, files_of, topology_of};
 use tl_options::StreamOptions;
 use tl_show::ShownStream;
 use tl_stream::{
-    Listener, Parsers, PlainRows, RowForm, Share, Source, Stream, StreamStop, TellFault, Teller,
-    stream_end, stream_input, stream_sources, tell_line,
+    Listener, Parsers, Share, Source, Stream, StreamStop, TellFault, Teller, stream_end,
+    stream_input, stream_sources, tell_line,
 };
 use tl_text::{ByteIn, ByteOut, CountedReader, write_all};
 

@@ -28,8 +28,7 @@ use Rattle.tl_client_rules.proofs.DeclaredLaws.{client_is_declared}
 use Rattle.tl_capture.proofs.PresentLemmas.{placed_is_of}
 use Rattle.tl_check.proofs.CaptureLaws.{capture_with, link_of_beat, number_below}
 use Rattle.tl_check.specs.Captured.{areas_at, captures_with, watch_capture, watch_captures, watched_beats}
-use Rattle.tl_stream.proofs.LawLemmas.{streams_tell_the_report}
-use Rattle.tl_formats.specs.Parts.{Share, has_link, own_fragments, own_watches, own_rows, HaveSameRegions, IsPart, PartsAreApart, StreamsAreApart}
+use Rattle.tl_formats.specs.Parts.{Share, has_link, own_fragments, own_watches, own_rows, HaveSameRegions, IsPart, PartsAreApart}
 
 -- ---- what is kept twice
 
@@ -255,12 +254,3 @@ parts_are_apart topo fs regions watches share whole part is other =
       (λ h. let kept = kept_from test whole row h in
           (other.report.members row).1 (whole_found topo share fs other.areas regions watches other.same row ((is.members row).0 kept.0) kept.1)),
     ))
-
-pub streams_are_apart : StreamsAreApart
-streams_are_apart topo fs regions share whole part is other =
-    parts_are_apart topo fs regions [] share whole part (streams_tell_the_report topo regions fs whole is.present is.rises is.members)
-    (record {
-      areas = regions;
-      same = λ manager t. refl;
-      report = streams_tell_the_report topo regions (own_fragments topo share fs) part other.present other.rises other.members;
-    })

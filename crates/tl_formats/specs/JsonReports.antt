@@ -9,7 +9,7 @@ use Rattle.tl_text.specs.Words.{◌>>=◌, ended, lines_of}
 use Rattle.tl_tables.specs.declared.Rule.{Rule}
 use Rattle.tl_tables.specs.declared.Rule.TheVariants as rule
 use Rattle.tl_tables.specs.Rules.{rule_number, rule_text_of}
-use Rattle.tl_topology.specs.Naming.{name_at}
+use Rattle.tl_text.specs.Naming.{name_at}
 use Rattle.tl_topology.specs.Topology.{Topology, number_of_name}
 use Rattle.tl_formats.specs.Merging.{IsByLink, Merges}
 use Rattle.tl_rows.specs.Choice.{named_rule}

@@ -1,7 +1,6 @@
 -- Some managers checked apart: what is theirs, and what their report has.
-use Rattle.std.specs.Prelude.{ℕ, ◌≡◌, ◌<◌, ◌↔◌, Bool, true, false, List, [], ◌∷◌, count_by, filter, length, map}
+use Rattle.std.specs.Prelude.{ℕ, ◌≡◌, ◌<◌, Bool, true, false, List, [], ◌∷◌, count_by, filter, length, map}
 use Rattle.std.specs.List.{Contains, flat_map}
-use Rattle.std.specs.List.Sorted.{IsStrictlySortedBy}
 use Rattle.std.specs.Option.{option_map_or}
 use Rattle.tl_topology.specs.Regions.{Area}
 use Rattle.tl_topology.specs.Topology.{Topology, number_of_name}
@@ -10,10 +9,8 @@ use Rattle.tl_beats.specs.declared.Row.{Row}
 use Rattle.tl_beats.specs.declared.watch.Watch.{Watch}
 use Rattle.tl_definitions.specs.Managers.{declared_links}
 use Rattle.tl_definitions.specs.Positions.{Recorded, links_of}
-use Rattle.tl_definitions.specs.Report.{IsReport, row_order}
-use Rattle.tl_capture.specs.Present.{IsPresent}
+use Rattle.tl_definitions.specs.Report.{IsReport}
 use Rattle.tl_check.specs.Captured.{areas_at, captures_with}
-use Rattle.tl_stream.specs.Laws.{IsTold}
 use Rattle.tl_formats.specs.Merging.{IsByLink}
 
 -- The managers of a share, by number.
@@ -50,17 +47,6 @@ pub record IsPart (topo : Topology) (fragments : List Recorded) (regions : List 
 abbrev pub PartsAreApart : Type 0
 PartsAreApart = (topo : Topology) (fragments : List Recorded) (regions : List (List (ℕ × Area))) (watches : List (ℕ × Watch)) (share : Share) (whole part : List Row)
     → IsReport (captures_with topo fragments regions watches) whole → IsPart topo fragments regions watches share part → part ≡ own_rows topo share whole
-
--- The rows are those that a stream of these fragments tells, in the order of reports.
-pub record AreTold (topo : Topology) (fragments : List Recorded) (regions : List (List (ℕ × Area))) (rows : List Row) : Type 0 where
-  pub present : IsPresent fragments
-  pub rises : IsStrictlySortedBy row_order rows
-  pub members : (row : Row) → Contains rows row ↔ IsTold topo (areas_at regions) fragments row
-
--- What a stream of a share's fragments tells are exactly those rows of what one of all fragments tells that are of its links.
-abbrev pub StreamsAreApart : Type 0
-StreamsAreApart = (topo : Topology) (fragments : List Recorded) (regions : List (List (ℕ × Area))) (share : Share) (whole part : List Row)
-    → AreTold topo fragments regions whole → AreTold topo (own_fragments topo share fragments) regions part → part ≡ own_rows topo share whole
 
 -- Each link is of exactly one of the shares.
 abbrev pub IsPartition : Topology → List Share → Type 0

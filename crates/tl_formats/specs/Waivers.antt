@@ -6,7 +6,7 @@ use Rattle.tl_text.specs.Words.{◌>>=◌, word_at}
 use Rattle.tl_text.specs.Numbers.{number_at}
 use Rattle.tl_text.specs.Readings.{◌>>>◌, or_fault}
 use Rattle.tl_tables.specs.declared.Rule.{Rule}
-use Rattle.tl_topology.specs.Naming.{name_at}
+use Rattle.tl_text.specs.Naming.{name_at}
 use Rattle.tl_topology.specs.Topology.{Topology, number_of_name}
 use Rattle.tl_rows.specs.declared.cycles.Cycles.{Cycles}
 use Rattle.tl_rows.specs.Choice.{named_rule}

@@ -1,17 +1,12 @@
 //! Managers apart, and together again. Each is the contract of a function that does nothing.
 
 ghost use Rattle.tl_formats.specs.JsonParts.{JsonPartsMakeTheWhole};
-ghost use Rattle.tl_formats.specs.Parts.{PartsAreApart, StreamsAreApart, PartsMakeTheWhole};
+ghost use Rattle.tl_formats.specs.Parts.{PartsAreApart, PartsMakeTheWhole};
 
 /// The report of some managers, of the fragments of their links alone, with their regions and the monitors of their links, has exactly
 /// the rows of the report of all that are of their links.
 pub fn parts_are_apart()
     ensures { PartsAreApart }
-{}
-
-/// The same of what streams tell, in the order of reports.
-pub fn streams_are_apart()
-    ensures { StreamsAreApart }
 {}
 
 /// The report of all managers is the merge of the reports of shares of which each manager is in one, whatever the line of a row is.

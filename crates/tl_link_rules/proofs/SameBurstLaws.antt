@@ -12,7 +12,7 @@ use Rattle.tl_tables.specs.declared.Chan.TheVariants as chan
 use Rattle.tl_tables.specs.Messages.{chan_number}
 use Rattle.tl_beats.specs.declared.Beat.{Beat}
 use Rattle.tl_definitions.specs.declared.Unfinished.{Unfinished}
-use Rattle.tl_state.specs.Exact.{options_exact}
+use Rattle.tl_same.specs.Exact.{options_exact}
 use Rattle.tl_link_rules.specs.declared.bursts.BurstState.{BurstState}
 use Rattle.tl_link_rules.specs.Bursts.{SameBursts}
 

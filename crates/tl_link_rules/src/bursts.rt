@@ -13,7 +13,7 @@ ghost use Rattle.tl_link_rules.specs.Bursts.{IsQuiet, SameBursts};
 use crate::later::keeps_burst;
 use tl_beats::Beat;
 use tl_definitions::Unfinished;
-use tl_state::Same;
+use tl_same::Same;
 use tl_tables::{Chan, carries_data, chan_index, op_of};
 use tl_topology::LinkDecl;
 

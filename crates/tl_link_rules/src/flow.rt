@@ -13,7 +13,8 @@ ghost use Rattle.tl_link_rules.specs.Flow.{SameFlow};
 use crate::RuleList;
 use std::alloc::{AllocError, Global};
 use tl_beats::{Beat, Request};
-use tl_state::{Same, Slots};
+use tl_same::Same;
+use tl_state::Slots;
 use tl_tables::{
     Chan, Op, Rule, is_grant, is_grant_ack, is_release, is_release_ack, op_of, replies,
 };

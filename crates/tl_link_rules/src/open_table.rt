@@ -7,7 +7,7 @@ ghost use Rattle.std.specs.BTreeMap.{Updates, IsUnchanged, IsEmpty};
 
 use std::alloc::{AllocError, Global};
 use std::collections::BTreeMap;
-use tl_state::{Exact, Faithful, Same};
+use tl_same::{Exact, Faithful, Same};
 
 /// A map from keys to what is open on them: at most one entry for each key.
 #[derive(Drop)]

@@ -10,7 +10,7 @@ use Rattle.tl_text.specs.Names.{is_name}
 use Rattle.tl_text.proofs.Cuts.{is_free, word_again}
 use Rattle.tl_text.proofs.Numerals.{bind_some, number_again}
 use Rattle.tl_text.proofs.Spelling.{name_free, name_line, decimal_line, number_line, spaced_free, word_step, number_step, field_step, field_again}
-use Rattle.tl_topology.specs.Naming.{name_at}
+use Rattle.tl_text.specs.Naming.{name_at}
 use Rattle.tl_topology.specs.Regions.{Area}
 use Rattle.tl_topology.proofs.LineLaws.{same_text}
 use Rattle.tl_beats.specs.Text.{chan_text}

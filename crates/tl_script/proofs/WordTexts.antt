@@ -10,7 +10,7 @@ use Rattle.tl_text.proofs.Numerals.{bind_some, number_again}
 use Rattle.tl_text.proofs.Spelling.{number_step}
 use Rattle.tl_tables.specs.declared.Chan.{Chan}
 use Rattle.tl_tables.specs.declared.Chan.TheVariants as chan
-use Rattle.tl_topology.specs.Naming.{name_at}
+use Rattle.tl_text.specs.Naming.{name_at}
 use Rattle.tl_topology.specs.declared.region.Permits.{Permits}
 use Rattle.tl_beats.specs.Text.{chan_text}
 use Rattle.tl_beats.specs.declared.watch.Class.{Class}

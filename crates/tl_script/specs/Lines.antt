@@ -5,7 +5,7 @@ use Rattle.tl_text.specs.Words.{◌>>=◌, word_at}
 use Rattle.tl_text.specs.Numbers.{number_at}
 use Rattle.tl_tables.specs.declared.Chan.{Chan}
 use Rattle.tl_tables.specs.declared.Chan.TheVariants as chan
-use Rattle.tl_topology.specs.Naming.{name_at}
+use Rattle.tl_text.specs.Naming.{name_at}
 use Rattle.tl_topology.specs.Regions.{Area}
 use Rattle.tl_topology.specs.declared.region.Permits.{Permits}
 use Rattle.tl_beats.specs.declared.watch.Class.{Class}

@@ -14,9 +14,8 @@ use crate::trail::Trail;
 use std::alloc::{AllocError, Global};
 use tl_beats::{FragmentFault, Placed, Row};
 use tl_capture::Present;
-use tl_check::row_text;
+use tl_check::{Completed, RowForm, row_text};
 use tl_rows::{Reason, Told};
-use tl_stream::{Completed, RowForm};
 use tl_topology::Topo;
 
 /// The beat of a row among the fragments that are kept, if it is there.

@@ -8,9 +8,9 @@ ghost use Rattle.tl_rows.specs.States.{links_in};
 use std::alloc::{AllocError, Global};
 use tl_beats::{Placed, Row};
 use tl_capture::Merged;
+use tl_check::Completed;
 use tl_client_rules::clients_of;
 use tl_rows::{ManagerOrigins, Told};
-use tl_stream::Completed;
 use tl_topology::Topo;
 
 /// What the beats of a manager that were seen leave that a reason can name.

@@ -1,9 +1,6 @@
 pub mod Places
 pub mod BlockMap
 pub mod BlockWalk
-pub mod Exact
-pub mod SameItems
-pub mod Faithful
 pub mod KeyOrder
 pub mod Leaves
 pub mod Map

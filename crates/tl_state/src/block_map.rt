@@ -7,12 +7,11 @@ ghost use Rattle.std.specs.Ordering.{nat_cmp};
 ghost use Rattle.tl_state.specs.BlockMap.{home_of, held_at, own_or, AreTold, IsFreed};
 
 use crate::block_walk::Blocks;
-use crate::exact::Exact;
 use crate::place::Place;
-use crate::same::Same;
 use std::alloc::{AllocError, Global};
 use std::collections::BTreeMap;
 use std::marker::Model;
+use tl_same::{Exact, Same};
 
 /// How many places a map has once it has a value.
 const FIRST_PLACES: usize = 4;

@@ -11,11 +11,11 @@ ghost use Rattle.tl_state.specs.Walk.{entries_left};
 use crate::changes::{remove_in, set_in};
 use crate::search::find;
 use crate::walk::Entries;
-use crate::{Exact, Same};
 use std::alloc::{AllocError, Global};
 use std::cmp::Ordering;
 use std::marker::Model;
 use std::sync::Arc;
+use tl_same::{Exact, Same};
 
 /// A map from keys to values, in the order of its keys, of which a copy shares the entries with its source. They lie in leaves of
 /// up to 64. A copy costs a step for each leaf. A change makes the leaf anew that it touches, unless no other map has it, and leaves it

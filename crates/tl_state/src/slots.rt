@@ -3,12 +3,10 @@
 ghost use Rattle.std.specs.Prelude.{◌≡◌, ◌≤◌, ℕ, ◌==◌, None, slice_index_or, length, IsSome, IfOk, OnOk, OnErr, if◌then◌else◌};
 ghost use Rattle.std.specs.Bool.{Decides};
 
-use crate::exact::Exact;
-use crate::faithful::Faithful;
-use crate::same::Same;
 use std::alloc::{AllocError, Global};
 use std::collections::BTreeMap;
 use std::mem;
+use tl_same::{Exact, Faithful, Same};
 
 /// The numbers below this stand at their places.
 const LOW: u16 = 256;

@@ -3,7 +3,6 @@
 ghost use Rattle.std.specs.Prelude.{◌≡◌, ◌<◌, ◌^◌, OnOk};
 
 use crate::feed::{Cut, Feed};
-use crate::form::RowForm;
 use crate::listener::Listener;
 use crate::parsers::Parsers;
 use crate::share::Passed;
@@ -11,6 +10,7 @@ use crate::teller::{TellFault, Teller};
 use std::alloc::Global;
 use std::thread::Threads;
 use tl_beats::{Fragment, FragmentFault};
+use tl_check::RowForm;
 use tl_text::{ByteIn, ByteOut, write_all};
 
 /// The most reads of one input.

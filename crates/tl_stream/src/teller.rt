@@ -5,7 +5,6 @@ ghost use Rattle.std.specs.List.{All};
 
 use crate::fault::StreamFault;
 use crate::feed::Sieve;
-use crate::form::{Completed, RowForm};
 use crate::lookout::{Lookout, placed};
 use crate::share::Share;
 use crate::stream::Stream;
@@ -14,6 +13,7 @@ use std::sync::Arc;
 use thiserror::Error;
 use tl_beats::{Fragment, FragmentFault, Row, Watch};
 use tl_capture::Present;
+use tl_check::{Completed, RowForm};
 use tl_text::{ByteOut, WriteFault, write_all};
 use tl_topology::Topo;
 

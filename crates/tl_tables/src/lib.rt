@@ -2,6 +2,7 @@
 //! names of the rules. Each call is one table, over all its arguments.
 #![tactic(auto)]
 
+mod exact;
 mod kinds;
 mod order;
 

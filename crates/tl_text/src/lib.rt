@@ -4,6 +4,7 @@
 
 mod counted;
 mod input;
+mod name;
 mod names;
 mod numbers;
 mod output;
@@ -12,6 +13,7 @@ mod writing;
 
 pub use counted::{CountedReader, CountedWriter};
 pub use input::{ByteIn, ReadFailed, TextFault, read_text};
+pub use name::Name;
 pub use names::{bit, is_name};
 pub use numbers::{decimal, hexadecimal};
 pub use output::{ByteOut, WriteFault, write_all};

@@ -18,7 +18,7 @@ use Rattle.tl_topology.specs.declared.reading.Version.{Version}
 use Rattle.tl_topology.specs.declared.reading.Version.TheVariants as version
 use Rattle.tl_topology.specs.declared.reading.ManagerLine.{ManagerLine}
 use Rattle.tl_topology.specs.declared.reading.LinkLine.{LinkLine}
-use Rattle.tl_topology.specs.Naming.{name_at}
+use Rattle.tl_text.specs.Naming.{name_at}
 use Rattle.tl_topology.specs.Reading.{version_at, level_at, manager_at, sizes_at, mark_at, sources_at, link_at}
 use Rattle.tl_topology.specs.Text.{Declaration, a_manager, a_link, version_text, level_text, manager_text, sources_text, link_text, declaration_text, has_strict, IsManagerLine, IsLinkLine, IsSpelled}
 

@@ -1,4 +1,3 @@
-pub mod Naming
 pub mod Regions
 pub mod Faults
 pub mod Topology

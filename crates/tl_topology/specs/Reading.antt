@@ -14,7 +14,7 @@ use Rattle.tl_topology.specs.declared.reading.ManagerLine.{ManagerLine}
 use Rattle.tl_topology.specs.declared.reading.LinkLine.{LinkLine}
 use Rattle.tl_topology.specs.declared.fault.TopoFault.{TopoFault}
 use Rattle.tl_topology.specs.declared.fault.TopoFault.TheVariants as fault
-use Rattle.tl_topology.specs.Naming.{name_at}
+use Rattle.tl_text.specs.Naming.{name_at}
 use Rattle.tl_topology.specs.Topology.{Topology, number_of_name, is_named, exponent_of, is_width, is_size, may_be_strict}
 
 -- ---- the spelling of one line

@@ -1,18 +1,17 @@
-//! Names, links, managers and the text of a topology; the regions of a manager.
+//! Links, managers and the text of a topology; the regions of a manager.
 #![tactic(auto)]
 
 mod fault;
 pub mod laws;
-mod name;
 mod reading;
 mod region;
 mod topo;
 
 pub use fault::TopoFault;
-pub use name::Name;
 pub use reading::read_topo;
 pub use region::{Permits, Region, RegionFault, RegionMap};
 use tl_tables::Level;
+pub use tl_text::Name;
 pub use topo::Topo;
 
 /// A link as its topology declares it.

@@ -11,11 +11,10 @@ ghost use Rattle.tl_topology.specs.Declarations.{IsDeclaredInOrder, topology_of,
 ghost use Rattle.tl_topology.specs.FirstFault.{IsFirstFault};
 
 use crate::fault::TopoFault;
-use crate::name::Name;
 use crate::topo::Topo;
 use std::alloc::Global;
 use tl_tables::Level;
-use tl_text::{decimal, line, word};
+use tl_text::{Name, decimal, line, word};
 
 const MOST_NUMBER: u64 = 65_536;
 

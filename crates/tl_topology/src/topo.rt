@@ -10,12 +10,12 @@ ghost use Rattle.tl_topology.specs.Reading.{with_manager, with_link, fitted, man
 
 use crate::LinkDecl;
 use crate::fault::TopoFault;
-use crate::name::Name;
 use crate::reading::{LinkLine, ManagerLine};
 use indexmap::IndexMap;
 use std::alloc::{AllocError, Global};
 use std::marker::Model;
 use tl_tables::Level;
+use tl_text::Name;
 
 const MOST_LINKS: usize = 256;
 

@@ -1,5 +1,5 @@
 use Rattle.std.proofs.Common.{subst}
-use Rattle.tl_state.specs.SameItems.{SameItems}
+use Rattle.tl_same.specs.SameItems.{SameItems}
 use Rattle.tl_check.specs.Links.{SameLink}
 use Rattle.tl_check.proofs.StateLaws.{same_is_of}
 use Rattle.tl_check.proofs.state.SpanState.copy.Goals as goal

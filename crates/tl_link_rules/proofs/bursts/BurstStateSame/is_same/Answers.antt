@@ -1,5 +1,5 @@
 use Rattle.std.proofs.Common.{arith}
-use Rattle.tl_state.specs.Exact.{beats_exact}
+use Rattle.tl_beats.specs.Exact.{beats_exact}
 use Rattle.tl_link_rules.proofs.SameBurstLaws.{bursts_exact, same_law}
 use Rattle.tl_link_rules.proofs.bursts.BurstStateSame.is_same.Goals as goal
 

@@ -1,6 +1,6 @@
 use Rattle.std.proofs.Common.{rules}
 use Rattle.std.proofs.lemmas.Cmp.{nat_cmp_total}
-use Rattle.tl_state.specs.Exact.{nats_exact}
+use Rattle.tl_same.specs.Exact.{nats_exact}
 use Rattle.tl_state.specs.Slots.{AgreeOn}
 use Rattle.tl_state.proofs.Tables.{tables_decide}
 use Rattle.tl_state.proofs.SlotLaws.{same_by_parts}

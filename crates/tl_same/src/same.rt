@@ -1,7 +1,7 @@
 //! States that are compared by what they show.
 
 ghost use Rattle.std.specs.Bool.{Decides};
-ghost use Rattle.tl_state.specs.SameItems.{SameItems, SameOption};
+ghost use Rattle.tl_same.specs.SameItems.{SameItems, SameOption};
 
 /// A state of which two are compared by what they show.
 pub trait Same {

@@ -5,10 +5,10 @@ ghost use Rattle.std.specs.List.{All, flat_map};
 ghost use Rattle.tl_check.specs.Notes.{Tells};
 ghost use Rattle.tl_check.specs.Output.{row_text};
 
+use crate::report::listed;
 use std::alloc::{AllocError, Global};
 use tl_beats::{FragmentFault, Row};
 use tl_capture::Present;
-use tl_check::listed;
 use tl_topology::Topo;
 
 /// Beats of a manager that became complete.

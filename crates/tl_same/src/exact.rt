@@ -2,11 +2,8 @@
 
 ghost use Rattle.std.specs.Bool.{Decides};
 ghost use Rattle.std.specs.Prelude.{◌≡◌};
-ghost use Rattle.tl_state.specs.Exact.{nats_exact, options_exact, pairs_exact, units_exact, requests_exact, beats_exact, rows_exact};
+ghost use Rattle.tl_same.specs.Exact.{nats_exact, options_exact, pairs_exact, units_exact};
 ghost use Rattle.std.proofs.Common.{rules};
-
-use tl_beats::{Beat, Request, Row};
-use tl_tables::{Op, Perm};
 
 /// A type of which `==` says whether two values are one.
 pub trait Exact: PartialEq {
@@ -35,26 +32,6 @@ impl Exact for u32 {
 
 impl Exact for u64 {
     ghost exact = { nats_exact };
-}
-
-impl Exact for Perm {
-    ghost exact = { Prim.search rules };
-}
-
-impl Exact for Op {
-    ghost exact = { Prim.search rules };
-}
-
-impl Exact for Request {
-    ghost exact = { requests_exact (Prim.search rules) };
-}
-
-impl Exact for Beat {
-    ghost exact = { beats_exact };
-}
-
-impl Exact for Row {
-    ghost exact = { rows_exact };
 }
 
 impl<T: Exact> Exact for Option<T> {

@@ -1,12 +1,13 @@
--- Equalities that tell all values apart.
-use Rattle.std.specs.Prelude.{ℕ, ◌≡◌, ◌==◌, ◌&&◌, nat_eq, Bool, true, Option, Some, None}
-use Rattle.std.proofs.Common.{refl, ap}
+-- Equalities that tell requests, beats and rows apart.
+use Rattle.std.specs.Prelude.{◌≡◌, ◌==◌, ◌&&◌, Bool}
+use Rattle.std.proofs.Common.{ap}
 use Rattle.std.specs.Bool.{Decides, beq}
 use Rattle.std.specs.Cmp.{booleans_Decides}
 use Rattle.std.specs.Option.{option_eq}
 use Rattle.std.proofs.lemmas.Bool.Decides.{Decides-eqb, Decides-and, Decides-like}
 use denote.Enum.Bare.{Bare, sameb, same_true, true_same}
 use denote.Enum.Declared.{Declared}
+use Rattle.tl_same.specs.Exact.{options_exact}
 use Rattle.tl_tables.specs.contracts.Chan as chan
 use Rattle.tl_tables.specs.contracts.Rule as rule
 use Rattle.tl_tables.specs.declared.Op.{Op}
@@ -14,29 +15,12 @@ use Rattle.tl_beats.specs.declared.Beat.{Beat}
 use Rattle.tl_beats.specs.declared.Request.{Request}
 use Rattle.tl_beats.specs.declared.Row.{Row}
 
-pub units_exact : (x y : Unit {0}) → Decides true (x ≡ y)
-units_exact x y = (λ h. refl, λ e. refl)
-
-pub nats_exact : (x y : ℕ) → Decides (nat_eq x y) (x ≡ y)
-nats_exact = Decides-eqb
-
 -- the equality of requests, from that of their first field
 pub requests_exact : {E : Op → Op → Bool} → ((x y : Op) → Decides (E x y) (x ≡ y)) → (x y : Request)
     → Decides (E x.op y.op && ((x.param == y.param) && ((x.size == y.size) && ((x.source == y.source) && (x.address == y.address))))) (x ≡ y)
 requests_exact {E} ops x y =
     Decides-like _ (λ h. λ i. record { op = h.0 i; param = h.1.0 i; size = h.1.1.0 i; source = h.1.1.1.0 i; address = h.1.1.1.1 i }) (λ e. (ap (λ (r : Request). r.op) e, (ap (λ (r : Request). r.param) e, (ap (λ (r : Request). r.size) e, (ap (λ (r : Request). r.source) e, ap (λ (r : Request). r.address) e)))))
     (Decides-and _ _ (ops x.op y.op) (Decides-and _ _ (Decides-eqb x.param y.param) (Decides-and _ _ (Decides-eqb x.size y.size) (Decides-and _ _ (Decides-eqb x.source y.source) (Decides-eqb x.address y.address)))))
-
-pub pairs_exact : {A B : Type 0} {E : A → A → Bool} {F : B → B → Bool} → ((x y : A) → Decides (E x y) (x ≡ y)) → ((x y : B) → Decides (F x y) (x ≡ y))
-    → (p q : A × B) → Decides (E p.0 q.0 && F p.1 q.1) (p ≡ q)
-pairs_exact {A} {B} first second p q =
-    Decides-like _ (λ h. λ i. (h.0 i, h.1 i)) (λ e. (ap (λ (x : A × B). x.0) e, ap (λ (x : A × B). x.1) e)) (Decides-and _ _ (first p.0 q.0) (second p.1 q.1))
-
-pub options_exact : {A : Type 0} {E : A → A → Bool} → ((x y : A) → Decides (E x y) (x ≡ y)) → (p q : Option A) → Decides (option_eq E p q) (p ≡ q)
-options_exact inner None None = (λ h. refl, λ e. refl)
-options_exact inner None (Some y) = (λ h. cc, λ e. cc)
-options_exact inner (Some x) None = (λ h. cc, λ e. cc)
-options_exact inner (Some x) (Some y) = (λ h. ap Some ((inner x y).0 h), λ e. (inner x y).1 cc)
 
 -- an enum without fields, whose variants are compared by their tags
 bare_exact : (D : Declared) → Bare D.parts → (x y : D.D) → Decides (sameb D x y) (x ≡ y)

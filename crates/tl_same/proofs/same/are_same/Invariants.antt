@@ -1,6 +1,6 @@
 use Rattle.std.proofs.Common.{ℕ, ◌<◌}
 use Rattle.std.specs.Prelude.{slice_index_or}
-use Rattle.tl_state.proofs.same.are_same.Given as goal
+use Rattle.tl_same.proofs.same.are_same.Given as goal
 
 -- the items so far show the same
 abbrev pub invariant-loop-n : goal.invariant-loop-n

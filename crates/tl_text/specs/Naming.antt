@@ -2,7 +2,7 @@
 use Rattle.std.specs.Prelude.{◌≡◌, ℕ, ◌-◌, ◌≤◌, ◌++◌, List, length, take, replicate, Option, Some, None, true, if◌then◌else◌}
 use Rattle.std.proofs.Common.{sym, ap, ◌∙◌, arith, length-take}
 use Rattle.tl_text.specs.Names.{is_name}
-use Rattle.tl_topology.specs.declared.name.Name.TheInside.{Inside}
+use Rattle.tl_text.specs.declared.name.Name.TheInside.{Inside}
 
 abbrev pub name_text : Inside → List ℕ
 name_text n = take n.len n.bytes

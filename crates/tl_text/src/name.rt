@@ -8,10 +8,10 @@ ghost use lib.Pointwise.{pointwise};
 ghost use Rattle.std.specs.Prelude.{nat_eq};
 ghost use Rattle.tl_text.specs.Names.{is_name};
 
+use crate::names::is_name;
 use std::fmt;
 use std::hash::{Hash, Hasher};
 use std::marker::Model;
-use tl_text::is_name;
 
 /// A name of 1 to 16 bytes: a lower-case letter, then lower-case letters, digits or `_`. Contracts see its text.
 #[derive(Clone, Copy, Debug)]
@@ -25,7 +25,7 @@ impl Model for Name {
 
     ghost Value = { List ℕ };
 
-    ghost use Rattle.tl_topology.specs.Naming.{name_text, IsPadded, padded, padded_again};
+    ghost use Rattle.tl_text.specs.Naming.{name_text, IsPadded, padded, padded_again};
 
     ghost view = { name_text };
 
@@ -37,7 +37,7 @@ impl Model for Name {
 }
 
 impl Name {
-    ghost use Rattle.tl_topology.specs.Naming.{name_at};
+    ghost use Rattle.tl_text.specs.Naming.{name_at};
 
     /// The name that a word is, or None where it is none.
     #[tactic(auto, unfolding(crate::specs::Naming::name_at))]

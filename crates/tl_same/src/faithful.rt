@@ -2,10 +2,7 @@
 
 ghost use Rattle.std.specs.Prelude.{◌≡◌, None, Some, refl};
 ghost use Rattle.std.proofs.Common.{ap};
-ghost use Rattle.tl_state.specs.Faithful.{pairs_faithful};
-
-use tl_beats::Request;
-use tl_tables::{Op, Perm};
+ghost use Rattle.tl_same.specs.Faithful.{pairs_faithful};
 
 /// A type of which a clone is its source again.
 pub trait Faithful: Clone {
@@ -33,18 +30,6 @@ impl Faithful for u32 {
 }
 
 impl Faithful for u64 {
-    ghost faithful = { λ x y h. h };
-}
-
-impl Faithful for Op {
-    ghost faithful = { λ x y h. h };
-}
-
-impl Faithful for Perm {
-    ghost faithful = { λ x y h. h };
-}
-
-impl Faithful for Request {
     ghost faithful = { λ x y h. h };
 }
 

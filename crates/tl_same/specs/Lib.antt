@@ -1,0 +1,3 @@
+pub mod Exact
+pub mod SameItems
+pub mod Faithful

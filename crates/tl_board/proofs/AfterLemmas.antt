@@ -17,8 +17,8 @@ use Rattle.tl_definitions.specs.Watching.{IsWatch}
 use Rattle.tl_definitions.proofs.Lists.{contains_none, contains_cases}
 use Rattle.tl_edits.specs.Edits.{AnEdit, add, replace, withdraw, clear_link, set_region, remove_region, attach, retune, detach}
 use Rattle.tl_edits.specs.Inputs.{InputData, watch_at, changed}
-use Rattle.tl_capture.specs.declared.key.PieceKey.{PieceKey}
-use Rattle.tl_capture.specs.Pieces.{Board, Pass, opening_of, piece_at, result_of, live_of}
+use Rattle.tl_pieces.specs.declared.key.PieceKey.{PieceKey}
+use Rattle.tl_pieces.specs.Pieces.{Board, Pass, opening_of, piece_at, result_of, live_of}
 use Rattle.tl_check.specs.Captured.{watched_beats}
 use Rattle.tl_capture.specs.Present.{IsPresent}
 use Rattle.tl_capture.specs.Windows.{beats_in, HasBeat}

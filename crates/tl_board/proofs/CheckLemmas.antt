@@ -22,10 +22,10 @@ use Rattle.tl_beats.specs.declared.Row.{Row}
 use Rattle.tl_definitions.specs.Judging.{Snapshot, judging}
 use Rattle.tl_definitions.proofs.Lists.{contains_here, contains_there, contains_cases, all_of}
 use Rattle.tl_edits.specs.Inputs.{InputData}
-use Rattle.tl_capture.specs.declared.key.PieceKey.{PieceKey}
-use Rattle.tl_capture.specs.Keys.{key_cmp, value_at, before, change}
-use Rattle.tl_capture.specs.Pieces.{Piece, Board, Pass, IsBoard, opening_of, piece_at, result_of, exit_of, last_exit, left_by, IsFirst, entry_for, with_pieces}
-use Rattle.tl_capture.proofs.KeyLemmas.{key_exact, key_self}
+use Rattle.tl_pieces.specs.declared.key.PieceKey.{PieceKey}
+use Rattle.tl_pieces.specs.Keys.{key_cmp, value_at, before, change}
+use Rattle.tl_pieces.specs.Pieces.{Piece, Board, Pass, IsBoard, opening_of, piece_at, result_of, exit_of, last_exit, left_by, IsFirst, entry_for, with_pieces}
+use Rattle.tl_pieces.proofs.KeyLemmas.{key_exact, key_self}
 use Rattle.tl_check.specs.declared.state.SpanState.{SpanState}
 use Rattle.tl_board.specs.Spans.{SpansData, standing, manager_in, ShowsOf, opening_in, IsSpanOf, AreSpans, IsSound, ChecksWindow}
 use Rattle.tl_board.specs.Covers.{Covers}

@@ -13,16 +13,16 @@ use Rattle.std.proofs.lemmas.Map.Keys.{IsDistinct-from_sorted}
 use Rattle.std.specs.Cmp.{IsEquivalence}
 use Rattle.std.specs.List.{IsDistinct}
 use Rattle.std.proofs.lemmas.Map.Views.{Contains-from_lookup, lookup-from_Contains}
-use Rattle.tl_capture.proofs.KeyLemmas.{key_exact, key_total}
+use Rattle.tl_pieces.proofs.KeyLemmas.{key_exact, key_total}
 use Rattle.tl_beats.specs.declared.Placed.{Placed}
 use Rattle.tl_beats.specs.declared.Row.{Row}
 use Rattle.tl_definitions.specs.Passes.{Judge, Pass, IsChain, SomeHas, rows_judged, pass_beats}
 use Rattle.tl_definitions.proofs.ChainLaws.{chain_has, chain_from}
 use Rattle.tl_definitions.proofs.Lists.{contains_none, contains_here, contains_there, contains_cases, contains_mapped, mapped_from, all_by}
-use Rattle.tl_capture.specs.declared.key.PieceKey.{PieceKey}
-use Rattle.tl_capture.specs.Keys.{key_cmp, owned_by, Rises}
-use Rattle.tl_capture.specs.Pieces.{Piece, Board, Links, IsBoard, EachOwnerIsChained, opening_of, piece_at, result_of}
-use Rattle.tl_capture.specs.Pieces as pieces
+use Rattle.tl_pieces.specs.declared.key.PieceKey.{PieceKey}
+use Rattle.tl_pieces.specs.Keys.{key_cmp, owned_by, Rises}
+use Rattle.tl_pieces.specs.Pieces.{Piece, Board, Links, IsBoard, EachOwnerIsChained, opening_of, piece_at, result_of}
+use Rattle.tl_pieces.specs.Pieces as pieces
 use Rattle.tl_capture.specs.Windows.{beats_in, joined, AreWindows, HasBeat}
 use Rattle.tl_board.specs.Covers.{IsOfWindow, Covers, HasRow}
 

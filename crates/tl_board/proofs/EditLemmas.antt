@@ -24,10 +24,10 @@ use Rattle.tl_definitions.proofs.Lists.{contains_none, contains_here, contains_t
 use Rattle.tl_edits.specs.Edits.{AnEdit}
 use Rattle.tl_edits.specs.Inputs.{InputData, changed}
 use Rattle.tl_edits.specs.Log.{LogData, changed_by, inputs_after}
-use Rattle.tl_capture.specs.declared.key.PieceKey.{PieceKey}
-use Rattle.tl_capture.specs.Keys.{key_cmp, value_at, Rises}
-use Rattle.tl_capture.specs.Pieces.{Piece, Pass, Board, empty, opening_of, piece_at, result_of, live_of, touched_all, with_pieces}
-use Rattle.tl_capture.proofs.KeyLemmas.{key_exact, key_self, key_total}
+use Rattle.tl_pieces.specs.declared.key.PieceKey.{PieceKey}
+use Rattle.tl_pieces.specs.Keys.{key_cmp, value_at, Rises}
+use Rattle.tl_pieces.specs.Pieces.{Piece, Pass, Board, empty, opening_of, piece_at, result_of, live_of, touched_all, with_pieces}
+use Rattle.tl_pieces.proofs.KeyLemmas.{key_exact, key_self, key_total}
 use Rattle.tl_check.specs.Captured.{areas_at}
 use Rattle.tl_check.specs.States.{IsOf, StandsFor}
 use Rattle.tl_check.specs.declared.state.SpanState.{SpanState}

@@ -18,9 +18,9 @@ use Rattle.tl_definitions.proofs.JudgingLaws.{all_exact}
 use Rattle.tl_definitions.proofs.Lists.{contains_none, contains_here, contains_there, contains_cases, all_of}
 use Rattle.tl_definitions.proofs.ReportLaws.{rows_are_breaks}
 use Rattle.tl_edits.specs.Inputs.{InputData}
-use Rattle.tl_capture.specs.declared.key.PieceKey.{PieceKey}
-use Rattle.tl_capture.specs.Pieces.{Piece, Board, IsBoard, EachOwnerIsChained, opening_of, piece_at, result_of}
-use Rattle.tl_capture.specs.Pieces as pieces
+use Rattle.tl_pieces.specs.declared.key.PieceKey.{PieceKey}
+use Rattle.tl_pieces.specs.Pieces.{Piece, Board, IsBoard, EachOwnerIsChained, opening_of, piece_at, result_of}
+use Rattle.tl_pieces.specs.Pieces as pieces
 use Rattle.tl_check.specs.Captured.{areas_at}
 use Rattle.tl_check.proofs.CaptureLaws.{capture_with}
 use Rattle.tl_check.specs.States.{SameSpan}

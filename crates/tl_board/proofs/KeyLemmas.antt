@@ -10,9 +10,9 @@ use Rattle.tl_beats.specs.declared.watch.Watch.{Watch}
 use Rattle.tl_definitions.specs.Positions.{Recorded, beats_of, beats_of_all}
 use Rattle.tl_edits.specs.Edits.{AnEdit}
 use Rattle.tl_edits.specs.Inputs.{InputData, watch_at, changed}
-use Rattle.tl_capture.specs.declared.key.PieceKey.{PieceKey}
-use Rattle.tl_capture.specs.Keys.{Rises}
-use Rattle.tl_capture.specs.Pieces.{Board, opening_of, piece_at}
+use Rattle.tl_pieces.specs.declared.key.PieceKey.{PieceKey}
+use Rattle.tl_pieces.specs.Keys.{Rises}
+use Rattle.tl_pieces.specs.Pieces.{Board, opening_of, piece_at}
 use Rattle.tl_check.specs.Captured.{watched_beats}
 use Rattle.tl_capture.specs.Present.{IsPresent}
 use Rattle.tl_capture.specs.Windows.{HasBeat}

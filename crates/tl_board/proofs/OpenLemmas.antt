@@ -12,9 +12,9 @@ use Rattle.tl_definitions.specs.Managers.{manager_at}
 use Rattle.tl_definitions.proofs.Lists.{contains_none}
 use Rattle.tl_edits.specs.Inputs.{blank}
 use Rattle.tl_edits.specs.Log.{LogData}
-use Rattle.tl_capture.specs.declared.key.PieceKey.{PieceKey}
-use Rattle.tl_capture.specs.Keys.{value_at}
-use Rattle.tl_capture.specs.Pieces.{Board, opening_of, piece_at, result_of, with_openings}
+use Rattle.tl_pieces.specs.declared.key.PieceKey.{PieceKey}
+use Rattle.tl_pieces.specs.Keys.{value_at}
+use Rattle.tl_pieces.specs.Pieces.{Board, opening_of, piece_at, result_of, with_openings}
 use Rattle.tl_check.specs.Captured.{areas_at}
 use Rattle.tl_check.specs.States.{StandsFor}
 use Rattle.tl_check.specs.declared.state.SpanState.{SpanState}

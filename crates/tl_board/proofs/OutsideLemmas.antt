@@ -9,9 +9,9 @@ use Rattle.tl_definitions.specs.Passes.{Judge, IsPass}
 use Rattle.tl_definitions.specs.Tallies.{watching}
 use Rattle.tl_edits.specs.Inputs.{InputData, watch_at}
 use Rattle.tl_monitor.specs.Held.{Held}
-use Rattle.tl_capture.specs.declared.key.PieceKey.{PieceKey}
-use Rattle.tl_capture.specs.Keys.{change}
-use Rattle.tl_capture.specs.Pieces.{Piece, Board, Pass, IsBoard, opening_of, piece_at, with_live, with_pieces, IsFirst}
+use Rattle.tl_pieces.specs.declared.key.PieceKey.{PieceKey}
+use Rattle.tl_pieces.specs.Keys.{change}
+use Rattle.tl_pieces.specs.Pieces.{Piece, Board, Pass, IsBoard, opening_of, piece_at, with_live, with_pieces, IsFirst}
 use Rattle.tl_check.specs.Captured.{watched_beats}
 use Rattle.tl_board.specs.Spans.{standing}
 use Rattle.tl_board.proofs.CheckLemmas.{first_there, owner_of}

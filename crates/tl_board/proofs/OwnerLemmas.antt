@@ -22,10 +22,10 @@ use Rattle.tl_edits.specs.Inputs.{InputData, watch_at, was_attached, changed, re
 use Rattle.tl_edits.specs.declared.fault.EditFault.{EditFault}
 use Rattle.tl_edits.specs.declared.fault.EditFault.TheVariants as fault
 use Rattle.tl_edits.proofs.LogLaws.{no_cause}
-use Rattle.tl_capture.specs.declared.key.PieceKey.{PieceKey}
-use Rattle.tl_capture.specs.Keys.{key_cmp, value_at, without, Rises}
-use Rattle.tl_capture.specs.Pieces.{Board, IsBoard, OwnersRise, opening_of, piece_at, result_of, live_of, with_openings, with_pieces, without_owner, touched_all}
-use Rattle.tl_capture.proofs.KeyLemmas.{key_exact}
+use Rattle.tl_pieces.specs.declared.key.PieceKey.{PieceKey}
+use Rattle.tl_pieces.specs.Keys.{key_cmp, value_at, without, Rises}
+use Rattle.tl_pieces.specs.Pieces.{Board, IsBoard, OwnersRise, opening_of, piece_at, result_of, live_of, with_openings, with_pieces, without_owner, touched_all}
+use Rattle.tl_pieces.proofs.KeyLemmas.{key_exact}
 use Rattle.tl_check.specs.Captured.{watched_beats}
 use Rattle.tl_capture.specs.Present.{IsPresent}
 use Rattle.tl_capture.specs.Windows.{HasBeat}

@@ -8,9 +8,9 @@ use Rattle.tl_definitions.specs.Positions.{Recorded, beats_of}
 use Rattle.tl_definitions.specs.Tallies.{watching, AreOfOneLink}
 use Rattle.tl_definitions.proofs.Lists.{kept_from}
 use Rattle.tl_edits.specs.Inputs.{InputData, watch_at}
-use Rattle.tl_capture.specs.declared.key.PieceKey.{PieceKey}
-use Rattle.tl_capture.specs.Keys.{change}
-use Rattle.tl_capture.specs.Pieces.{Board, Pass, opening_of, piece_at, with_pieces}
+use Rattle.tl_pieces.specs.declared.key.PieceKey.{PieceKey}
+use Rattle.tl_pieces.specs.Keys.{change}
+use Rattle.tl_pieces.specs.Pieces.{Board, Pass, opening_of, piece_at, with_pieces}
 use Rattle.tl_check.specs.Captured.{watched_beats}
 use Rattle.tl_check.proofs.CaptureLaws.{of_one_link}
 use Rattle.tl_capture.specs.Windows.{lies_in, beats_in}

@@ -13,13 +13,13 @@ use Rattle.std.specs.Map.{keys_of}
 use Rattle.std.specs.Option.{option_map, option_or}
 use Rattle.std.specs.Ordering.{is_eq, is_le, ordering_reverse}
 use Rattle.tl_definitions.proofs.Lists.{contains_none, contains_here, contains_there, contains_cases, contains_mapped, all_of, all_by}
-use Rattle.tl_capture.proofs.MoveLemmas.{moves}
-use Rattle.tl_capture.proofs.KeyLemmas.{key_exact, key_self, key_total, owner_le}
-use Rattle.tl_capture.proofs.OwnerLemmas.{owners_later}
-use Rattle.tl_capture.proofs.ReadyLemmas.{either_then, either_none}
-use Rattle.tl_capture.specs.declared.key.PieceKey.{PieceKey}
-use Rattle.tl_capture.specs.Keys.{key_cmp, value_at, change, before, owned_by, Rises, IsNotBefore}
-use Rattle.tl_capture.specs.Pieces.{Piece, Board, Pass, IsBoard, opening_of, piece_at, result_of, live_of, exit_of, exit_before, last_exit, left_by, entry_for, with_pieces, with_result, IsGood, Follows, IsWanted, ChainsFrom, IsChainTo, IsFirst, IsFirstWanted, IsSettled, HasTrueEntry}
+use Rattle.tl_pieces.proofs.MoveLemmas.{moves}
+use Rattle.tl_pieces.proofs.KeyLemmas.{key_exact, key_self, key_total, owner_le}
+use Rattle.tl_pieces.proofs.OwnerLemmas.{owners_later}
+use Rattle.tl_pieces.proofs.ReadyLemmas.{either_then, either_none}
+use Rattle.tl_pieces.specs.declared.key.PieceKey.{PieceKey}
+use Rattle.tl_pieces.specs.Keys.{key_cmp, value_at, change, before, owned_by, Rises, IsNotBefore}
+use Rattle.tl_pieces.specs.Pieces.{Piece, Board, Pass, IsBoard, opening_of, piece_at, result_of, live_of, exit_of, exit_before, last_exit, left_by, entry_for, with_pieces, with_result, IsGood, Follows, IsWanted, ChainsFrom, IsChainTo, IsFirst, IsFirstWanted, IsSettled, HasTrueEntry}
 use Rattle.tl_check.proofs.StateLaws.{shown_same}
 use Rattle.tl_check.specs.States.{SameSpan}
 use Rattle.tl_board.specs.Recheck.{IsStale, ChecksThese, Rechecks}

@@ -17,8 +17,8 @@ use Rattle.tl_definitions.specs.Watching.{Flags, flags_in}
 use Rattle.tl_definitions.proofs.Lists.{all_of, contains_mapped, mapped_from}
 use Rattle.tl_definitions.proofs.WatchLaws.{all_flagged, rows_are_flags}
 use Rattle.tl_edits.specs.Inputs.{InputData, watch_at, attached}
-use Rattle.tl_capture.specs.declared.key.PieceKey.{PieceKey}
-use Rattle.tl_capture.specs.Pieces.{Piece, Board, IsBoard, EachOwnerIsChained, opening_of, result_of}
+use Rattle.tl_pieces.specs.declared.key.PieceKey.{PieceKey}
+use Rattle.tl_pieces.specs.Pieces.{Piece, Board, IsBoard, EachOwnerIsChained, opening_of, result_of}
 use Rattle.tl_check.specs.Captured.{watched_beats, watch_capture, watch_captures}
 use Rattle.tl_capture.specs.Present.{IsPresent}
 use Rattle.tl_capture.specs.Windows.{AreWindows, joined}

@@ -10,9 +10,9 @@ use Rattle.tl_definitions.specs.Judging.{judging}
 use Rattle.tl_definitions.specs.Managers.{manager_at}
 use Rattle.tl_definitions.specs.Passes.{IsPass}
 use Rattle.tl_edits.specs.Inputs.{InputData, AreNumbered, regions_at}
-use Rattle.tl_capture.specs.declared.key.PieceKey.{PieceKey}
-use Rattle.tl_capture.specs.Keys.{key_cmp, change}
-use Rattle.tl_capture.specs.Pieces.{Piece, Board, Pass, opening_of, piece_at, result_of, with_live, with_pieces, IsFree, IsFirstFree}
+use Rattle.tl_pieces.specs.declared.key.PieceKey.{PieceKey}
+use Rattle.tl_pieces.specs.Keys.{key_cmp, change}
+use Rattle.tl_pieces.specs.Pieces.{Piece, Board, Pass, opening_of, piece_at, result_of, with_live, with_pieces, IsFree, IsFirstFree}
 use Rattle.tl_check.specs.Captured.{areas_at}
 use Rattle.tl_check.specs.States.{IsOf, SameSpan}
 use Rattle.tl_check.specs.declared.state.SpanState.{SpanState}

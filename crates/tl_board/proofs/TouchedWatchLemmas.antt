@@ -14,7 +14,7 @@ use Rattle.tl_definitions.specs.Positions.{Recorded, beats_of, beats_of_all}
 use Rattle.tl_definitions.proofs.Lists.{contains_none, contains_here, contains_there, contains_cases}
 use Rattle.tl_edits.specs.Edits.{AnEdit, add, replace, withdraw, clear_link, set_region, remove_region, attach, retune, detach}
 use Rattle.tl_edits.specs.Inputs.{InputData, attached}
-use Rattle.tl_capture.specs.declared.key.PieceKey.{PieceKey}
+use Rattle.tl_pieces.specs.declared.key.PieceKey.{PieceKey}
 use Rattle.tl_check.specs.Captured.{watched_beats}
 use Rattle.tl_check.proofs.CaptureLaws.{number_below}
 use Rattle.tl_capture.specs.Present.{IsPresent}

@@ -7,13 +7,13 @@ use Rattle.std.specs.BTreeMap.{insert_entry, is_at}
 use Rattle.std.specs.List.{Contains}
 use Rattle.std.proofs.lemmas.List.Elements.{Contains-append_left, Contains-append_right, Contains-append_cases}
 use Rattle.tl_definitions.proofs.Lists.{contains_none, contains_here, contains_there, contains_cases, contains_mapped, mapped_from}
-use Rattle.tl_capture.specs.declared.key.PieceKey.{PieceKey}
-use Rattle.tl_capture.specs.Keys.{key_cmp, change}
+use Rattle.tl_pieces.specs.declared.key.PieceKey.{PieceKey}
+use Rattle.tl_pieces.specs.Keys.{key_cmp, change}
 use Rattle.std.specs.Map.{remove_entry}
 use Rattle.std.proofs.lemmas.Map.{lookup-remove_entry}
-use Rattle.tl_capture.specs.Pieces.{Board, Piece, IsBoard, empty, piece_at, with_pieces}
+use Rattle.tl_pieces.specs.Pieces.{Board, Piece, IsBoard, empty, piece_at, with_pieces}
 use Rattle.tl_board.proofs.CoverLemmas.{key_equivalence, distinct_keys}
-use Rattle.tl_capture.proofs.KeyLemmas.{key_exact, key_self, key_total}
+use Rattle.tl_pieces.proofs.KeyLemmas.{key_exact, key_self, key_total}
 use Rattle.tl_board.specs.Windows.{key_of, AreKeysOf, IsGrown, HasAll, IsTaken, IsPruned, AreBlank, blank}
 use Rattle.tl_board.proofs.EntryLemmas.{lookup_put}
 use Rattle.tl_board.proofs.CheckLemmas.{lookup_change}

@@ -1,8 +1,8 @@
 -- What an edit makes of the windows of managers and of monitors.
 use Rattle.std.specs.Prelude.{ℕ, ◌≡◌, ◌==◌, Option, Some, None, if◌then◌else◌}
 use Rattle.tl_edits.specs.Edits.{AnEdit, add, replace, withdraw, clear_link, set_region, remove_region, attach, retune, detach}
-use Rattle.tl_capture.specs.declared.key.PieceKey.{PieceKey}
-use Rattle.tl_capture.specs.Pieces.{opening_of, piece_at, result_of, live_of}
+use Rattle.tl_pieces.specs.declared.key.PieceKey.{PieceKey}
+use Rattle.tl_pieces.specs.Pieces.{opening_of, piece_at, result_of, live_of}
 use Rattle.tl_board.specs.Edits.{EditsTo}
 use Rattle.tl_board.specs.Spans.{standing}
 use Rattle.tl_board.specs.declared.tally.Tally.{Tally}

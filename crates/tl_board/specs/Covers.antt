@@ -5,8 +5,8 @@ use Rattle.std.specs.List.{Contains}
 use Rattle.tl_beats.specs.declared.Placed.{Placed}
 use Rattle.tl_beats.specs.declared.Row.{Row}
 use Rattle.tl_definitions.specs.Passes.{Judge, IsPass}
-use Rattle.tl_capture.specs.declared.key.PieceKey.{PieceKey}
-use Rattle.tl_capture.specs.Pieces.{Pass, Board, opening_of, piece_at, result_of}
+use Rattle.tl_pieces.specs.declared.key.PieceKey.{PieceKey}
+use Rattle.tl_pieces.specs.Pieces.{Pass, Board, opening_of, piece_at, result_of}
 use Rattle.tl_capture.specs.Windows.{beats_in, HasBeat}
 
 module _ {S X : Type 0} (Shows : ℕ → S → X → Type 0) (judge : ℕ → Judge X) (beats : ℕ → List Placed) where

@@ -1,8 +1,8 @@
 -- What an edit makes of the windows of managers.
 use Rattle.std.specs.Prelude.{◌≡◌, ◌++◌, ◌∷◌, [], None}
 use Rattle.tl_edits.specs.Edits.{AnEdit}
-use Rattle.tl_capture.specs.declared.key.PieceKey.{PieceKey}
-use Rattle.tl_capture.specs.Pieces.{piece_at, result_of, live_of}
+use Rattle.tl_pieces.specs.declared.key.PieceKey.{PieceKey}
+use Rattle.tl_pieces.specs.Pieces.{piece_at, result_of, live_of}
 use Rattle.tl_board.specs.Touch.{Touches}
 use Rattle.tl_board.specs.Spans.{SpansData, standing}
 

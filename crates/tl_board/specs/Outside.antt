@@ -2,9 +2,9 @@
 use Rattle.std.specs.Prelude.{◌≡◌, ◌⊎◌, None, Some, List}
 use Rattle.tl_beats.specs.declared.Row.{Row}
 use Rattle.tl_edits.specs.Inputs.{InputData, watch_at}
-use Rattle.tl_capture.specs.declared.key.PieceKey.{PieceKey}
-use Rattle.tl_capture.specs.Keys.{change}
-use Rattle.tl_capture.specs.Pieces.{Pass, entry_for, with_live, with_pieces, IsWantedAt}
+use Rattle.tl_pieces.specs.declared.key.PieceKey.{PieceKey}
+use Rattle.tl_pieces.specs.Keys.{change}
+use Rattle.tl_pieces.specs.Pieces.{Pass, entry_for, with_live, with_pieces, IsWantedAt}
 use Rattle.tl_check.specs.Captured.{watched_beats}
 use Rattle.tl_board.specs.Spans.{standing}
 use Rattle.tl_board.specs.Windows.{with_checked}

@@ -2,9 +2,9 @@
 use Rattle.std.specs.Prelude.{◌≡◌, ℕ, List, None, length, is_some, true}
 use Rattle.std.specs.List.{Contains}
 use Rattle.std.specs.List.Sorted.{IsStrictlySortedBy}
-use Rattle.tl_capture.specs.declared.key.PieceKey.{PieceKey}
-use Rattle.tl_capture.specs.Keys.{key_cmp}
-use Rattle.tl_capture.specs.Pieces.{Board, piece_at, result_of, live_of, entry_for, Follows, IsSettled, HasTrueEntry}
+use Rattle.tl_pieces.specs.declared.key.PieceKey.{PieceKey}
+use Rattle.tl_pieces.specs.Keys.{key_cmp}
+use Rattle.tl_pieces.specs.Pieces.{Board, piece_at, result_of, live_of, entry_for, Follows, IsSettled, HasTrueEntry}
 
 module _ {S R : Type 0} (same : S → S → Type 0) where
   -- The window had no result, or one that doesn't begin with what stands before it in the new board.

@@ -9,9 +9,9 @@ use Rattle.tl_definitions.specs.Managers.{manager_at}
 use Rattle.tl_definitions.specs.Rules.{Manager}
 use Rattle.tl_edits.specs.Inputs.{InputData}
 use Rattle.tl_edits.specs.Log.{LogData, inputs_after}
-use Rattle.tl_capture.specs.declared.key.PieceKey.{PieceKey}
-use Rattle.tl_capture.specs.Keys.{change}
-use Rattle.tl_capture.specs.Pieces.{Board, Pass, opening_of, entry_for, with_pieces}
+use Rattle.tl_pieces.specs.declared.key.PieceKey.{PieceKey}
+use Rattle.tl_pieces.specs.Keys.{change}
+use Rattle.tl_pieces.specs.Pieces.{Board, Pass, opening_of, entry_for, with_pieces}
 use Rattle.tl_check.specs.Captured.{areas_at}
 use Rattle.tl_check.specs.States.{shown, IsOf, StandsFor}
 use Rattle.tl_check.specs.declared.state.SpanState.{SpanState}

@@ -10,7 +10,7 @@ use Rattle.tl_definitions.specs.Managers.{declared_links, manager_at}
 use Rattle.tl_definitions.specs.Passes.{IsPass}
 use Rattle.tl_definitions.specs.Positions.{Recorded, clients_of}
 use Rattle.tl_definitions.specs.Rules.{Manager}
-use Rattle.tl_capture.specs.Pieces.{Pass}
+use Rattle.tl_pieces.specs.Pieces.{Pass}
 use Rattle.tl_check.specs.States.{shown, IsOf}
 use Rattle.tl_check.specs.declared.state.SpanState.{SpanState}
 use Rattle.tl_capture.specs.Windows.{AreBeatsOf, beats_in}

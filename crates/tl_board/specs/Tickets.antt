@@ -3,9 +3,9 @@ use Rattle.std.specs.Prelude.{◌≡◌, ◌⊎◌, None, Some, List}
 use Rattle.tl_beats.specs.declared.Row.{Row}
 use Rattle.tl_definitions.specs.Captures.{manager_beats}
 use Rattle.tl_edits.specs.Inputs.{InputData, regions_at}
-use Rattle.tl_capture.specs.declared.key.PieceKey.{PieceKey}
-use Rattle.tl_capture.specs.Keys.{change}
-use Rattle.tl_capture.specs.Pieces.{Pass, entry_for, with_live, with_pieces, IsWantedAt}
+use Rattle.tl_pieces.specs.declared.key.PieceKey.{PieceKey}
+use Rattle.tl_pieces.specs.Keys.{change}
+use Rattle.tl_pieces.specs.Pieces.{Pass, entry_for, with_live, with_pieces, IsWantedAt}
 use Rattle.tl_check.specs.States.{SameSpan}
 use Rattle.tl_check.specs.declared.state.SpanState.{SpanState}
 use Rattle.tl_board.specs.Tasks.{TaskData, IsCurrent}

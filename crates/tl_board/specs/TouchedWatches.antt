@@ -7,7 +7,7 @@ use Rattle.tl_beats.specs.Watches.{link_of}
 use Rattle.tl_beats.specs.declared.watch.Watch.{Watch}
 use Rattle.tl_edits.specs.Edits.{AnEdit, add, replace, withdraw, clear_link, set_region, remove_region, attach, retune, detach}
 use Rattle.tl_edits.specs.Inputs.{InputData, watch_at}
-use Rattle.tl_capture.specs.declared.key.PieceKey.{PieceKey}
+use Rattle.tl_pieces.specs.declared.key.PieceKey.{PieceKey}
 use Rattle.tl_board.specs.Touch.{TouchesLink}
 
 -- The monitor that is attached, retuned or detached by an edit.

@@ -9,7 +9,7 @@ use Rattle.tl_definitions.specs.Passes.{IsPass, left_after}
 use Rattle.tl_definitions.specs.Positions.{Recorded, position_order}
 use Rattle.tl_definitions.specs.Tallies.{watching, kept_tally, AreOfOneLink}
 use Rattle.tl_monitor.specs.Held.{Held}
-use Rattle.tl_capture.specs.Pieces.{Pass}
+use Rattle.tl_pieces.specs.Pieces.{Pass}
 use Rattle.tl_check.specs.Captured.{watched_beats}
 use Rattle.tl_capture.specs.Windows.{beats_in}
 use Rattle.tl_board.specs.declared.tally.Tally.{Tally}

@@ -8,9 +8,9 @@ use Rattle.tl_definitions.specs.Passes.{Judge}
 use Rattle.tl_definitions.specs.Tallies.{watching, kept_tally}
 use Rattle.tl_definitions.specs.Watching.{IsWatch}
 use Rattle.tl_edits.specs.Inputs.{InputData, watch_at}
-use Rattle.tl_capture.specs.declared.key.PieceKey.{PieceKey}
-use Rattle.tl_capture.specs.Keys.{change}
-use Rattle.tl_capture.specs.Pieces.{Board, Pass, opening_of, entry_for, with_pieces}
+use Rattle.tl_pieces.specs.declared.key.PieceKey.{PieceKey}
+use Rattle.tl_pieces.specs.Keys.{change}
+use Rattle.tl_pieces.specs.Pieces.{Board, Pass, opening_of, entry_for, with_pieces}
 use Rattle.tl_check.specs.Captured.{watched_beats}
 use Rattle.tl_board.specs.Covers.{Covers, IsOfWindow}
 use Rattle.tl_board.specs.Spans.{SpansData, standing}

@@ -1,10 +1,10 @@
 -- Pieces of some keys that come, go, lose their results, or get them.
 use Rattle.std.specs.Prelude.{◌≡◌, ◌⊎◌, ◌↔◌, ℕ, List, Option, None, Some, is_some, true, cond}
 use Rattle.std.specs.List.{Contains}
-use Rattle.tl_capture.specs.declared.key.PieceKey.{PieceKey}
+use Rattle.tl_pieces.specs.declared.key.PieceKey.{PieceKey}
 use Rattle.std.specs.BTreeMap.{is_at}
-use Rattle.tl_capture.specs.Keys.{key_cmp}
-use Rattle.tl_capture.specs.Pieces.{Board, Pass, Piece, empty, piece_at}
+use Rattle.tl_pieces.specs.Keys.{key_cmp}
+use Rattle.tl_pieces.specs.Pieces.{Board, Pass, Piece, empty, piece_at}
 
 abbrev pub key_of : ℕ → ℕ → PieceKey
 key_of owner window = record { owner = owner; window = window }

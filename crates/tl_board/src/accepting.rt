@@ -4,7 +4,7 @@ ghost use Rattle.std.specs.Prelude.{◌≡◌, ◌<◌, length, IfOk, IfErr, OnO
 ghost use Rattle.std.specs.Result.{IsErrOf};
 ghost use Rattle.tl_edits.specs.Edits.{plain, attach, retune, detach};
 ghost use Rattle.tl_edits.specs.Inputs.{refusal};
-ghost use Rattle.tl_capture.specs.Pieces.{without_owner, IsBoard};
+ghost use Rattle.tl_pieces.specs.Pieces.{without_owner, IsBoard};
 ghost use Rattle.tl_capture.specs.Present.{IsPresent};
 ghost use Rattle.tl_board.specs.Spans.{standing};
 ghost use Rattle.tl_board.specs.Touched.{IsTouched};
@@ -18,8 +18,8 @@ use crate::{Rows, Touched, grow, keys_of, prune, touch_each, touches_of};
 use std::alloc::{AllocError, Global};
 use std::sync::Arc;
 use tl_beats::Watch;
-use tl_capture::{PieceKey, PieceMap};
 use tl_edits::{Change, Edit, EditFault};
+use tl_pieces::{PieceKey, PieceMap};
 
 /// Takes out the windows of a monitor. Their keys rise, before and after it, and each is of an owner.
 fn take_away(pieces: &mut PieceMap<Tally, Rows>, monitor: u32)

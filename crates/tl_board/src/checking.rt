@@ -2,8 +2,8 @@
 
 ghost use Rattle.std.specs.Prelude.{◌≡◌, IfOk, IfSome, OnErr, Some, is_some, true};
 ghost use Rattle.std.specs.Arc.{arc_value};
-ghost use Rattle.tl_capture.specs.Marks.{pass_of};
-ghost use Rattle.tl_capture.specs.Pieces.{piece_at, entry_for, IsFirstWanted, HasTrueEntry};
+ghost use Rattle.tl_pieces.specs.Marks.{pass_of};
+ghost use Rattle.tl_pieces.specs.Pieces.{piece_at, entry_for, IsFirstWanted, HasTrueEntry};
 ghost use Rattle.tl_check.specs.States.{SameSpan};
 ghost use Rattle.tl_board.specs.Spans.{standing, IsSpanOf, ChecksFirst};
 
@@ -11,8 +11,8 @@ use crate::Rows;
 use crate::spans::Spans;
 use crate::windows::keep_following;
 use std::alloc::{AllocError, Global};
-use tl_capture::{PieceKey, Stored};
 use tl_check::SpanState;
+use tl_pieces::{PieceKey, Stored};
 
 impl Spans {
     /// Checks the first window that is wanted, from what the windows of its manager before it leave, and answers which it was; its

@@ -3,9 +3,9 @@
 ghost use Rattle.std.specs.Prelude.{◌≡◌, IfOk, IfSome, is_some, true};
 ghost use Rattle.std.specs.Bool.{Decides};
 ghost use Rattle.tl_edits.specs.Inputs.{watch_at};
-ghost use Rattle.tl_capture.specs.Keys.{change};
-ghost use Rattle.tl_capture.specs.Marks.{pass_of};
-ghost use Rattle.tl_capture.specs.Pieces.{piece_at, live_of, with_live, with_pieces, IsFirstFree, IsNextFree, IsNextWanted};
+ghost use Rattle.tl_pieces.specs.Keys.{change};
+ghost use Rattle.tl_pieces.specs.Marks.{pass_of};
+ghost use Rattle.tl_pieces.specs.Pieces.{piece_at, live_of, with_live, with_pieces, IsFirstFree, IsNextFree, IsNextWanted};
 ghost use Rattle.tl_board.specs.Spans.{standing};
 ghost use Rattle.tl_board.specs.Windows.{key_of};
 ghost use Rattle.tl_board.specs.Outside.{IsWatchTaskFor, StandsInWatch, HandsInWatch};
@@ -17,8 +17,8 @@ use crate::watch_task::{WatchTask, WatchWindow};
 use crate::watches::Watches;
 use crate::{Rows, keep};
 use std::alloc::{AllocError, Global};
-use tl_capture::{PieceKey, Stored};
 use tl_monitor::Monitor;
+use tl_pieces::{PieceKey, Stored};
 
 impl Watches {
     /// The first window of a monitor that is wanted and has no live ticket.

@@ -2,9 +2,9 @@
 
 ghost use Rattle.std.specs.Prelude.{◌≡◌, ◌<◌, [], length, IfOk, IfSome, OnErr, Some, is_some, true};
 ghost use Rattle.std.specs.Bool.{Decides};
-ghost use Rattle.tl_capture.specs.Keys.{change};
-ghost use Rattle.tl_capture.specs.Marks.{pass_of};
-ghost use Rattle.tl_capture.specs.Pieces.{piece_at, entry_for, with_pieces, with_result, IsBoard, IsSettled, IsFirstWanted, HasTrueEntry};
+ghost use Rattle.tl_pieces.specs.Keys.{change};
+ghost use Rattle.tl_pieces.specs.Marks.{pass_of};
+ghost use Rattle.tl_pieces.specs.Pieces.{piece_at, entry_for, with_pieces, with_result, IsBoard, IsSettled, IsFirstWanted, HasTrueEntry};
 ghost use Rattle.tl_capture.specs.Present.{IsPresent};
 ghost use Rattle.tl_check.specs.Captured.{areas_at};
 ghost use Rattle.tl_check.specs.Found.{AreFound};
@@ -20,9 +20,10 @@ use std::alloc::{AllocError, Global};
 use std::marker::Model;
 use std::sync::Arc;
 use tl_beats::Row;
-use tl_capture::{PieceMap, Present};
+use tl_capture::Present;
 use tl_check::SpanState;
 use tl_edits::Log;
+use tl_pieces::PieceMap;
 use tl_same::Same;
 use tl_topology::Topo;
 

@@ -4,7 +4,7 @@ ghost use Rattle.std.specs.Prelude.{◌≡◌, ◌<◌, length, IfOk};
 ghost use Rattle.std.specs.Arc.{arc_value};
 ghost use Rattle.tl_topology.specs.Regions.{areas_of};
 ghost use Rattle.tl_definitions.specs.Managers.{manager_at};
-ghost use Rattle.tl_capture.specs.Marks.{pass_of};
+ghost use Rattle.tl_pieces.specs.Marks.{pass_of};
 ghost use Rattle.tl_check.specs.Jobs.{Judges};
 ghost use Rattle.tl_check.specs.States.{IsOf};
 ghost use Rattle.tl_board.specs.Tasks.{IsPassOf, HasNumbers, manager_of, task_for};
@@ -15,9 +15,10 @@ use std::alloc::{AllocError, Global};
 use std::marker::Model;
 use std::sync::Arc;
 use tl_beats::Row;
-use tl_capture::{Present, Stored, WindowBeats};
+use tl_capture::{Present, WindowBeats};
 use tl_check::{SpanState, check_window};
 use tl_client_rules::clients_of;
+use tl_pieces::Stored;
 use tl_topology::{RegionMap, Topo};
 
 /// A window of a manager that is to be checked, with all that its check asks: it needs nothing else, and may go to another

@@ -5,7 +5,7 @@ ghost use Rattle.std.specs.List.{Contains};
 ghost use Rattle.tl_definitions.specs.Watching.{IsWatch};
 ghost use Rattle.tl_edits.specs.Edits.{AnEdit, plain, plain_change};
 ghost use Rattle.tl_edits.specs.Inputs.{InputData, attached};
-ghost use Rattle.tl_capture.specs.declared.key.PieceKey.{PieceKey as AnyKey};
+ghost use Rattle.tl_pieces.specs.declared.key.PieceKey.{PieceKey as AnyKey};
 ghost use Rattle.tl_check.specs.Captured.{watched_beats};
 ghost use Rattle.tl_board.specs.Touch.{TouchesLink};
 ghost use Rattle.tl_board.specs.Touched.{IsTouched};
@@ -16,8 +16,8 @@ use crate::present::kept;
 use crate::{Touched, keys_of};
 use std::alloc::{AllocError, Global};
 use tl_beats::Watch;
-use tl_capture::PieceKey;
 use tl_edits::{Change, Edit, Inputs};
+use tl_pieces::PieceKey;
 use tl_topology::Topo;
 
 /// The link whose fragments an edit changes.

@@ -5,8 +5,8 @@ ghost use Rattle.std.specs.Arc.{arc_value};
 ghost use Rattle.std.specs.List.{All};
 ghost use Rattle.tl_definitions.specs.Report.{IsReport};
 ghost use Rattle.tl_edits.specs.Inputs.{watch_at};
-ghost use Rattle.tl_capture.specs.Marks.{pass_of};
-ghost use Rattle.tl_capture.specs.Pieces.{piece_at, entry_for, IsSettled};
+ghost use Rattle.tl_pieces.specs.Marks.{pass_of};
+ghost use Rattle.tl_pieces.specs.Pieces.{piece_at, entry_for, IsSettled};
 ghost use Rattle.tl_check.specs.Captured.{captures_after};
 ghost use Rattle.tl_check.specs.States.{SameSpan};
 ghost use Rattle.tl_board.specs.Spans.{standing};
@@ -19,9 +19,9 @@ use crate::windows::known;
 use crate::{Rows, gathered, keep};
 use std::alloc::{AllocError, Global};
 use tl_beats::Row;
-use tl_capture::{PieceKey, Stored};
 use tl_check::sort_rows;
 use tl_monitor::{Monitor, Watched};
+use tl_pieces::{PieceKey, Stored};
 
 impl Watches {
     /// Checks a window of a monitor, which is given, from what the windows of the monitor before it leave; the window's ticket

@@ -3,7 +3,7 @@
 ghost use Rattle.std.specs.Prelude.{◌≡◌, IfOk, OnOk};
 ghost use Rattle.std.specs.Arc.{arc_value};
 ghost use Rattle.std.specs.Bool.{Decides};
-ghost use Rattle.tl_capture.specs.Marks.{pass_of};
+ghost use Rattle.tl_pieces.specs.Marks.{pass_of};
 ghost use Rattle.tl_check.specs.Captured.{watched_beats};
 ghost use Rattle.tl_board.specs.WatchTasks.{AreWatched, IsAmid, IsTallyOf, IsWatchWindow, IsWatchTask, IsWatchPassOf, IsWatchCurrent, SameButTally, LeavesTally, with_monitor, without_monitor};
 ghost use Rattle.tl_capture.specs.Windows.{beats_in};
@@ -16,8 +16,9 @@ use std::alloc::{AllocError, Global};
 use std::marker::Model;
 use std::sync::Arc;
 use tl_beats::Watch;
-use tl_capture::{Present, Stored, WindowBeats};
+use tl_capture::{Present, WindowBeats};
 use tl_monitor::{Monitor, Watched, monitor_check};
+use tl_pieces::Stored;
 use tl_topology::Topo;
 
 /// A window of a monitor with all that its check asks but the monitor itself, which comes last, when no memory is asked any more.

@@ -2,9 +2,9 @@
 
 ghost use Rattle.std.specs.Prelude.{◌≡◌, IfOk, IfSome, is_some, true};
 ghost use Rattle.std.specs.Bool.{Decides};
-ghost use Rattle.tl_capture.specs.Keys.{change};
-ghost use Rattle.tl_capture.specs.Marks.{pass_of};
-ghost use Rattle.tl_capture.specs.Pieces.{piece_at, live_of, with_live, with_pieces, IsFirstFree};
+ghost use Rattle.tl_pieces.specs.Keys.{change};
+ghost use Rattle.tl_pieces.specs.Marks.{pass_of};
+ghost use Rattle.tl_pieces.specs.Pieces.{piece_at, live_of, with_live, with_pieces, IsFirstFree};
 ghost use Rattle.tl_check.specs.States.{SameSpan};
 ghost use Rattle.tl_board.specs.Spans.{standing};
 ghost use Rattle.tl_board.specs.Tickets.{IsTaskFor, StandsIn, HandsIn};
@@ -14,8 +14,8 @@ ghost use Rattle.tl_board.specs.Tasks.{IsPassOf};
 use crate::watches::Watches;
 use crate::{Rows, SpanTask};
 use std::alloc::{AllocError, Global};
-use tl_capture::{PieceKey, Stored};
 use tl_check::SpanState;
+use tl_pieces::{PieceKey, Stored};
 
 impl Watches {
     /// The first window of a manager that is wanted and has no live ticket.

@@ -3,7 +3,7 @@
 ghost use Rattle.std.specs.Prelude.{◌≡◌, ◌<◌, [], length, IfOk, IfSome, is_some, true};
 ghost use Rattle.std.specs.Bool.{Decides};
 ghost use Rattle.tl_edits.specs.Inputs.{watch_at};
-ghost use Rattle.tl_capture.specs.Pieces.{piece_at, IsBoard, IsSettled, IsFirstWanted, HasTrueEntry};
+ghost use Rattle.tl_pieces.specs.Pieces.{piece_at, IsBoard, IsSettled, IsFirstWanted, HasTrueEntry};
 ghost use Rattle.tl_check.specs.States.{SameSpan};
 ghost use Rattle.tl_board.specs.Tally.{SameTally};
 ghost use Rattle.tl_board.specs.Watches.{AreWatches};
@@ -15,7 +15,8 @@ use crate::windows::known;
 use crate::{Rows, Spans};
 use std::alloc::{AllocError, Global};
 use std::marker::Model;
-use tl_capture::{PieceKey, PieceMap, Present};
+use tl_capture::Present;
+use tl_pieces::{PieceKey, PieceMap};
 use tl_topology::Topo;
 
 /// A log of edits with the windows of all managers, and the windows of the monitors that are attached: of each window in which a

@@ -3,16 +3,17 @@
 ghost use Rattle.std.specs.Prelude.{◌≡◌, ◌++◌, Some, IfOk, OnOk, is_some, map, true};
 ghost use Rattle.std.specs.Arc.{arc_value};
 ghost use Rattle.std.specs.List.{Contains};
-ghost use Rattle.tl_capture.specs.declared.key.PieceKey.{PieceKey as AnyKey};
-ghost use Rattle.tl_capture.specs.Keys.{change};
-ghost use Rattle.tl_capture.specs.Marks.{pass_of};
-ghost use Rattle.tl_capture.specs.Pieces.{entry_for, opening_of, piece_at, with_pieces, IsBoard, IsSettled, EachOwnerIsChained};
+ghost use Rattle.tl_pieces.specs.declared.key.PieceKey.{PieceKey as AnyKey};
+ghost use Rattle.tl_pieces.specs.Keys.{change};
+ghost use Rattle.tl_pieces.specs.Marks.{pass_of};
+ghost use Rattle.tl_pieces.specs.Pieces.{entry_for, opening_of, piece_at, with_pieces, IsBoard, IsSettled, EachOwnerIsChained};
 ghost use Rattle.tl_board.specs.Windows.{key_of, with_checked, AreKeysOf, IsGrown, HasAll, IsTaken, IsPruned, AreBlank};
 ghost use Rattle.tl_capture.specs.Windows.{HasBeat};
 ghost use Rattle.tl_definitions.specs.Positions.{beats_of_all};
 
 use std::alloc::{AllocError, Global};
-use tl_capture::{PieceKey, PieceMap, Present, Stored};
+use tl_capture::Present;
+use tl_pieces::{PieceKey, PieceMap, Stored};
 use tl_same::Same;
 
 /// The keys with one of these owners and one of these windows. AllocError where memory is refused.

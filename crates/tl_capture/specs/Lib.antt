@@ -10,10 +10,3 @@ pub mod Cursors
 pub mod Waiting
 pub mod Runs
 pub mod Walk
-pub mod Keys
-pub mod Tallies
-pub mod Slots
-pub mod Pieces
-pub mod Marks
-pub mod PieceWalk
-pub mod BoardLaws

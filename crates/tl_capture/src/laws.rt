@@ -1,10 +1,7 @@
-//! What follows for windows, their results and links.
+//! What follows for windows and links.
 
 ghost use Rattle.tl_capture.specs.Windows.{WindowsAreWhole, LinksAreKept, ChannelsAreKept, OneLinkIsItsOwn};
 ghost use Rattle.tl_capture.specs.Touch.{WindowsAreTheirBeats, PutsAreLocal, TakesAreLocal, ClearsAreLocal};
-ghost use Rattle.tl_capture.specs.BoardLaws.{ResultsMoveOn};
-
-use tl_same::Same;
 
 /// The beats of the windows that have one, one after the other, are all beats.
 pub fn windows_are_whole()
@@ -44,10 +41,4 @@ pub fn takes_are_local()
 /// A link that is cleared leaves the windows in which it had no beat, and those of other links.
 pub fn clears_are_local()
     ensures { ClearsAreLocal }
-{}
-
-/// Where the first piece that is wanted gets a result whose entry is what a job for it starts from, the first that is wanted then
-/// stands after it. So each piece is checked at most once on the way to a board where none is wanted.
-pub fn results_move_on<S: Same, R>()
-    ensures { ResultsMoveOn S R S.same }
 {}

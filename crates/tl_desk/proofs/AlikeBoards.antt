@@ -7,9 +7,9 @@ use Rattle.tl_definitions.specs.Managers.{manager_at}
 use Rattle.tl_edits.specs.Edits.{AnEdit}
 use Rattle.tl_edits.specs.Inputs.{InputData}
 use Rattle.tl_edits.specs.Log.{LogData, inputs_after}
-use Rattle.tl_capture.specs.declared.key.PieceKey.{PieceKey}
-use Rattle.tl_capture.specs.Keys.{value_at, change}
-use Rattle.tl_capture.specs.Pieces.{Board, Piece, Pass, empty, IsBoard, IsAt, IsFirst, IsGood, Follows, IsWanted, IsWantedAt, ChainsFrom, opening_of, exit_before, left_by, piece_at, result_of, live_of, with_live}
+use Rattle.tl_pieces.specs.declared.key.PieceKey.{PieceKey}
+use Rattle.tl_pieces.specs.Keys.{value_at, change}
+use Rattle.tl_pieces.specs.Pieces.{Board, Piece, Pass, empty, IsBoard, IsAt, IsFirst, IsGood, Follows, IsWanted, IsWantedAt, ChainsFrom, opening_of, exit_before, left_by, piece_at, result_of, live_of, with_live}
 use Rattle.tl_check.specs.Links.{SameLink}
 use Rattle.tl_check.specs.States.{SameSpan, StandsFor}
 use Rattle.tl_check.specs.declared.links.LinkState.{LinkState}

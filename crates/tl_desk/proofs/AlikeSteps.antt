@@ -11,9 +11,9 @@ use Rattle.tl_edits.specs.Inputs.{InputData}
 use Rattle.tl_edits.specs.Log.{LogData, inputs_after}
 use Rattle.tl_desk.specs.JobData.{JobData, DoneData, piece_of}
 use Rattle.tl_desk.specs.MonitorJobs.{MonitorJobData, MonitorDoneData, monitor_piece}
-use Rattle.tl_capture.specs.declared.key.PieceKey.{PieceKey}
-use Rattle.tl_capture.specs.Keys.{value_at, change}
-use Rattle.tl_capture.specs.Pieces.{Board, Pass, IsFirst, IsFree, IsFirstFree, ChainsFrom, piece_at, live_of, with_live}
+use Rattle.tl_pieces.specs.declared.key.PieceKey.{PieceKey}
+use Rattle.tl_pieces.specs.Keys.{value_at, change}
+use Rattle.tl_pieces.specs.Pieces.{Board, Pass, IsFirst, IsFree, IsFirstFree, ChainsFrom, piece_at, live_of, with_live}
 use Rattle.tl_check.specs.Captured.{captures_after}
 use Rattle.tl_check.specs.Output.{ReportData}
 use Rattle.tl_check.specs.States.{SameSpan}

@@ -4,10 +4,10 @@ use Rattle.std.specs.Prelude.{is_some}
 use Rattle.std.specs.BTreeMap.{is_at}
 use Rattle.std.proofs.lemmas.Bool.Decides.{nat_tests}
 use Rattle.tl_beats.specs.declared.Row.{Row}
-use Rattle.tl_capture.specs.declared.key.PieceKey.{PieceKey}
-use Rattle.tl_capture.specs.Keys.{key_cmp, value_at}
-use Rattle.tl_capture.specs.Pieces.{Pass, Piece, IsFirst, IsFree, IsGood, exit_before, left_by, opening_of, piece_at, result_of, live_of}
-use Rattle.tl_capture.proofs.KeyLemmas.{key_exact}
+use Rattle.tl_pieces.specs.declared.key.PieceKey.{PieceKey}
+use Rattle.tl_pieces.specs.Keys.{key_cmp, value_at}
+use Rattle.tl_pieces.specs.Pieces.{Pass, Piece, IsFirst, IsFree, IsGood, exit_before, left_by, opening_of, piece_at, result_of, live_of}
+use Rattle.tl_pieces.proofs.KeyLemmas.{key_exact}
 use Rattle.tl_check.specs.States.{SameSpan}
 use Rattle.tl_check.specs.declared.state.SpanState.{SpanState}
 use Rattle.tl_board.specs.Windows.{key_of}

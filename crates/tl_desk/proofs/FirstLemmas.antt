@@ -7,10 +7,10 @@ use Rattle.std.specs.List.{AllByRecursion}
 use Rattle.std.specs.Option.{IfSome, option_map_or}
 use Rattle.std.specs.Map.{keys_of}
 use Rattle.std.specs.Ordering.{nat_cmp, ordering_then, is_le}
-use Rattle.tl_capture.proofs.KeyLemmas.{key_exact, owner_ge}
-use Rattle.tl_capture.specs.declared.key.PieceKey.{PieceKey}
-use Rattle.tl_capture.specs.Keys.{key_cmp, change, Rises, IsNotBefore, start_of}
-use Rattle.tl_capture.specs.Pieces.{Piece, Pass, IsFirst, IsWanted, IsGood, opening_of, exit_of, exit_before, left_by}
+use Rattle.tl_pieces.proofs.KeyLemmas.{key_exact, owner_ge}
+use Rattle.tl_pieces.specs.declared.key.PieceKey.{PieceKey}
+use Rattle.tl_pieces.specs.Keys.{key_cmp, change, Rises, IsNotBefore, start_of}
+use Rattle.tl_pieces.specs.Pieces.{Piece, Pass, IsFirst, IsWanted, IsGood, opening_of, exit_of, exit_before, left_by}
 use Rattle.tl_board.specs.Windows.{with_checked}
 
 -- ---- keys from a first owner on

@@ -10,8 +10,8 @@ use Rattle.tl_edits.specs.Edits.{plain_change}
 use Rattle.tl_edits.specs.declared.edit.Change.{Change}
 use Rattle.tl_edits.specs.declared.edit.Change.TheVariants as change
 use Rattle.tl_monitor.specs.Held.{Held}
-use Rattle.tl_capture.specs.declared.key.PieceKey.{PieceKey}
-use Rattle.tl_capture.specs.Pieces.{Piece, IsFirst, left_by}
+use Rattle.tl_pieces.specs.declared.key.PieceKey.{PieceKey}
+use Rattle.tl_pieces.specs.Pieces.{Piece, IsFirst, left_by}
 use Rattle.tl_topology.specs.Topology.{Topology}
 use Rattle.tl_beats.specs.declared.watch.Watch.{Watch}
 use Rattle.tl_desk.specs.declared.call.Call.TheVariants as call

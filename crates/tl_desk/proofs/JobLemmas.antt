@@ -12,9 +12,9 @@ use Rattle.tl_edits.specs.Log.{LogData, inputs_after}
 use Rattle.tl_desk.specs.JobData.{JobData, piece_of}
 use Rattle.tl_desk.specs.MonitorJobs.{MonitorJobData}
 use Rattle.tl_monitor.specs.Held.{Held}
-use Rattle.tl_capture.specs.declared.key.PieceKey.{PieceKey}
-use Rattle.tl_capture.specs.Keys.{change}
-use Rattle.tl_capture.specs.Pieces.{Board, Pass, Piece, piece_at, live_of, with_live, with_pieces}
+use Rattle.tl_pieces.specs.declared.key.PieceKey.{PieceKey}
+use Rattle.tl_pieces.specs.Keys.{change}
+use Rattle.tl_pieces.specs.Pieces.{Board, Pass, Piece, piece_at, live_of, with_live, with_pieces}
 use Rattle.tl_check.specs.declared.state.SpanState.{SpanState}
 use Rattle.tl_board.specs.Spans.{SpansData}
 use Rattle.tl_board.specs.Tickets.{HandsIn}

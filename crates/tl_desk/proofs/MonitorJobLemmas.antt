@@ -1,7 +1,7 @@
 -- Jobs on windows of monitors.
 use Rattle.std.proofs.Common.{◌≡◌, List, sym, subst}
 use Rattle.tl_beats.specs.declared.Row.{Row}
-use Rattle.tl_capture.specs.Pieces.{Pass}
+use Rattle.tl_pieces.specs.Pieces.{Pass}
 use Rattle.tl_board.specs.declared.tally.Tally.{Tally}
 use Rattle.tl_board.specs.WatchTasks.{WatchTaskData, IsWatchPassOf, SameButTally}
 

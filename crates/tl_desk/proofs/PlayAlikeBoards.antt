@@ -1,9 +1,9 @@
 -- What each call makes of windows that show the same.
 use Rattle.std.proofs.Common.{◌≡◌, ℕ, ◌⊎◌, inl, inr, ◌==◌, true, false, cond, Bool, List, [], ◌∷◌, Option, Some, None, refl, sym, ap, subst, ◌∙◌}
 use Rattle.tl_beats.specs.declared.Row.{Row}
-use Rattle.tl_capture.specs.declared.key.PieceKey.{PieceKey}
-use Rattle.tl_capture.specs.Keys.{change}
-use Rattle.tl_capture.specs.Pieces.{Board, Piece, Pass, IsAt, IsFirst, IsGood, IsWanted, IsWantedAt, IsFree, IsFirstFree, opening_of, exit_before, left_by, piece_at, live_of, with_live, with_pieces}
+use Rattle.tl_pieces.specs.declared.key.PieceKey.{PieceKey}
+use Rattle.tl_pieces.specs.Keys.{change}
+use Rattle.tl_pieces.specs.Pieces.{Board, Piece, Pass, IsAt, IsFirst, IsGood, IsWanted, IsWantedAt, IsFree, IsFirstFree, opening_of, exit_before, left_by, piece_at, live_of, with_live, with_pieces}
 use Rattle.tl_board.specs.Windows.{with_checked}
 use Rattle.tl_desk.specs.Alike.{AreBoth, SamePass, SamePiece, HaveSamePieces}
 use Rattle.tl_desk.proofs.AlikeBoards.{OpenAlike}

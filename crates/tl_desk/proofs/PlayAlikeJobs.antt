@@ -24,8 +24,8 @@ use Rattle.tl_desk.specs.declared.job.Job.{Job}
 use Rattle.tl_desk.specs.declared.job.Job.TheVariants as a_job
 use Rattle.tl_desk.specs.declared.job.Done.{Done}
 use Rattle.tl_desk.specs.declared.job.Done.TheVariants as a_done
-use Rattle.tl_capture.specs.declared.key.PieceKey.{PieceKey}
-use Rattle.tl_capture.specs.Pieces.{Pass, entry_for}
+use Rattle.tl_pieces.specs.declared.key.PieceKey.{PieceKey}
+use Rattle.tl_pieces.specs.Pieces.{Pass, entry_for}
 use Rattle.tl_check.specs.Captured.{watched_beats}
 use Rattle.tl_check.specs.Links.{SameLink}
 use Rattle.tl_check.specs.States.{IsOf, SameSpan}

@@ -10,10 +10,10 @@ use Rattle.std.proofs.lemmas.Map.{lookup-none}
 use Rattle.std.proofs.lemmas.Map.Entries.{none_below_head}
 use Rattle.std.proofs.lemmas.Map.Keys.{sorted_head, sorted_tail}
 use Rattle.tl_beats.specs.declared.Row.{Row}
-use Rattle.tl_capture.specs.declared.key.PieceKey.{PieceKey}
-use Rattle.tl_capture.specs.Keys.{key_cmp, value_at, change, before, Rises}
-use Rattle.tl_capture.specs.Pieces.{Board, Piece, Pass, opening_of, exit_of, last_exit, live_of, entry_for}
-use Rattle.tl_capture.proofs.KeyLemmas.{key_total, key_exact, key_self}
+use Rattle.tl_pieces.specs.declared.key.PieceKey.{PieceKey}
+use Rattle.tl_pieces.specs.Keys.{key_cmp, value_at, change, before, Rises}
+use Rattle.tl_pieces.specs.Pieces.{Board, Piece, Pass, opening_of, exit_of, last_exit, live_of, entry_for}
+use Rattle.tl_pieces.proofs.KeyLemmas.{key_total, key_exact, key_self}
 use Rattle.tl_board.proofs.CheckLemmas.{lookup_change}
 use Rattle.tl_desk.specs.Alike.{AreBoth, SamePass, SamePiece}
 use Rattle.tl_desk.proofs.AlikeBoards.{OpenAlike, moved}

@@ -9,7 +9,7 @@ use Rattle.tl_edits.specs.declared.edit.Change.{Change}
 use Rattle.tl_desk.specs.Works as works
 use Rattle.tl_desk.specs.declared.job.Done.{Done}
 use Rattle.tl_desk.specs.declared.job.Done.TheVariants as a_done
-use Rattle.tl_capture.specs.Pieces.{Pass, Piece, piece_at}
+use Rattle.tl_pieces.specs.Pieces.{Pass, Piece, piece_at}
 use Rattle.tl_check.specs.States.{SameSpan}
 use Rattle.tl_board.specs.Tally.{SameTally}
 use Rattle.tl_desk.specs.Alike.{AreBoth, SamePass, SamePiece, HaveSameMonitors, ShowAlike, PlaysKeepDesksAlike, RepliesFixTheDesk}

@@ -16,8 +16,8 @@ use Rattle.tl_desk.specs.declared.job.Job.{Job}
 use Rattle.tl_desk.specs.declared.job.Job.TheVariants as a_job
 use Rattle.tl_desk.specs.declared.job.Done.{Done}
 use Rattle.tl_desk.specs.declared.job.Done.TheVariants as a_done
-use Rattle.tl_capture.specs.declared.key.PieceKey.{PieceKey}
-use Rattle.tl_capture.specs.Pieces.{Pass, IsFree, IsFirstFree, piece_at}
+use Rattle.tl_pieces.specs.declared.key.PieceKey.{PieceKey}
+use Rattle.tl_pieces.specs.Pieces.{Pass, IsFree, IsFirstFree, piece_at}
 use Rattle.tl_check.specs.Captured.{captures_after}
 use Rattle.tl_check.specs.Output.{ReportData}
 use Rattle.tl_check.specs.States.{SameSpan}

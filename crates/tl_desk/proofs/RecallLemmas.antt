@@ -3,10 +3,10 @@ use Rattle.std.proofs.Common.{◌≡◌, ℕ, inl, inr, Bool, true, false, cond,
 use Rattle.std.specs.BTreeMap.{is_at}
 use Rattle.std.specs.Option.{option_map}
 use Rattle.tl_beats.specs.declared.Row.{Row}
-use Rattle.tl_capture.proofs.KeyLemmas.{key_exact}
-use Rattle.tl_capture.specs.declared.key.PieceKey.{PieceKey}
-use Rattle.tl_capture.specs.Keys.{key_cmp, change}
-use Rattle.tl_capture.specs.Pieces.{Board, piece_at, live_of, with_live, with_pieces}
+use Rattle.tl_pieces.proofs.KeyLemmas.{key_exact}
+use Rattle.tl_pieces.specs.declared.key.PieceKey.{PieceKey}
+use Rattle.tl_pieces.specs.Keys.{key_cmp, change}
+use Rattle.tl_pieces.specs.Pieces.{Board, piece_at, live_of, with_live, with_pieces}
 use Rattle.tl_check.specs.declared.state.SpanState.{SpanState}
 use Rattle.tl_board.proofs.CheckLemmas.{lookup_change}
 use Rattle.tl_desk.specs.TicketData.{IsOutFor}

@@ -4,9 +4,9 @@ use Rattle.std.specs.BTreeMap.{is_at}
 use Rattle.tl_beats.specs.declared.Row.{Row}
 use Rattle.tl_desk.specs.JobData.{JobData}
 use Rattle.tl_desk.specs.MonitorJobs.{MonitorJobData}
-use Rattle.tl_capture.specs.declared.key.PieceKey.{PieceKey}
-use Rattle.tl_capture.specs.Keys.{key_cmp, change}
-use Rattle.tl_capture.specs.Pieces.{Board, Piece, Pass, exit_before, left_by, with_live, IsAt, IsFirst, IsGood, Follows, IsWanted, ChainsFrom, IsSettled}
+use Rattle.tl_pieces.specs.declared.key.PieceKey.{PieceKey}
+use Rattle.tl_pieces.specs.Keys.{key_cmp, change}
+use Rattle.tl_pieces.specs.Pieces.{Board, Piece, Pass, exit_before, left_by, with_live, IsAt, IsFirst, IsGood, Follows, IsWanted, ChainsFrom, IsSettled}
 use Rattle.tl_check.specs.States.{SameSpan}
 use Rattle.tl_check.specs.declared.state.SpanState.{SpanState}
 use Rattle.tl_board.specs.Spans.{SpansData}

@@ -9,10 +9,10 @@ use Rattle.tl_beats.specs.declared.watch.Watch.{Watch}
 use Rattle.tl_monitor.specs.Boxes.{BoxesData, place_at, held_at}
 use Rattle.tl_monitor.specs.Places.{Place, Here, Out, held_of}
 use Rattle.tl_monitor.specs.Held.{Held}
-use Rattle.tl_capture.proofs.KeyLemmas.{key_exact, key_self}
-use Rattle.tl_capture.specs.declared.key.PieceKey.{PieceKey}
-use Rattle.tl_capture.specs.Keys.{key_cmp, change, before}
-use Rattle.tl_capture.specs.Pieces.{Piece, opening_of, exit_of, last_exit, entry_for}
+use Rattle.tl_pieces.proofs.KeyLemmas.{key_exact, key_self}
+use Rattle.tl_pieces.specs.declared.key.PieceKey.{PieceKey}
+use Rattle.tl_pieces.specs.Keys.{key_cmp, change, before}
+use Rattle.tl_pieces.specs.Pieces.{Piece, opening_of, exit_of, last_exit, entry_for}
 use Rattle.tl_board.proofs.RecheckLemmas.{before_changed}
 use Rattle.tl_board.specs.Spans.{SpansData, standing}
 use Rattle.tl_board.specs.Windows.{key_of, with_checked}

@@ -15,10 +15,10 @@ use Rattle.tl_definitions.specs.Captures.{manager_beats}
 use Rattle.tl_edits.specs.Edits.{AnEdit}
 use Rattle.tl_edits.specs.Inputs.{InputData, watch_at, changed}
 use Rattle.tl_edits.specs.Log.{LogData, inputs_after}
-use Rattle.tl_capture.specs.declared.key.PieceKey.{PieceKey}
-use Rattle.tl_capture.specs.Keys.{key_cmp, change}
-use Rattle.tl_capture.specs.Pieces.{Board, Piece, piece_at, live_of, with_live, with_pieces}
-use Rattle.tl_capture.proofs.KeyLemmas.{key_exact, key_self}
+use Rattle.tl_pieces.specs.declared.key.PieceKey.{PieceKey}
+use Rattle.tl_pieces.specs.Keys.{key_cmp, change}
+use Rattle.tl_pieces.specs.Pieces.{Board, Piece, piece_at, live_of, with_live, with_pieces}
+use Rattle.tl_pieces.proofs.KeyLemmas.{key_exact, key_self}
 use Rattle.tl_check.specs.Captured.{areas_at}
 use Rattle.tl_check.specs.States.{SameSpan}
 use Rattle.tl_check.specs.declared.state.SpanState.{SpanState}

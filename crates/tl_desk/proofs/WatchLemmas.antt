@@ -3,8 +3,8 @@ use Rattle.std.proofs.Common.{◌≡◌, ◌++◌, ◌∷◌, [], List, Option, 
 use Rattle.std.specs.Prelude.{IfSome}
 use Rattle.tl_beats.specs.declared.Row.{Row}
 use Rattle.tl_monitor.specs.Boxes.{BoxesData}
-use Rattle.tl_capture.specs.declared.key.PieceKey.{PieceKey}
-use Rattle.tl_capture.specs.Pieces.{Board, IsFirstWanted, HasTrueEntry}
+use Rattle.tl_pieces.specs.declared.key.PieceKey.{PieceKey}
+use Rattle.tl_pieces.specs.Pieces.{Board, IsFirstWanted, HasTrueEntry}
 use Rattle.tl_board.proofs.RecheckLemmas.{IsUnderWay, one_more}
 use Rattle.tl_board.specs.declared.tally.Tally.{Tally}
 use Rattle.tl_board.specs.Tally.{SameTally}

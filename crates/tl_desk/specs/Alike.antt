@@ -5,8 +5,8 @@ use Rattle.tl_beats.specs.declared.Row.{Row}
 use Rattle.tl_beats.specs.declared.watch.Watch.{Watch}
 use Rattle.tl_monitor.specs.Boxes.{BoxesData, place_at}
 use Rattle.tl_monitor.specs.Places.{Place, Here, Out}
-use Rattle.tl_capture.specs.declared.key.PieceKey.{PieceKey}
-use Rattle.tl_capture.specs.Pieces.{Board, Piece, Pass, piece_at}
+use Rattle.tl_pieces.specs.declared.key.PieceKey.{PieceKey}
+use Rattle.tl_pieces.specs.Pieces.{Board, Piece, Pass, piece_at}
 use Rattle.tl_check.specs.States.{SameSpan}
 use Rattle.tl_board.specs.Tally.{SameTally}
 use Rattle.tl_desk.specs.Core.{Core, IsDesk, log_of}

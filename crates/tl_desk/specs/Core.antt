@@ -7,7 +7,7 @@ use Rattle.tl_definitions.specs.Report.{IsReport}
 use Rattle.tl_topology.specs.Topology.{Topology}
 use Rattle.tl_edits.specs.Inputs.{InputData, watch_at, was_attached}
 use Rattle.tl_edits.specs.Log.{LogData, inputs_after}
-use Rattle.tl_capture.specs.Pieces.{IsBoard, IsSettled}
+use Rattle.tl_pieces.specs.Pieces.{IsBoard, IsSettled}
 use Rattle.tl_check.specs.Captured.{captures_after}
 use Rattle.tl_check.specs.Output.{ReportData}
 use Rattle.tl_board.specs.Spans as spans

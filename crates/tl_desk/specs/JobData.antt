@@ -1,7 +1,7 @@
 -- Windows that are out to be checked, and what comes back, as plain data.
 use Rattle.std.specs.Prelude.{ℕ, ◌≡◌, List}
 use Rattle.tl_beats.specs.declared.Row.{Row}
-use Rattle.tl_capture.specs.Pieces.{Pass}
+use Rattle.tl_pieces.specs.Pieces.{Pass}
 use Rattle.tl_check.specs.declared.state.SpanState.{SpanState}
 use Rattle.tl_board.specs.Tasks.{TaskData, IsPassOf}
 use Rattle.tl_desk.specs.declared.piece.Piece.{Piece}

@@ -15,9 +15,9 @@ use Rattle.tl_desk.specs.declared.job.Done.{Done}
 use Rattle.tl_desk.specs.declared.job.Done.TheVariants as a_done
 use Rattle.tl_desk.specs.declared.job.HandIn.{HandIn}
 use Rattle.tl_desk.specs.declared.job.HandIn.TheVariants as answer
-use Rattle.tl_capture.specs.declared.key.PieceKey.{PieceKey}
-use Rattle.tl_capture.specs.Keys.{change}
-use Rattle.tl_capture.specs.Pieces.{Board, piece_at, live_of, with_live, with_pieces, IsFirst, IsFree, IsFirstFree}
+use Rattle.tl_pieces.specs.declared.key.PieceKey.{PieceKey}
+use Rattle.tl_pieces.specs.Keys.{change}
+use Rattle.tl_pieces.specs.Pieces.{Board, piece_at, live_of, with_live, with_pieces, IsFirst, IsFree, IsFirstFree}
 use Rattle.tl_check.specs.States.{SameSpan}
 use Rattle.tl_board.specs.Spans.{SpansData}
 use Rattle.tl_board.specs.Tickets.{IsTaskFor, StandsIn, HandsIn}

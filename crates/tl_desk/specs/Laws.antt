@@ -2,7 +2,7 @@
 use Rattle.std.specs.Prelude.{ℕ, ◌≡◌, ◌<◌, ◌↔◌, true, length, None}
 use Rattle.tl_definitions.specs.Captures.{manager_beats}
 use Rattle.tl_edits.specs.Inputs.{was_attached}
-use Rattle.tl_capture.specs.Pieces.{piece_at, result_of, live_of}
+use Rattle.tl_pieces.specs.Pieces.{piece_at, result_of, live_of}
 use Rattle.tl_board.specs.Windows.{key_of}
 use Rattle.tl_capture.specs.Windows.{HasBeat}
 use Rattle.tl_desk.specs.Core.{Core, AllSettled, IsSound, IsDesk, log_of, standing}

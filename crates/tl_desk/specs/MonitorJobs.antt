@@ -1,7 +1,7 @@
 -- Windows of monitors that are out to be checked, and what comes back, as plain data.
 use Rattle.std.specs.Prelude.{ℕ, ◌≡◌, List}
 use Rattle.tl_beats.specs.declared.Row.{Row}
-use Rattle.tl_capture.specs.Pieces.{Pass}
+use Rattle.tl_pieces.specs.Pieces.{Pass}
 use Rattle.tl_desk.specs.declared.piece.Piece.{Piece}
 use Rattle.tl_desk.specs.declared.piece.Piece.TheVariants as piece
 use Rattle.tl_board.specs.declared.tally.Tally.{Tally}

@@ -15,7 +15,7 @@ use Rattle.tl_desk.specs.declared.job.Job.{Job}
 use Rattle.tl_desk.specs.declared.job.Done.{Done}
 use Rattle.tl_desk.specs.declared.job.HandIn.{HandIn}
 use Rattle.tl_desk.specs.declared.job.HandIn.TheVariants as answer
-use Rattle.tl_capture.specs.Pieces.{IsFirstFree}
+use Rattle.tl_pieces.specs.Pieces.{IsFirstFree}
 use Rattle.tl_check.specs.States.{SameSpan}
 use Rattle.tl_desk.specs.TicketData.{most_tickets}
 use Rattle.tl_desk.specs.Core.{Core, IsDesk, AllSettled, most_versions, log_of, standing}

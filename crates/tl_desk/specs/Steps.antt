@@ -18,8 +18,8 @@ use Rattle.tl_desk.specs.declared.job.HandIn.{HandIn}
 use Rattle.tl_desk.specs.declared.job.HandIn.TheVariants as answer
 use Rattle.tl_monitor.specs.Held.{Held}
 use Rattle.std.specs.Option.{option_map}
-use Rattle.tl_capture.specs.declared.key.PieceKey.{PieceKey}
-use Rattle.tl_capture.specs.Pieces.{Board, Pass, IsFirst, IsWanted, entry_for}
+use Rattle.tl_pieces.specs.declared.key.PieceKey.{PieceKey}
+use Rattle.tl_pieces.specs.Pieces.{Board, Pass, IsFirst, IsWanted, entry_for}
 use Rattle.tl_check.specs.Captured.{captures_after}
 use Rattle.tl_check.specs.Output.{ReportData}
 use Rattle.tl_check.specs.States.{SameSpan}

@@ -7,8 +7,8 @@ use Rattle.tl_monitor.specs.declared.away.Away.{Away}
 use Rattle.tl_definitions.specs.Captures.{manager_beats}
 use Rattle.tl_edits.specs.Inputs.{InputData, watch_at}
 use Rattle.tl_edits.specs.Log.{LogData, inputs_after}
-use Rattle.tl_capture.specs.declared.key.PieceKey.{PieceKey}
-use Rattle.tl_capture.specs.Pieces.{Board, piece_at, live_of}
+use Rattle.tl_pieces.specs.declared.key.PieceKey.{PieceKey}
+use Rattle.tl_pieces.specs.Pieces.{Board, piece_at, live_of}
 use Rattle.tl_check.specs.Captured.{areas_at}
 use Rattle.tl_check.specs.declared.state.SpanState.{SpanState}
 use Rattle.tl_desk.specs.declared.piece.Piece.{Piece}

@@ -2,14 +2,14 @@
 
 ghost use Rattle.std.specs.Prelude.{◌≡◌, IfOk, IfErr};
 ghost use Rattle.tl_desk.specs.JobData.{piece_of, IsDone};
-ghost use Rattle.tl_capture.specs.Marks.{pass_of};
+ghost use Rattle.tl_pieces.specs.Marks.{pass_of};
 
 use crate::Piece;
 use std::alloc::Global;
 use std::marker::Model;
 use tl_board::{Rows, SpanTask};
-use tl_capture::Stored;
 use tl_check::SpanState;
+use tl_pieces::Stored;
 
 /// A window of a manager that went out to be checked, with its ticket. It must be spent, as a `Job`.
 pub struct ManagerJob {
@@ -74,7 +74,7 @@ pub struct ManagerDone {
 impl Model for ManagerDone {
     ghost use Rattle.std.specs.Coded.{codes};
     ghost use Rattle.tl_desk.specs.JobData.{DoneData, IsDone};
-    ghost use Rattle.tl_capture.specs.Marks.{pass_of};
+    ghost use Rattle.tl_pieces.specs.Marks.{pass_of};
     ghost use Rattle.tl_check.specs.contracts.state.SpanState as state;
 
     ghost Value = { DoneData };

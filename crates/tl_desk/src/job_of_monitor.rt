@@ -2,14 +2,14 @@
 
 ghost use Rattle.std.specs.Prelude.{◌≡◌, IfOk, IfErr};
 ghost use Rattle.tl_desk.specs.MonitorJobs.{monitor_piece, IsMonitorDone, SameJob};
-ghost use Rattle.tl_capture.specs.Marks.{pass_of};
+ghost use Rattle.tl_pieces.specs.Marks.{pass_of};
 
 use crate::Piece;
 use std::alloc::Global;
 use std::marker::Model;
 use tl_board::{Rows, Tally, WatchTask};
-use tl_capture::Stored;
 use tl_monitor::Monitor;
+use tl_pieces::Stored;
 
 /// A window of a monitor that went out to be checked with its monitor, and with its ticket. It must be spent, as a `Job`.
 pub struct MonitorJob<M: Monitor> {
@@ -79,7 +79,7 @@ pub struct MonitorDone<M: Monitor> {
 
 impl<M: Monitor> Model for MonitorDone<M> {
     ghost use Rattle.tl_desk.specs.MonitorJobs.{MonitorDoneData, IsMonitorDone};
-    ghost use Rattle.tl_capture.specs.Marks.{pass_of};
+    ghost use Rattle.tl_pieces.specs.Marks.{pass_of};
 
     ghost Value = { MonitorDoneData };
 

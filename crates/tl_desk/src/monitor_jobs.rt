@@ -5,7 +5,7 @@ ghost use Rattle.std.specs.Bool.{Decides};
 ghost use Rattle.std.specs.Option.{option_map, IsSomeAnd};
 ghost use Rattle.std.specs.Result.{IsErrOf};
 ghost use Rattle.tl_desk.specs.declared.job.Done.TheVariants as a_done;
-ghost use Rattle.tl_capture.specs.Pieces.{piece_at, IsFirstFree};
+ghost use Rattle.tl_pieces.specs.Pieces.{piece_at, IsFirstFree};
 ghost use Rattle.tl_check.specs.States.{SameSpan};
 ghost use Rattle.tl_board.specs.Windows.{key_of};
 ghost use Rattle.tl_desk.specs.declared.piece.Piece.TheVariants as piece;
@@ -20,8 +20,8 @@ use crate::tickets::Taken;
 use crate::{Done, HandIn, MonitorDone, MonitorJob, Piece, TakeFault};
 use std::alloc::Global;
 use tl_board::{WatchTask, Watches, is_watch, watch_key};
-use tl_capture::PieceKey;
 use tl_monitor::{Boxes, Monitor};
+use tl_pieces::PieceKey;
 
 /// If a ticket is a window's live one, the window has none any more. Answers whether it was.
 fn unmark(windows: &mut Watches, key: PieceKey, ticket: u64) -> bool

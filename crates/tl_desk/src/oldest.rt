@@ -8,8 +8,8 @@ ghost use Rattle.tl_desk.specs.Jobs.{IsLive, IsLiveAt, IsLiveAtWatch, IsOldestLi
 use crate::Piece;
 use crate::desk::Desk;
 use tl_board::Watches;
-use tl_capture::PieceKey;
 use tl_monitor::Monitor;
+use tl_pieces::PieceKey;
 
 /// Whether a ticket is the live one of a window of a manager.
 fn is_live_at(windows: &Watches, key: PieceKey, ticket: u64) -> bool

@@ -4,7 +4,7 @@ ghost use Rattle.std.specs.Prelude.{◌≡◌, ◌⊎◌, IfOk, IfErr, IfSome, O
 ghost use Rattle.std.specs.Result.{IsErrOf};
 ghost use Rattle.tl_monitor.specs.Boxes.{away_at};
 ghost use Rattle.tl_edits.specs.Inputs.{watch_at};
-ghost use Rattle.tl_capture.specs.Pieces.{piece_at, IsSettled, IsFirstWanted};
+ghost use Rattle.tl_pieces.specs.Pieces.{piece_at, IsSettled, IsFirstWanted};
 ghost use Rattle.tl_check.specs.States.{SameSpan};
 ghost use Rattle.tl_board.specs.Recheck.{Rechecks, ChecksSome};
 ghost use Rattle.tl_board.specs.Spans.{standing};
@@ -18,8 +18,8 @@ use crate::desk::Desk;
 use crate::fault::RecheckFault;
 use std::alloc::{AllocError, Global};
 use tl_board::Watches;
-use tl_capture::PieceKey;
 use tl_monitor::{Boxes, Monitor};
+use tl_pieces::PieceKey;
 
 /// Checks a window of a monitor that is here. AllocError where memory is refused: then no window has changed.
 fn check_here<M: Monitor>(

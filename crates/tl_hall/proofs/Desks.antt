@@ -7,7 +7,7 @@ use Rattle.tl_desk.specs.declared.call.Call.{Call}
 use Rattle.tl_desk.specs.declared.call.Call.TheVariants as call
 use Rattle.tl_desk.proofs.AlikeBoards.{one_first}
 use Rattle.tl_desk.proofs.AlikeSteps.{calls_keep_desks_alike, new_alike, first_free_alike, first_watch_alike, settled_alike}
-use Rattle.tl_capture.specs.Pieces.{IsFree}
+use Rattle.tl_pieces.specs.Pieces.{IsFree}
 use Rattle.tl_check.specs.States.{SameSpan}
 use Rattle.tl_board.specs.Tally.{SameTally}
 use Rattle.tl_hall.specs.History.{call_of, IsOfHall, Runs}

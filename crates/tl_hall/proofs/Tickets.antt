@@ -8,10 +8,10 @@ use Rattle.tl_beats.specs.declared.Row.{Row}
 use Rattle.tl_edits.specs.Edits.{AnEdit}
 use Rattle.tl_desk.specs.JobData.{JobData, DoneData}
 use Rattle.tl_desk.specs.MonitorJobs.{MonitorJobData, MonitorDoneData}
-use Rattle.tl_capture.specs.declared.key.PieceKey.{PieceKey}
-use Rattle.tl_capture.specs.Keys.{key_cmp, change}
-use Rattle.tl_capture.specs.Pieces.{Board, Pass, Piece, piece_at, live_of, with_live, with_pieces}
-use Rattle.tl_capture.proofs.KeyLemmas.{key_exact, key_self}
+use Rattle.tl_pieces.specs.declared.key.PieceKey.{PieceKey}
+use Rattle.tl_pieces.specs.Keys.{key_cmp, change}
+use Rattle.tl_pieces.specs.Pieces.{Board, Pass, Piece, piece_at, live_of, with_live, with_pieces}
+use Rattle.tl_pieces.proofs.KeyLemmas.{key_exact, key_self}
 use Rattle.tl_topology.specs.Topology.{Topology}
 use Rattle.tl_check.specs.declared.state.SpanState.{SpanState}
 use Rattle.tl_board.specs.Spans.{SpansData, standing}

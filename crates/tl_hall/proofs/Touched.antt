@@ -5,8 +5,8 @@ use Rattle.tl_definitions.specs.Captures.{manager_beats}
 use Rattle.tl_edits.specs.Edits.{AnEdit, plain_change, attach}
 use Rattle.tl_edits.specs.Inputs.{InputData}
 use Rattle.tl_edits.specs.Log.{inputs_after}
-use Rattle.tl_capture.specs.declared.key.PieceKey.{PieceKey}
-use Rattle.tl_capture.specs.Pieces.{piece_at, result_of, live_of}
+use Rattle.tl_pieces.specs.declared.key.PieceKey.{PieceKey}
+use Rattle.tl_pieces.specs.Pieces.{piece_at, result_of, live_of}
 use Rattle.tl_board.specs.Edits.{EditsTo}
 use Rattle.tl_board.specs.Spans.{SpansData, standing}
 use Rattle.tl_board.specs.Touch.{Touches}

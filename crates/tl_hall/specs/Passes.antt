@@ -16,7 +16,7 @@ use Rattle.tl_desk.specs.declared.job.Done.{Done}
 use Rattle.tl_desk.specs.declared.job.HandIn.{HandIn}
 use Rattle.tl_desk.specs.declared.job.HandIn.TheVariants as answer
 use Rattle.tl_desk.specs.Works.{job_of}
-use Rattle.tl_capture.specs.Pieces.{IsFirstFree}
+use Rattle.tl_pieces.specs.Pieces.{IsFirstFree}
 use Rattle.tl_check.specs.Captured.{captures_after}
 use Rattle.tl_check.specs.Output.{ReportData}
 use Rattle.tl_check.specs.States.{SameSpan}

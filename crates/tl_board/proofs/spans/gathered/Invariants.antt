@@ -1,6 +1,6 @@
 use Rattle.std.proofs.Common.{◌≡◌, ◌++◌}
 use Rattle.tl_board.specs.Rows.{all_rows}
-use Rattle.tl_capture.specs.PieceWalk.{pieces_left}
+use Rattle.tl_pieces.specs.PieceWalk.{pieces_left}
 use Rattle.tl_board.proofs.spans.gathered.Given as goal
 
 -- those so far and those of the pieces that are left are all

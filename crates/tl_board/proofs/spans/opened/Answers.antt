@@ -3,7 +3,7 @@ use Rattle.std.specs.Arc.{arc_value}
 use Rattle.std.specs.Ordering.{nat_cmp}
 use Rattle.std.specs.BTreeMap.{insert_entry}
 use Rattle.tl_beats.specs.declared.Row.{Row}
-use Rattle.tl_capture.specs.Pieces.{Board, with_openings}
+use Rattle.tl_pieces.specs.Pieces.{Board, with_openings}
 use Rattle.tl_check.specs.declared.state.SpanState.{SpanState}
 use Rattle.tl_board.proofs.OpenLemmas.{one_more}
 use Rattle.tl_board.proofs.spans.opened.Goals as goal

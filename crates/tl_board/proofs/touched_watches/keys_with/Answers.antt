@@ -4,7 +4,7 @@ use Rattle.std.specs.List.{Contains}
 use Rattle.tl_topology.specs.Topology.{number_of_name}
 use Rattle.tl_beats.specs.Watches.{link_of}
 use Rattle.tl_definitions.specs.Positions.{beats_of_all}
-use Rattle.tl_capture.specs.declared.key.PieceKey.{PieceKey}
+use Rattle.tl_pieces.specs.declared.key.PieceKey.{PieceKey}
 use Rattle.tl_check.specs.Captured.{watched_beats}
 use Rattle.tl_capture.specs.Present.{IsPresent}
 use Rattle.tl_capture.specs.Windows.{HasBeat, AreWindows}

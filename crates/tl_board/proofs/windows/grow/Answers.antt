@@ -3,8 +3,8 @@ use Rattle.std.specs.Prelude.{is_some}
 use Rattle.std.proofs.Math.ListN.{drop_of_length-le}
 use Rattle.std.proofs.Math.Seq.{drop-cons}
 use Rattle.std.proofs.lemmas.List.Elements.{Contains-get_or}
-use Rattle.tl_capture.specs.declared.key.PieceKey.{PieceKey}
-use Rattle.tl_capture.specs.Pieces.{opening_of}
+use Rattle.tl_pieces.specs.declared.key.PieceKey.{PieceKey}
+use Rattle.tl_pieces.specs.Pieces.{opening_of}
 use Rattle.tl_board.specs.Windows.{key_of, IsGrown}
 use Rattle.tl_board.proofs.WindowLemmas.{grown_one, still_all, put_there, one_there, all_there, none_of, AreThereOr}
 use Rattle.tl_board.proofs.windows.grow.Goals.{then-not-contains+in_ok-insert, else-not-contains}

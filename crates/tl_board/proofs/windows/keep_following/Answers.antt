@@ -1,7 +1,7 @@
 use Rattle.std.proofs.Common.{None, ap, ◌∙◌}
-use Rattle.tl_capture.specs.Keys.{change}
-use Rattle.tl_capture.specs.Marks.{pass_of}
-use Rattle.tl_capture.specs.Pieces.{Board, with_live, with_pieces, with_result}
+use Rattle.tl_pieces.specs.Keys.{change}
+use Rattle.tl_pieces.specs.Marks.{pass_of}
+use Rattle.tl_pieces.specs.Pieces.{Board, with_live, with_pieces, with_result}
 use Rattle.tl_board.proofs.CheckLemmas.{change_twice}
 use Rattle.tl_board.proofs.windows.keep_following.Goals as goal
 

@@ -2,7 +2,7 @@ use Rattle.std.proofs.Common.{◌≡◌, ◌+◌, ℕ, suc, true, false, refl, L
 use Rattle.std.proofs.Math.ListN.{drop_of_length-le}
 use Rattle.std.proofs.Math.Seq.{drop-cons}
 use Rattle.tl_definitions.specs.Positions.{beats_of_all}
-use Rattle.tl_capture.specs.declared.key.PieceKey.{PieceKey}
+use Rattle.tl_pieces.specs.declared.key.PieceKey.{PieceKey}
 use Rattle.tl_capture.specs.Windows.{HasBeat}
 use Rattle.tl_board.specs.Windows.{IsPruned, IsTaken, key_of}
 use Rattle.tl_board.proofs.WindowLemmas.{pruned_none, pruned_kept, pruned_gone}

@@ -1,6 +1,6 @@
 use Rattle.std.proofs.Common.{drop}
 use Rattle.tl_definitions.specs.Positions.{beats_of_all}
-use Rattle.tl_capture.specs.Pieces.{Board}
+use Rattle.tl_pieces.specs.Pieces.{Board}
 use Rattle.tl_capture.specs.Windows.{HasBeat}
 use Rattle.tl_board.specs.Windows.{IsPruned}
 use Rattle.tl_board.proofs.windows.prune.Given as goal

@@ -1,6 +1,6 @@
 use Rattle.std.proofs.Common.{sym, ap, ◌∙◌}
 use Rattle.std.specs.Prelude.{is_some}
-use Rattle.tl_capture.specs.Pieces.{piece_at}
+use Rattle.tl_pieces.specs.Pieces.{piece_at}
 use Rattle.tl_board.proofs.WindowLemmas.{taken, not_there}
 use Rattle.tl_board.proofs.windows.take_out.Goals as goal
 

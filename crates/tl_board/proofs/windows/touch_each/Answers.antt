@@ -1,7 +1,7 @@
 use Rattle.std.proofs.Common.{◌≡◌, ◌+◌, ℕ, suc, List, [], ◌∷◌, drop, get_or, sym, ap, subst, ◌∙◌, arith}
 use Rattle.std.proofs.Math.ListN.{drop_of_length-le}
 use Rattle.std.proofs.Math.Seq.{drop-cons}
-use Rattle.tl_capture.specs.declared.key.PieceKey.{PieceKey}
+use Rattle.tl_pieces.specs.declared.key.PieceKey.{PieceKey}
 use Rattle.tl_board.specs.Windows.{key_of, AreBlank}
 use Rattle.tl_board.proofs.WindowLemmas.{blank_none, blank_one, blank_absent}
 use Rattle.tl_board.proofs.windows.touch_each.Goals.{then-contains, else-contains}

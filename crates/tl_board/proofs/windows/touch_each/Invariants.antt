@@ -1,5 +1,5 @@
 use Rattle.std.proofs.Common.{drop}
-use Rattle.tl_capture.specs.Pieces.{Board}
+use Rattle.tl_pieces.specs.Pieces.{Board}
 use Rattle.tl_board.specs.Windows.{AreBlank}
 use Rattle.tl_board.proofs.windows.touch_each.Given as goal
 

@@ -1,6 +1,6 @@
 use Rattle.std.proofs.Common.{◌≡◌, ◌<◌, ◌≤◌, ◌+◌, Some, None, true, false, sym, subst, ◌∙◌, arith, rules}
-use Rattle.tl_capture.specs.declared.key.PieceKey.{PieceKey}
-use Rattle.tl_capture.specs.Pieces.{IsFree}
+use Rattle.tl_pieces.specs.declared.key.PieceKey.{PieceKey}
+use Rattle.tl_pieces.specs.Pieces.{IsFree}
 use Rattle.tl_board.specs.Tally.{SameTally}
 use Rattle.tl_desk.specs.Jobs.{IsHere, IsFirstFreeHere}
 use Rattle.tl_desk.proofs.BoxLemmas.{held_there}

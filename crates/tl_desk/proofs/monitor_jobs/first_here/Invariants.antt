@@ -1,8 +1,8 @@
 use Rattle.std.proofs.Common.{◌≡◌, ◌<◌, ◌-◌, ℕ, true, None}
 use Rattle.std.specs.Prelude.{is_some}
 use Rattle.std.specs.Option.{IfSome, option_map_or}
-use Rattle.tl_capture.specs.declared.key.PieceKey.{PieceKey}
-use Rattle.tl_capture.specs.Pieces.{piece_at, IsFree}
+use Rattle.tl_pieces.specs.declared.key.PieceKey.{PieceKey}
+use Rattle.tl_pieces.specs.Pieces.{piece_at, IsFree}
 use Rattle.tl_board.specs.Tally.{SameTally}
 use Rattle.tl_desk.specs.Jobs.{IsHere}
 use Rattle.tl_desk.proofs.FirstLemmas.{AreFrom, IsFrom}

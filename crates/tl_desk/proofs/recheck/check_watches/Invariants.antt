@@ -1,5 +1,5 @@
 use Rattle.std.proofs.Common.{◌≡◌, ◌-◌, List, length}
-use Rattle.tl_capture.specs.declared.key.PieceKey.{PieceKey}
+use Rattle.tl_pieces.specs.declared.key.PieceKey.{PieceKey}
 use Rattle.tl_board.proofs.RecheckLemmas.{IsUnderWay}
 use Rattle.tl_board.specs.Tally.{SameTally}
 use Rattle.tl_desk.specs.Steps.{KeepsBoxes, LeavesTallies, NoneIsOut}

@@ -1,7 +1,7 @@
 use Rattle.std.proofs.Common.{◌<◌, ◌-◌, ℕ, None}
 use Rattle.std.specs.Option.{IfSome, option_map_or}
-use Rattle.tl_capture.specs.declared.key.PieceKey.{PieceKey}
-use Rattle.tl_capture.specs.Pieces.{IsWanted}
+use Rattle.tl_pieces.specs.declared.key.PieceKey.{PieceKey}
+use Rattle.tl_pieces.specs.Pieces.{IsWanted}
 use Rattle.tl_board.specs.Tally.{SameTally}
 use Rattle.tl_desk.specs.Steps.{IsOut}
 use Rattle.tl_desk.proofs.FirstLemmas.{AreFrom, IsFrom}

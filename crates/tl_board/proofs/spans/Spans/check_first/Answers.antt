@@ -1,8 +1,8 @@
 use Rattle.std.proofs.Common.{◌≡◌, None, true, List, refl, sym, subst}
 use Rattle.std.specs.Prelude.{is_some, IfSome}
 use Rattle.tl_beats.specs.declared.Row.{Row}
-use Rattle.tl_capture.specs.Marks.{pass_of}
-use Rattle.tl_capture.specs.Pieces.{Board, IsFirstWanted, IsWanted, HasTrueEntry, piece_at}
+use Rattle.tl_pieces.specs.Marks.{pass_of}
+use Rattle.tl_pieces.specs.Pieces.{Board, IsFirstWanted, IsWanted, HasTrueEntry, piece_at}
 use Rattle.tl_check.specs.States.{SameSpan}
 use Rattle.tl_check.specs.declared.state.SpanState.{SpanState}
 use Rattle.tl_check.proofs.StateLaws.{shown_same}

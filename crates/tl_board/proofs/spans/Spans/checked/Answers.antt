@@ -1,5 +1,5 @@
 use Rattle.std.proofs.Common.{Some, sym, ap, ◌∙◌}
-use Rattle.tl_capture.specs.Marks.{pass_of}
+use Rattle.tl_pieces.specs.Marks.{pass_of}
 use Rattle.tl_board.specs.Spans.{standing}
 use Rattle.tl_board.proofs.TicketLemmas.{passed_now, task_manager}
 use Rattle.tl_board.proofs.spans.Spans.checked.Goals as goal

@@ -2,7 +2,7 @@ use Rattle.std.proofs.Common.{◌≡◌, sym, ap, subst, ◌∙◌}
 use Rattle.std.specs.Prelude.{is_some}
 use Rattle.tl_edits.specs.Edits.{AnEdit, plain}
 use Rattle.tl_edits.specs.Inputs.{InputData, changed}
-use Rattle.tl_capture.specs.Pieces.{piece_at, opening_of, result_of, live_of}
+use Rattle.tl_pieces.specs.Pieces.{piece_at, opening_of, result_of, live_of}
 use Rattle.tl_capture.specs.Present.{IsPresent}
 use Rattle.tl_board.specs.Spans.{SpansData, standing}
 use Rattle.tl_board.specs.Touched.{IsTouched, names}

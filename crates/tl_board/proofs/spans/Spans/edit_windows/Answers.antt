@@ -7,7 +7,7 @@ use Rattle.tl_definitions.specs.Positions.{beats_of_all}
 use Rattle.tl_edits.specs.Edits.{AnEdit, plain}
 use Rattle.tl_edits.specs.Inputs.{InputData, changed}
 use Rattle.tl_edits.specs.Log.{LogData, inputs_after}
-use Rattle.tl_capture.specs.Pieces.{Board, opening_of}
+use Rattle.tl_pieces.specs.Pieces.{Board, opening_of}
 use Rattle.tl_check.specs.declared.state.SpanState.{SpanState}
 use Rattle.tl_capture.specs.Present.{IsPresent}
 use Rattle.tl_board.specs.Edits.{EditsTo}

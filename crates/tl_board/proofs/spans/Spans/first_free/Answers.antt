@@ -1,7 +1,7 @@
 use Rattle.std.proofs.Common.{true, ◌≡◌, subst}
 use Rattle.std.specs.Prelude.{is_some}
 use Rattle.std.specs.Option.{IfSome}
-use Rattle.tl_capture.specs.Pieces.{piece_at}
+use Rattle.tl_pieces.specs.Pieces.{piece_at}
 use Rattle.tl_board.specs.Spans.{SpansData}
 use Rattle.tl_board.proofs.TicketLemmas.{free_there}
 use Rattle.tl_board.proofs.spans.Spans.first_free.Goals as goal

@@ -1,6 +1,6 @@
 use Rattle.std.proofs.Common.{None, sym, subst}
-use Rattle.tl_capture.specs.declared.key.PieceKey.{PieceKey}
-use Rattle.tl_capture.specs.Marks.{pass_of}
+use Rattle.tl_pieces.specs.declared.key.PieceKey.{PieceKey}
+use Rattle.tl_pieces.specs.Marks.{pass_of}
 use Rattle.tl_board.specs.Spans.{SpansData, standing, IsSpanOf}
 use Rattle.tl_board.specs.Tickets.{StandsIn}
 use Rattle.tl_board.proofs.CheckLemmas.{still_sound}

@@ -1,5 +1,5 @@
 use Rattle.std.proofs.Common.{◌≡◌, ◌+◌, ◌≤◌, ◌<◌, [], ◌++◌, ◌∷◌, true, false, arith, length, refl, subst, ◌∙◌, sym, ap}
-use Rattle.tl_capture.specs.Pieces.{IsBoard}
+use Rattle.tl_pieces.specs.Pieces.{IsBoard}
 use Rattle.tl_check.specs.States.{SameSpan}
 use Rattle.tl_board.specs.Spans.{SpansData}
 use Rattle.tl_board.specs.Recheck.{ChecksThese, ChecksSome}

@@ -4,7 +4,7 @@ use Rattle.tl_edits.specs.Inputs.{InputData}
 use Rattle.tl_check.specs.Captured.{areas_at}
 use Rattle.tl_check.specs.Found.{AreFound}
 use Rattle.tl_capture.specs.Present.{IsPresent}
-use Rattle.tl_capture.specs.Pieces.{Board, IsSettled}
+use Rattle.tl_pieces.specs.Pieces.{Board, IsSettled}
 use Rattle.tl_beats.specs.declared.Row.{Row}
 use Rattle.tl_check.specs.States.{SameSpan}
 use Rattle.tl_check.specs.declared.state.SpanState.{SpanState}

@@ -4,7 +4,7 @@ use Rattle.tl_topology.specs.Regions.{areas_of}
 use Rattle.tl_definitions.specs.Managers.{manager_at}
 use Rattle.tl_edits.specs.Inputs.{InputData, AreNumbered}
 use Rattle.tl_edits.specs.Log.{LogData, inputs_after}
-use Rattle.tl_capture.specs.Pieces.{entry_for, IsBoard}
+use Rattle.tl_pieces.specs.Pieces.{entry_for, IsBoard}
 use Rattle.tl_check.specs.States.{IsOf}
 use Rattle.tl_check.specs.declared.state.SpanState.{SpanState}
 use Rattle.tl_board.specs.Spans.{SpansData, standing, manager_in}

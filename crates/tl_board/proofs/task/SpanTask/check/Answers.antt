@@ -1,7 +1,7 @@
 use Rattle.std.proofs.Common.{◌≡◌, List, sym, subst}
 use Rattle.std.specs.Arc.{arc_value}
 use Rattle.tl_beats.specs.declared.Row.{Row}
-use Rattle.tl_capture.specs.Marks.{pass_of}
+use Rattle.tl_pieces.specs.Marks.{pass_of}
 use Rattle.tl_check.specs.Jobs.{Judges}
 use Rattle.tl_check.specs.declared.state.SpanState.{SpanState}
 use Rattle.tl_board.specs.Tasks.{TaskData, IsPassOf, manager_of}

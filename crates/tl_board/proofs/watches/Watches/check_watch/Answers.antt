@@ -1,5 +1,5 @@
 use Rattle.std.proofs.Common.{sym, subst}
-use Rattle.tl_capture.specs.Marks.{pass_of}
+use Rattle.tl_pieces.specs.Marks.{pass_of}
 use Rattle.tl_board.specs.Spans.{standing}
 use Rattle.tl_board.specs.Watches.{WatchesData, IsOfWatch}
 use Rattle.tl_board.proofs.PassLemmas.{still_watched}

@@ -2,7 +2,7 @@ use Rattle.std.proofs.Common.{◌≡◌, List, ap, sym, subst, ◌∙◌}
 use Rattle.tl_beats.specs.declared.Row.{Row}
 use Rattle.tl_edits.specs.Edits.{AnEdit, plain}
 use Rattle.tl_edits.specs.Inputs.{InputData, changed}
-use Rattle.tl_capture.specs.Pieces.{Board}
+use Rattle.tl_pieces.specs.Pieces.{Board}
 use Rattle.tl_capture.specs.Present.{IsPresent}
 use Rattle.tl_board.specs.Spans.{SpansData, standing}
 use Rattle.tl_board.proofs.EditLemmas.{on_ok}

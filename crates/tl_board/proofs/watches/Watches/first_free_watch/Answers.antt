@@ -2,7 +2,7 @@ use Rattle.std.proofs.Common.{◌≡◌, true, subst}
 use Rattle.std.specs.Prelude.{is_some}
 use Rattle.std.specs.Option.{IfSome}
 use Rattle.tl_edits.specs.Inputs.{watch_at}
-use Rattle.tl_capture.specs.Pieces.{piece_at}
+use Rattle.tl_pieces.specs.Pieces.{piece_at}
 use Rattle.tl_board.specs.Spans.{standing}
 use Rattle.tl_board.specs.Watches.{WatchesData}
 use Rattle.tl_board.proofs.OutsideLemmas.{key_there, key_attached}

@@ -1,7 +1,7 @@
 use Rattle.std.proofs.Common.{None, sym, subst}
 use Rattle.tl_edits.specs.Inputs.{InputData}
-use Rattle.tl_capture.specs.declared.key.PieceKey.{PieceKey}
-use Rattle.tl_capture.specs.Marks.{pass_of}
+use Rattle.tl_pieces.specs.declared.key.PieceKey.{PieceKey}
+use Rattle.tl_pieces.specs.Marks.{pass_of}
 use Rattle.tl_board.specs.Spans.{standing}
 use Rattle.tl_board.specs.Outside.{StandsInWatch}
 use Rattle.tl_board.specs.Watches.{WatchesData, IsOfWatch}

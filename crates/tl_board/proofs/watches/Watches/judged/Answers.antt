@@ -1,6 +1,6 @@
 use Rattle.std.proofs.Common.{Some, sym, ap, ◌∙◌}
 use Rattle.tl_edits.specs.Inputs.{watch_at}
-use Rattle.tl_capture.specs.Marks.{pass_of}
+use Rattle.tl_pieces.specs.Marks.{pass_of}
 use Rattle.tl_board.specs.Spans.{standing}
 use Rattle.tl_board.proofs.RecheckLemmas.{in_error}
 use Rattle.tl_board.proofs.OutsideLemmas.{window_passes, left_amid, left_so}

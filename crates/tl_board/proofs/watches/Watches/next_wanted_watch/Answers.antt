@@ -1,5 +1,5 @@
 use Rattle.std.proofs.Common.{subst}
-use Rattle.tl_capture.specs.Pieces.{IsNextWanted}
+use Rattle.tl_pieces.specs.Pieces.{IsNextWanted}
 use Rattle.tl_board.specs.Spans.{standing}
 use Rattle.tl_board.specs.Tally.{SameTally}
 use Rattle.tl_board.proofs.OutsideLemmas.{key_there, key_attached}

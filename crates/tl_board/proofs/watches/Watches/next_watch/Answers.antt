@@ -1,13 +1,13 @@
 use Rattle.std.proofs.Common.{◌≡◌, None, true, sym, subst, ◌∙◌}
 use Rattle.std.specs.Prelude.{is_some, IfSome}
-use Rattle.tl_capture.specs.Pieces.{IsWanted, piece_at}
-use Rattle.tl_capture.proofs.ReadyLemmas.{if_some}
+use Rattle.tl_pieces.specs.Pieces.{IsWanted, piece_at}
+use Rattle.tl_pieces.proofs.ReadyLemmas.{if_some}
 use Rattle.tl_edits.specs.Inputs.{watch_at}
 use Rattle.tl_board.specs.Spans.{standing}
 use Rattle.tl_board.proofs.CheckLemmas.{first_there, owner_of}
 use Rattle.tl_board.specs.Tally.{SameTally}
 use Rattle.tl_board.specs.Watches.{WatchesData}
-use Rattle.tl_capture.specs.Pieces.{IsFirstWanted}
+use Rattle.tl_pieces.specs.Pieces.{IsFirstWanted}
 use Rattle.tl_board.proofs.watches.Watches.next_watch.Goals as goal
 
 pub returns-clause-there : goal.returns-clause-there

@@ -5,7 +5,7 @@ use Rattle.tl_definitions.specs.Captures.{captures_of}
 use Rattle.tl_definitions.specs.Report.{IsReport}
 use Rattle.tl_definitions.proofs.ReportLaws.{found_rows_are_the_report}
 use Rattle.tl_edits.specs.Inputs.{InputData, attached}
-use Rattle.tl_capture.specs.Pieces.{Board, IsSettled}
+use Rattle.tl_pieces.specs.Pieces.{Board, IsSettled}
 use Rattle.tl_check.specs.Captured.{areas_at, watch_captures, captures_after}
 use Rattle.tl_check.specs.Found.{AreFound}
 use Rattle.tl_check.proofs.CaptureLaws.{one_place, row_linked}

@@ -5,7 +5,7 @@ use Rattle.tl_beats.specs.declared.watch.Watch.{Watch}
 use Rattle.tl_definitions.specs.Tallies.{kept_tally}
 use Rattle.tl_edits.specs.Inputs.{InputData, watch_at}
 use Rattle.tl_edits.specs.Log.{LogData, inputs_after}
-use Rattle.tl_capture.specs.Pieces.{IsBoard, entry_for}
+use Rattle.tl_pieces.specs.Pieces.{IsBoard, entry_for}
 use Rattle.tl_board.specs.Spans.{SpansData, standing}
 use Rattle.tl_board.proofs.CheckLemmas.{owner_of, shown_entry}
 use Rattle.tl_board.specs.declared.tally.Tally.{Tally}

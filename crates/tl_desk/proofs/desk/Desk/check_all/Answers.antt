@@ -1,6 +1,6 @@
 use Rattle.std.proofs.Common.{[], List, refl, sym, ap, subst, ◌∙◌}
 use Rattle.tl_beats.specs.declared.Row.{Row}
-use Rattle.tl_capture.specs.Pieces.{Board}
+use Rattle.tl_pieces.specs.Pieces.{Board}
 use Rattle.tl_board.specs.Recheck.{ChecksSome}
 use Rattle.tl_board.proofs.RecheckLemmas.{none_checked, in_error}
 use Rattle.tl_board.specs.declared.tally.Tally.{Tally}

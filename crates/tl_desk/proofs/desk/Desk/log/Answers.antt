@@ -1,5 +1,5 @@
 use Rattle.std.proofs.Common.{subst}
-use Rattle.tl_capture.specs.Pieces.{IsBoard}
+use Rattle.tl_pieces.specs.Pieces.{IsBoard}
 use Rattle.tl_board.specs.Spans.{SpansData, IsSound}
 use Rattle.tl_desk.specs.Core.{Core, IsDesk}
 use Rattle.tl_desk.proofs.desk.Desk.log.Goals as goal

@@ -2,8 +2,8 @@ use Rattle.std.proofs.Common.{◌≡◌, ◌+◌, ◌<◌, false, Some, length, 
 use Rattle.std.proofs.lemmas.Bool.Decides.{nat_tests}
 use Rattle.tl_edits.specs.Log.{LogData}
 use Rattle.tl_desk.specs.JobData.{JobData}
-use Rattle.tl_capture.specs.declared.key.PieceKey.{PieceKey}
-use Rattle.tl_capture.specs.Pieces.{IsFirstFree}
+use Rattle.tl_pieces.specs.declared.key.PieceKey.{PieceKey}
+use Rattle.tl_pieces.specs.Pieces.{IsFirstFree}
 use Rattle.tl_check.specs.States.{SameSpan}
 use Rattle.tl_board.specs.Spans.{SpansData}
 use Rattle.tl_board.specs.Tickets.{IsTaskFor}

@@ -4,8 +4,8 @@ use Rattle.tl_monitor.specs.Boxes.{BoxesData, held_at, taken_at}
 use Rattle.tl_edits.specs.Log.{LogData}
 use Rattle.tl_desk.specs.MonitorJobs.{MonitorJobData}
 use Rattle.tl_monitor.specs.Held.{Held}
-use Rattle.tl_capture.specs.declared.key.PieceKey.{PieceKey}
-use Rattle.tl_capture.specs.Pieces.{IsFirstFree}
+use Rattle.tl_pieces.specs.declared.key.PieceKey.{PieceKey}
+use Rattle.tl_pieces.specs.Pieces.{IsFirstFree}
 use Rattle.tl_check.specs.States.{SameSpan}
 use Rattle.tl_board.specs.Spans.{SpansData}
 use Rattle.tl_board.specs.Windows.{key_of}

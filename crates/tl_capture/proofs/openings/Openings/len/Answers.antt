@@ -1,7 +1,0 @@
-use Rattle.std.proofs.Common.{subst}
-use Rattle.tl_capture.specs.Pieces.{OwnersRise}
-use Rattle.tl_capture.proofs.OpeningLemmas.{rise_shown}
-use Rattle.tl_capture.proofs.openings.Openings.len.Goals as goal
-
-pub returns-clause-order : goal.returns-clause-order
-returns-clause-order g c = subst OwnersRise c.self.view_is (rise_shown c.self.inside.states.entries c.len.ensures.ordered)

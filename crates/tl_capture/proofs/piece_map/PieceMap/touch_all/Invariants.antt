@@ -1,8 +1,0 @@
-use Rattle.tl_capture.proofs.TouchedLemmas.{IsDoneTo, left_after}
-use Rattle.tl_capture.proofs.piece_map.PieceMap.touch_all.Given as goal
-
-abbrev pub invariant-loop-next : goal.invariant-loop-next
-invariant-loop-next g l = IsDoneTo l.owner l.fn.self l.self l.next
-
-abbrev pub decreases-loop-next : goal.decreases-loop-next
-decreases-loop-next g l = left_after l.next l.self.pieces

@@ -1,0 +1,15 @@
+pub mod KeyLemmas
+pub mod FollowLemmas
+pub mod TallyLemmas
+pub mod SlotLemmas
+pub mod PlaceLemmas
+pub mod OwnerLemmas
+pub mod NearestLemmas
+pub mod OpeningLemmas
+pub mod ShowLemmas
+pub mod MarkLemmas
+pub mod SettleLemmas
+pub mod ChainLemmas
+pub mod TouchedLemmas
+pub mod ReadyLemmas
+pub mod MoveLemmas

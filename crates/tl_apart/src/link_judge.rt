@@ -248,7 +248,7 @@ impl LinkJudge {
         self.client
             .pass(terms.decl, head.op, &at.beat, head.request)?;
         keep_granted(&mut self.granted, terms.exponent, &at.beat, head)?;
-        self.bursts.pass(terms.decl, &at.beat);
+        self.bursts.begin(terms.decl, head.op, &at.beat);
         Ok(())
     }
 

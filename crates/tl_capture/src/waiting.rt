@@ -56,6 +56,7 @@ fn put_near<'a>(cursors: &mut [Cursor<'a>], cursor: Cursor<'a>)
 }
 
 /// Puts a cursor in its place among those under the top, which gives its room.
+#[inline(always)]
 fn put<'a>(cursors: &mut Vec<Cursor<'a>>, cursor: Cursor<'a>)
     requires some { 0 < vec_len cursors.old }
     requires stacked { AreStacked (under_top cursors.old.items) }
@@ -81,6 +82,7 @@ fn drop_top<'a>(cursors: &mut Vec<Cursor<'a>>)
 }
 
 /// Goes on after the next beat of the top, which is read, and so many of its fragment's after that.
+#[inline(always)]
 pub(crate) fn go_on<'a>(cursors: &mut Vec<Cursor<'a>>, top: Cursor<'a>, more: usize)
     requires ready { AreReady cursors.old.items }
     requires top { cursors.old.items ≡ under_top cursors.old.items ++ top ∷ [] }

@@ -1,5 +1,5 @@
 -- The captures of what stands: their beats have one place, and their rows are of links of the topology.
-use Rattle.std.proofs.Common.{◌≡◌, ℕ, ◌+◌, ◌<◌, ◌==◌, inl, inr, true, false, cond, List, [], ◌∷◌, Option, Some, None, length, refl, sym, ap, subst, ◌∙◌, arith}
+use Rattle.std.proofs.Common.{◌≡◌, ℕ, ◌+◌, ◌<◌, ◌==◌, inl, inr, true, List, [], ◌∷◌, Option, Some, None, length, refl, sym, ap, subst, ◌∙◌, arith}
 use Rattle.std.specs.Prelude.{filter, map}
 use Rattle.std.specs.Option.{option_map_or}
 use Rattle.std.specs.List.{All, Contains}
@@ -18,7 +18,7 @@ use Rattle.tl_beats.specs.declared.Row.{Row}
 use Rattle.tl_beats.specs.declared.watch.Watch.{Watch}
 use Rattle.tl_definitions.specs.Captures.{captures_from, captures_of, manager_beats}
 use Rattle.tl_definitions.specs.Managers.{declared_links, manager_at}
-use Rattle.tl_definitions.specs.Positions.{Recorded, beats_of, beats_of_all, clients_from, clients_of, position_order}
+use Rattle.tl_definitions.specs.Positions.{Recorded, beats_of, beats_of_all, clients_of, position_order}
 use Rattle.tl_definitions.specs.Report.{Capture, of_manager, captured, FindsIn, HasOnePlace}
 use Rattle.tl_definitions.specs.Tallies.{AreOfOneLink}
 use Rattle.tl_definitions.proofs.Lists.{contains_none, contains_cases, mapped_from}

@@ -102,11 +102,12 @@ impl PlainLink {
         ensures next { (s : LinkSnapshot) → Shows self.old s → OnOk result (Shows self.new (link_next (one_link decl.now exponent (areas_of regions.now)) s at.now)) }
         ensures formed { OnOk result (AreFormed self.new) }
     {
-        self.bursts.pass(decl, &at.beat);
         let request = self.requests.get(at.beat.source);
         if let Some(op) = clean_message(decl, regions, &at.beat, &request) {
+            self.bursts.begin(decl, op, &at.beat);
             return self.requests.change(op, &at.beat);
         }
+        self.bursts.pass(decl, &at.beat);
         let format = check_head(alloc, decl, exponent, regions, &at.beat);
         let flows = self.requests.step(alloc, decl, &at.beat)?;
         add_rows(rows, at, &format)?;

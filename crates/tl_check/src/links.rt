@@ -59,7 +59,7 @@ impl LinkState {
         requires message { message_of decl.now first.now ≡ Some op }
         ensures { OnOk result (IsNext decl.now first.now self.old self.new) }
     {
-        self.bursts.pass(decl, first);
+        self.bursts.begin(decl, op, first);
         self.flow.pass(decl, op, first)
     }
 

@@ -158,15 +158,17 @@ impl SpanState {
         ensures next { (m : Manager) → IsOf m self.old → Serves m at.now.link decl.now exponent (areas_of regions.now)
             → OnOk result (IsOf m self.new × (shown self.new ≡ judged_next m (shown self.old) at.now)) }
     {
-        match self.clean_head(decl, exponent, regions, at) {
-            Some(clean) => self.pass(decl, at, &clean),
+        let place = self.place(at.link);
+        match self.clean_head(place, decl, exponent, regions, at) {
+            Some(clean) => self.pass(place, decl, at, &clean),
             None => self.judge_head(alloc, decl, exponent, regions, at, rows),
         }
     }
 
-    /// What a head is that is seen to break no rule. None says nothing.
+    /// What a head of the link at a place is that is seen to break no rule. None says nothing.
     fn clean_head(
         &self,
+        place: usize,
         decl: &LinkDecl,
         exponent: u8,
         regions: &RegionMap,
@@ -175,6 +177,8 @@ impl SpanState {
         requires decl { IsSound decl.now }
         requires beat { IsWellFormed at.now.beat }
         requires link { HasLink self.now at.now.link }
+        requires place { place_of at.now.link (managers.shown self.now.clients).clients ≡ Some place }
+        requires within { place < length self.now.links.items }
         requires head { burst_at self.now at.now.link at.now.beat.chan ≡ None }
         ensures message { IfSome result (λ clean. message_of decl.now at.now.beat ≡ Some clean.op) }
         ensures request { IfSome result (λ clean. clean.request ≡ answered_in (flow_at self.now at.now.link) at.now.beat (message_of decl.now at.now.beat)) }
@@ -185,7 +189,6 @@ impl SpanState {
         if !keeps_format(decl, exponent, regions, op, &at.beat) {
             return None;
         }
-        let place = self.place(at.link);
         let flow = &self.links[place].flow;
         let request = flow.request_of(op, &at.beat);
         if !flow.keeps_flow(op, &at.beat, &request) {
@@ -193,29 +196,36 @@ impl SpanState {
         }
         if !self
             .clients
-            .keeps_rules(at.link, decl, op, &at.beat, request)
+            .keeps_rules(at.link, place, decl, op, &at.beat, request)
         {
             return None;
         }
         Some(CleanHead { op, request })
     }
 
-    /// The state with a head of this message, which answers this request. AllocError where memory is refused: then the state may have part
-    /// of the head, and is for nothing more.
-    fn pass(&mut self, decl: &LinkDecl, at: &Placed, clean: &CleanHead) -> Result<(), AllocError>
+    /// The state with a head of the link at a place with this message, which answers this request. AllocError where memory is refused: then
+    /// the state may have part of the head, and is for nothing more.
+    fn pass(
+        &mut self,
+        place: usize,
+        decl: &LinkDecl,
+        at: &Placed,
+        clean: &CleanHead,
+    ) -> Result<(), AllocError>
         requires decl { IsSound decl.now }
         requires beat { IsWellFormed at.now.beat }
         requires link { HasLink self.old at.now.link }
+        requires place { place_of at.now.link (managers.shown self.old.clients).clients ≡ Some place }
+        requires within { place < length self.old.links.items }
         requires head { burst_at self.old at.now.link at.now.beat.chan ≡ None }
         requires message { message_of decl.now at.now.beat ≡ Some clean.now.op }
         requires request { clean.now.request ≡ answered_in (flow_at self.old at.now.link) at.now.beat (message_of decl.now at.now.beat) }
         ensures { (m : Manager) → IsOf m self.old → m.links at.now.link ≡ decl.now
             → OnOk result (IsOf m self.new × (shown self.new ≡ judged_next m (shown self.old) at.now)) }
     {
-        let place = self.place(at.link);
         self.links[place].pass(decl, clean.op, &at.beat)?;
         self.clients
-            .pass(at.link, decl, clean.op, &at.beat, clean.request)
+            .pass(place, decl, clean.op, &at.beat, clean.request)
     }
 
     /// Judges a head as `step_head` does, with a list of the rules of each kind.

@@ -20,7 +20,7 @@ use Rattle.tl_client_rules.specs.declared.client.ClientState.{ClientState}
 use Rattle.tl_client_rules.specs.declared.open_blocks.OpenBlocks.{OpenBlocks}
 use Rattle.tl_client_rules.specs.OpenBlocks.{block_at, open_on}
 use Rattle.tl_client_rules.specs.Bounds.{bound_at}
-use Rattle.tl_client_rules.specs.Client.{ClientView, probe_at, shown, acquired_block, released_block, client_view, Shows, StandsFor, permission_rules, rules_in, answered_in, view_after, view_with, view_rules, head_with, IsView}
+use Rattle.tl_client_rules.specs.Client.{ClientView, probe_at, shown, acquired_block, released_block, with_block, acquired_after, client_view, Shows, StandsFor, permission_rules, rules_in, answered_in, view_after, view_with, view_rules, head_with, IsView}
 
 -- ---- what a state shows
 
@@ -87,6 +87,23 @@ entry_same seen table kept message old key =
       | false ↦ refl
     ]
 
+-- What has no block is of none.
+block_passes : (block : ℕ) (found : Option (Option ℕ)) → passes (grants_block block) (with_block found) ≡ passes (grants_block block) found
+block_passes block None = refl
+block_passes block (Some None) = refl
+block_passes block (Some (Some b)) = refl
+
+acquired_same : (exponent : ℕ) (message : Message) (old : ℕ → Option Request) (source : ℕ)
+    → acquired_after exponent message (λ s. with_block (option_map (acquired_block exponent) (old s))) source
+    ≡ with_block (option_map (acquired_block exponent) (entry_after sources as_request message old source))
+acquired_same exponent message old source =
+    elim (touches sources source message) as (λ t. cond t (with_block (option_map (λ m. acquired_block exponent (as_request m)) (if_opens sources message))) (with_block (option_map (acquired_block exponent) (old source)))
+    ≡ with_block (option_map (acquired_block exponent) (cond t (option_map as_request (if_opens sources message)) (old source)))) [
+      | true ↦ elim (sources.opens message) as (λ o. with_block (option_map (λ m. acquired_block exponent (as_request m)) (cond o (Some message) None))
+          ≡ with_block (option_map (acquired_block exponent) (option_map as_request (cond o (Some message) None)))) [ true ↦ refl | false ↦ refl ]
+      | false ↦ refl
+    ]
+
 pub next_view : (exponent : ℕ) (past : LinkPast) (message : Message) → view_after (client_view exponent past) message ≡ client_view exponent (past_after exponent past message)
 next_view exponent past message = λ i. record {
   exponent = exponent;
@@ -95,9 +112,10 @@ next_view exponent past message = λ i. record {
     bound = λ block. claimed_or (claim exponent message) block (past.client.bound block);
     granted = entry_after sinks (granted_block exponent) message past.client.granted;
     acquires = λ block. count_same sources (λ m. grants_block block (acquired_block exponent (as_request m))) (λ m. acquires_block exponent block (as_request m)) message
-        (passes (grants_block block) (option_map (acquired_block exponent) (past.flow.source message.beat.source)))
+        (passes (grants_block block) (with_block (option_map (acquired_block exponent) (past.flow.source message.beat.source))))
         (passes (acquires_block exponent block) (past.flow.source message.beat.source)) (past.client.acquires block) (same_test exponent block (as_request message))
-        (same_passes (grants_block block) (acquired_block exponent) (acquires_block exponent block) (same_test exponent block) (past.flow.source message.beat.source)) i;
+        (block_passes block (option_map (acquired_block exponent) (past.flow.source message.beat.source))
+        ∙ same_passes (grants_block block) (acquired_block exponent) (acquires_block exponent block) (same_test exponent block) (past.flow.source message.beat.source)) i;
     releases = λ block. count_same releases (λ m. grants_block block (released_block exponent (as_request m))) (λ m. releases_block exponent block (as_request m)) message
         (passes (grants_block block) (option_map (released_block exponent) (past.flow.release message.beat.source)))
         (passes (releases_block exponent block) (past.flow.release message.beat.source)) (past.client.releases block) refl
@@ -105,7 +123,7 @@ next_view exponent past message = λ i. record {
     grants = λ block. count_after sinks (λ m. grants_block block (granted_block exponent m)) message
         (passes (grants_block block) (past.client.granted message.beat.sink)) (past.client.grants block);
   };
-  acquired = λ source. entry_same (acquired_block exponent) sources as_request message past.flow.source source i;
+  acquired = λ source. acquired_same exponent message past.flow.source source i;
   released = λ source. entry_same (released_block exponent) releases as_request message past.flow.release source i;
 }
 

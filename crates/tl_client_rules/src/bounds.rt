@@ -61,6 +61,7 @@ pub struct Bounds {
 }
 
 /// The bound of a block, of which what was set comes first.
+#[inline(always)]
 fn bound_in(recent: &BlockMap<Perm>, base: &ShareMap<u64, Hold>, block: u64) -> Perm
     ensures { result ≡ bound_by recent.now base.now block }
 {
@@ -109,6 +110,7 @@ impl Bounds {
     }
 
     /// The bound of the block.
+    #[inline(always)]
     pub fn get(&self, block: u64) -> Perm
         ensures { result ≡ bound_at self.now block }
     {
@@ -116,6 +118,7 @@ impl Bounds {
     }
 
     /// Whether to forget what was set of the block leaves it this bound; false says nothing, so that nothing is searched for.
+    #[inline(always)]
     pub fn is_settled(&self, block: u64, perm: Perm) -> bool
         ensures { result ≡ true → perm ≡ settled_at self.now block }
     {
@@ -123,6 +126,7 @@ impl Bounds {
     }
 
     /// Forgets what was set of the block since the bounds were settled.
+    #[inline(always)]
     pub fn forget(&mut self, block: u64)
         ensures { (other : ℕ) → bound_at self.new other ≡ (if block == other then settled_at self.old block else bound_at self.old other) }
     {
@@ -131,6 +135,7 @@ impl Bounds {
 
     /// Sets the bound of the block, and answers what was set of it since the bounds were settled, if anything was. At want of memory
     /// nothing has changed.
+    #[inline(always)]
     pub fn set(&mut self, block: u64, perm: Perm) -> Result<Option<Perm>, AllocError>
         ensures old { IfOk result (λ old. old ≡ recent_at self.old block) }
         ensures ok { OnOk result ((other : ℕ) → bound_at self.new other ≡ (if block == other then perm else bound_at self.old other)) }

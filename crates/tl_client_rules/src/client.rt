@@ -31,7 +31,7 @@ pub struct ClientState {
     /// The caps of the Probes without their ProbeAck, by block; None where the param named no cap.
     probes: BlockMap<Option<Perm>>,
     bounds: Bounds,
-    /// The requests of channel A by source: of an Acquire its block, of another None.
+    /// The blocks of the Acquires by source; other requests of channel A are not kept.
     acquires: OpenBlocks,
     /// The Releases by source: these are other sources than those of channel A.
     releases: OpenBlocks,
@@ -67,6 +67,7 @@ impl ClientState {
 
     /// The most that the client can hold of the block that begins at this address: what the last message set that set it. Where
     /// no block begins there, it is Nothing. [TileLink 1.8: permission transitions]
+    #[inline(always)]
     pub fn bound(&self, block: u64) -> Perm
         ensures stands { (exponent : ℕ) (before : List Message) → StandsFor exponent self.now before → result ≡ bound_of exponent before block }
         ensures shown { result ≡ (shown self.now).past.bound block }
@@ -76,6 +77,7 @@ impl ClientState {
 
     /// Whether a Probe of the block that begins at this address awaits its ProbeAck; never where no block begins there.
     /// [TileLink 1.8: Probe]
+    #[inline(always)]
     pub fn probe_open(&self, block: u64) -> bool
         ensures stands { (exponent : ℕ) (before : List Message) → StandsFor exponent self.now before → result ≡ is_some ((client_past exponent before).probe block) }
         ensures shown { result ≡ is_some ((shown self.now).past.probe block) }
@@ -85,6 +87,7 @@ impl ClientState {
 
     /// Whether a Grant of the block that begins at this address awaits its GrantAck; never where no block begins there.
     /// [TileLink 1.8: Grant and GrantAck]
+    #[inline(always)]
     pub fn grant_open(&self, block: u64) -> bool
         ensures stands { (exponent : ℕ) (before : List Message) → StandsFor exponent self.now before → result ≡ nat_lt 0 ((client_past exponent before).grants block) }
         ensures shown { result ≡ nat_lt 0 ((shown self.now).past.grants block) }
@@ -93,6 +96,7 @@ impl ClientState {
     }
 
     /// Whether a head with this message claims that the client held more than it can, or on a strict link less.
+    #[inline(always)]
     fn claims_wrongly(&self, strict: bool, op: Op, head: &Beat) -> bool
         ensures { result ≡ claims_wrongly strict self.now.exponent (shown self.now).past (head_with head.now None op) }
     {
@@ -104,6 +108,7 @@ impl ClientState {
     }
 
     /// Whether it keeps more than the cap of the open Probe.
+    #[inline(always)]
     fn keeps_above(&self, op: Op, head: &Beat) -> bool
         ensures { result ≡ keeps_above self.now.exponent (shown self.now).past (head_with head.now None op) }
     {
@@ -150,6 +155,7 @@ impl ClientState {
     }
 
     /// Whether a head with this message is seen to break no permission rule; false says nothing.
+    #[inline(always)]
     pub fn keeps_permissions(&self, strict: bool, op: Op, head: &Beat) -> bool
         ensures { result ≡ true → filter (breaks_permission strict self.now.exponent (shown self.now).past (head_with head.now None op)) permission_order ≡ [] }
     {
@@ -178,6 +184,7 @@ impl ClientState {
 
     /// The state with a head of this message, which answers this request. AllocError where memory is refused: then nothing has changed.
     #[tactic(auto, using(crate::proofs::Carried::carried, crate::proofs::ClientLaws::seen))]
+    #[inline(always)]
     pub fn pass(
         &mut self,
         link: &LinkDecl,
@@ -269,6 +276,7 @@ impl ClientState {
 
     /// Opens and closes what a head with this message does, and sets the bound that it sets. At want of memory nothing has
     /// changed.
+    #[inline(always)]
     fn change(&mut self, op: Op, head: &Beat, request: Option<Request>) -> Result<(), AllocError>
         requires { can_carry head.now.chan op ≡ true }
         ensures ok { OnOk result (IsView self.new (view_after (shown self.old) (head_with head.now request op))) }
@@ -292,6 +300,7 @@ impl ClientState {
 
     /// Opens and closes what a head with this message does. Each opens at most one, so that at want of memory nothing has
     /// changed.
+    #[inline(always)]
     fn open_and_close(
         &mut self,
         op: Op,
@@ -305,10 +314,10 @@ impl ClientState {
         ensures err { OnErr result (IsOpened self.new (shown self.old)) }
     {
         match head.chan {
-            Chan::A => {
-                let block = acquired_block(self.exponent, op, head.address);
-                self.acquires.open(head.source, block)?;
-            }
+            Chan::A => match acquired_block(self.exponent, op, head.address) {
+                Some(block) => self.acquires.open(head.source, Some(block))?,
+                None => self.acquires.close(head.source),
+            },
             Chan::B if is_probe(op) => {
                 let block = block_of(self.exponent, head.address);
                 self.probes.set(block, Some(cap_of(op, head.param)))?;

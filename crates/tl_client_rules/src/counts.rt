@@ -40,6 +40,7 @@ impl Counts {
     }
 
     /// Whether something is open on the block.
+    #[inline(always)]
     pub fn is_open(&self, block: u64) -> bool
         ensures { result ≡ nat_lt 0 (count_at self.now block) }
     {
@@ -47,6 +48,7 @@ impl Counts {
     }
 
     /// One more is open on the block. At want of memory nothing has changed.
+    #[inline(always)]
     fn add(&mut self, block: u64) -> Result<(), AllocError>
         ensures ok { OnOk result ((other : ℕ) → count_at self.new other ≡ one_if (block == other) + count_at self.old other) }
         ensures err { OnErr result ((other : ℕ) → count_at self.new other ≡ count_at self.old other) }
@@ -64,6 +66,7 @@ impl Counts {
     }
 
     /// One less is open on the block.
+    #[inline(always)]
     fn take(&mut self, block: u64)
         ensures { (other : ℕ) → count_at self.new other ≡ count_at self.old other - one_if (block == other) }
     {
@@ -72,6 +75,7 @@ impl Counts {
     }
 
     /// One that is open on the block takes the place of another. At want of memory nothing has changed.
+    #[inline(always)]
     fn keep(&mut self, block: u64) -> Result<(), AllocError>
         ensures ok { OnOk result ((other : ℕ) → count_at self.new other ≡ one_if (block == other) + (count_at self.old other - one_if (block == other))) }
         ensures err { OnErr result ((other : ℕ) → count_at self.new other ≡ count_at self.old other) }
@@ -83,6 +87,7 @@ impl Counts {
 
     /// What is open on the new block takes the place of what was open on the old one; None is no block. Only where there is
     /// a new block can there be no memory, and then nothing has changed.
+    #[inline(always)]
     pub fn replace(&mut self, old: Option<u64>, new: Option<u64>) -> Result<(), AllocError>
         ensures ok { OnOk result ((block : ℕ) → count_at self.new block
             ≡ one_if (grants_block block new) + (count_at self.old block - one_if (grants_block block old))) }

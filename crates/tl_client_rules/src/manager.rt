@@ -194,6 +194,7 @@ impl ManagerState {
     }
 
     /// Whether a head with this message breaks the rule.
+    #[inline(always)]
     fn breaks(&self, link: u16, op: Op, head: &Beat, request: Option<Request>, rule: Rule) -> bool
         ensures { result ≡ breaks_manager self.now.clients self.now.exponent (past_at self.now) link (head_with head.now request op) rule }
     {
@@ -248,6 +249,7 @@ impl ManagerState {
     }
 
     /// Whether a head with this message is seen to break no manager rule; false says nothing.
+    #[inline(always)]
     fn keeps_coherence(&self, link: u16, op: Op, head: &Beat, request: Option<Request>) -> bool
         ensures { result ≡ true → filter (breaks_manager self.now.clients self.now.exponent (past_at self.now) link (head_with head.now request op)) manager_order ≡ [] }
     {
@@ -263,44 +265,46 @@ impl ManagerState {
         }
     }
 
-    /// Whether a head of a link with this message, which answers this request, is seen to break no permission or manager rule; false
-    /// says nothing.
+    /// Whether a head of the link at a place with this message, which answers this request, is seen to break no permission or manager
+    /// rule; false says nothing.
+    #[inline(always)]
     pub fn keeps_rules(
         &self,
         link: u16,
+        place: usize,
         decl: &LinkDecl,
         op: Op,
         head: &Beat,
         request: Option<Request>,
     ) -> bool
         requires link { HasPlace (shown self.now) link }
+        requires place { place_of link (shown self.now).clients ≡ Some place }
         requires message { message_of decl.now head.now ≡ Some op }
         ensures { ForShown self.now link decl.now head.now request
             (λ clients exponent pasts. result ≡ true → head_rules_in clients exponent pasts link decl.now head.now ≡ []) }
     {
-        let place = self.clients.place(link).unwrap();
         self.states[place].keeps_permissions(decl.strict, op, head)
             && self.keeps_coherence(link, op, head, request)
     }
 
-    /// The state with a head of a link with this message, which answers this request. AllocError where memory is refused: then
-    /// nothing has changed.
+    /// The state with a head of the link at a place with this message, which answers this request. AllocError where memory is refused:
+    /// then nothing has changed.
+    #[inline(always)]
     pub fn pass(
         &mut self,
-        link: u16,
+        place: usize,
         decl: &LinkDecl,
         op: Op,
         head: &Beat,
         request: Option<Request>,
     ) -> Result<(), AllocError>
-        requires link { HasPlace (shown self.old) link }
+        requires place { place < (shown self.old).count }
         requires message { message_of decl.now head.now ≡ Some op }
-        ensures next { ForShown self.old link decl.now head.now request
+        ensures next { (link : ℕ) → place_of link (shown self.old).clients ≡ Some place → ForShown self.old link decl.now head.now request
             (λ clients exponent pasts. OnOk result (Shows clients exponent self.new (pasts_after exponent pasts link decl.now head.now))) }
         ensures count { (shown self.new).count ≡ (shown self.old).count }
         ensures err { OnErr result (shown self.new ≡ shown self.old) }
     {
-        let place = self.clients.place(link).unwrap();
         self.states[place].pass(decl, op, head, request)
     }
 

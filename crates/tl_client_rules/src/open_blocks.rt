@@ -44,6 +44,7 @@ impl OpenBlocks {
     }
 
     /// Whether something is open on the block.
+    #[inline(always)]
     pub fn is_open(&self, block: u64) -> bool
         ensures { result ≡ nat_lt 0 (open_on self.now block) }
     {
@@ -52,6 +53,7 @@ impl OpenBlocks {
 
     /// The key has this open from now on, or nothing. Only where something is opened can there be no memory, and then nothing
     /// has changed.
+    #[inline(always)]
     pub fn set(&mut self, key: u16, entry: Option<Option<u64>>) -> Result<(), AllocError>
         ensures blocks { OnOk result ((other : ℕ) → block_at self.new other ≡ (if key == other then entry else block_at self.old other)) }
         ensures counts { OnOk result ((block : ℕ) → open_on self.new block
@@ -69,6 +71,7 @@ impl OpenBlocks {
     }
 
     /// Opens the key, of a block if that is known; what was open on it is replaced. At want of memory nothing has changed.
+    #[inline(always)]
     pub fn open(&mut self, key: u16, block: Option<u64>) -> Result<(), AllocError>
         ensures blocks { OnOk result ((other : ℕ) → block_at self.new other ≡ (if key == other then Some block else block_at self.old other)) }
         ensures counts { OnOk result ((on : ℕ) → open_on self.new on
@@ -80,11 +83,14 @@ impl OpenBlocks {
     }
 
     /// Closes the key.
+    #[inline(always)]
     pub fn close(&mut self, key: u16)
         ensures blocks { (other : ℕ) → block_at self.new other ≡ (if key == other then None else block_at self.old other) }
         ensures counts { (block : ℕ) → open_on self.new block ≡ open_on self.old block - one_if (passes (grants_block block) (block_at self.old key)) }
     {
-        let _ = self.set(key, None);
+        if self.blocks.get(key).is_some() {
+            let _ = self.set(key, None);
+        }
     }
 
     /// The same open on the same keys and blocks.

@@ -1,20 +1,20 @@
 //! Heads and later beats: which beat of a link begins a message, and which belongs to an earlier one.
 
-ghost use Rattle.std.specs.Prelude.{◌≡◌, ◌≤◌, ℕ, List, [], true, length, option_map, take};
+ghost use Rattle.std.specs.Prelude.{◌≡◌, ◌≤◌, ℕ, List, [], None, Some, true, length, option_map, take};
 ghost use Rattle.std.specs.List.{All};
 ghost use Rattle.tl_tables.specs.Messages.{same_chan};
 ghost use Rattle.tl_topology.specs.Topology.{IsSound};
 ghost use Rattle.tl_topology.specs.declared.LinkDecl.{LinkDecl as Link};
 ghost use Rattle.tl_beats.specs.Beats.{IsWellFormed};
 ghost use Rattle.tl_definitions.specs.Breaks.{later_rules};
-ghost use Rattle.tl_definitions.specs.Heads.{beat_count};
+ghost use Rattle.tl_definitions.specs.Heads.{beat_count, message_of};
 ghost use Rattle.tl_link_rules.specs.Bursts.{IsQuiet, SameBursts};
 
 use crate::later::keeps_burst;
 use tl_beats::Beat;
 use tl_definitions::Unfinished;
 use tl_same::Same;
-use tl_tables::{Chan, carries_data, chan_index, op_of};
+use tl_tables::{Chan, Op, carries_data, chan_index, op_of};
 use tl_topology::LinkDecl;
 
 /// Where a beat stands in its message. [TileLink 1.8: serialization]
@@ -26,6 +26,22 @@ pub enum Place {
     Later(Beat),
 }
 
+/// How many beats the message has that begins with this beat: with data as many as the link's width asks, else one.
+#[inline(always)]
+fn message_count(link: &LinkDecl, op: Op, head: &Beat) -> u16
+    requires link { IsSound link.now }
+    requires beat { IsWellFormed head.now }
+    requires message { message_of link.now head.now ≡ Some op }
+    ensures exact { result ≡ beat_count link.now head.now }
+    ensures positive { 1 ≤ result }
+{
+    if carries_data(op) {
+        ((1u16 << head.size) / u16::from(link.width)).max(1)
+    } else {
+        1
+    }
+}
+
 /// How many beats a message has that begins with this beat, 1 to 32,768: with data as many as the link's width asks, else
 /// one. A beat whose opcode is no message of its channel and level has one. [TileLink 1.8: serialization]
 pub fn beat_count(link: &LinkDecl, beat: &Beat) -> u16
@@ -35,8 +51,8 @@ pub fn beat_count(link: &LinkDecl, beat: &Beat) -> u16
     ensures positive { 1 ≤ result }
 {
     match op_of(link.level, beat.chan, beat.opcode) {
-        Some(op) if carries_data(op) => ((1u16 << beat.size) / u16::from(link.width)).max(1),
-        _ => 1,
+        Some(op) => message_count(link, op, beat),
+        None => 1,
     }
 }
 
@@ -87,6 +103,7 @@ impl BurstState {
     }
 
     /// The head of the burst that the next beat of a channel belongs to; None where that beat is a head itself.
+    #[inline(always)]
     pub fn head(&self, chan: Chan) -> Option<&Beat>
         ensures { option_map (λ head. head.now) result ≡ option_map (λ burst. burst.head) (slot_at self.now chan) }
     {
@@ -119,8 +136,28 @@ impl BurstState {
         }
     }
 
+    /// The state with a head of this message.
+    #[tactic(auto, using(crate::proofs::BurstLaws::slot_set))]
+    #[inline(always)]
+    pub fn begin(&mut self, link: &LinkDecl, op: Op, head: &Beat)
+        requires link { IsSound link.now }
+        requires beat { IsWellFormed head.now }
+        requires head { slot_at self.old head.now.chan ≡ None }
+        requires message { message_of link.now head.now ≡ Some op }
+        ensures { (chan : AnyChan) → slot_at self.new chan ≡ slots_after link.now head.now (slot_at self.old) chan }
+    {
+        let count = message_count(link, op, head);
+        if count > 1 {
+            self.slots[chan_index(head.chan)] = Some(Unfinished {
+                head: *head,
+                missing: count - 1,
+            });
+        }
+    }
+
     /// The state with the beats at the front of these that go on with the burst which is unfinished on a channel, and are seen to break
     /// no rule; answers how many they are. Where no burst is unfinished there, they are none.
+    #[inline(always)]
     pub fn run(&mut self, chan: Chan, beats: &[Beat]) -> usize
         ensures within { result ≤ length beats.now }
         ensures quiet { IsRun chan (slot_at self.old chan) (take result beats.now) }

@@ -133,6 +133,7 @@ impl FlowState {
     }
 
     /// The request that a head with this message answers.
+    #[inline(always)]
     pub fn request_of(&self, op: Op, head: &Beat) -> Option<Request>
         ensures { result ≡ request_in (shown self.now) op head.now }
     {
@@ -188,6 +189,7 @@ impl FlowState {
     }
 
     /// Whether a head with this message, which answers this request, is seen to break no flow rule; false says nothing.
+    #[inline(always)]
     pub fn keeps_flow(&self, op: Op, head: &Beat, request: &Option<Request>) -> bool
         requires { can_carry head.now.chan op ≡ true }
         ensures { result ≡ true → filter (breaks_flow (shown self.now) (record { op = op; beat = head.now; request = request.now })) flow_order ≡ [] }
@@ -211,6 +213,7 @@ impl FlowState {
 
     /// The state with a head of this message. AllocError where memory is refused: then nothing has changed.
     #[tactic(auto, using(crate::proofs::FlowLaws::carried))]
+    #[inline(always)]
     pub fn pass(&mut self, link: &LinkDecl, op: Op, head: &Beat) -> Result<(), AllocError>
         requires { message_of link.now head.now ≡ Some op }
         ensures next { OnOk result (shown self.new ≡ flow_with (shown self.old) head.now (message_of link.now head.now)) }
@@ -221,6 +224,7 @@ impl FlowState {
 
     /// Opens and closes what a head with this message does. Each opens at most one entry, so that at want of memory nothing
     /// has changed.
+    #[inline(always)]
     fn change(&mut self, op: Op, head: &Beat) -> Result<(), AllocError>
         requires { can_carry head.now.chan op ≡ true }
         ensures source { OnOk result ((key : ℕ) → source_at self.new key ≡ (flow_after (shown self.old) (message_in (shown self.old) head.now op)).source key) }

@@ -20,6 +20,9 @@ fn is_in_region(regions: &RegionMap, op: Op, beat: &Beat) -> bool
     requires { IsWellFormed beat.now }
     ensures { result ≡ is_in_region (areas_of regions.now) op beat.now }
 {
+    if regions.is_empty() {
+        return true;
+    }
     let bytes: u64 = 1 << beat.size;
     let first = beat.address / bytes * bytes;
     regions.permits(op, first, first + (bytes - 1))
@@ -56,6 +59,7 @@ fn breaks(
 
 /// Whether a head with this message is seen to break no format rule of its manager, whose blocks have `2^exponent` bytes; false says
 /// nothing.
+#[inline(always)]
 pub fn keeps_format(link: &LinkDecl, exponent: u8, regions: &RegionMap, op: Op, beat: &Beat) -> bool
     requires link { IsSound link.now }
     requires beat { IsWellFormed beat.now }

@@ -205,6 +205,7 @@ impl<V: Copy + Drop> BlockMap<V> {
 
     /// The value of a block.
     #[tactic(auto, unfolding(crate::specs::BlockMap::value_at))]
+    #[inline(always)]
     pub fn get(&self, block: u64) -> Option<V>
         ensures { result ≡ value_at self.now block }
     {
@@ -271,6 +272,7 @@ impl<V: Copy + Drop> BlockMap<V> {
 
     /// Takes the value of a block away, and answers it.
     #[tactic(auto, unfolding(crate::specs::BlockMap::value_at))]
+    #[inline(always)]
     pub fn take(&mut self, block: u64) -> Option<V>
         ensures value { result ≡ value_at self.old block }
         ensures after { (other : ℕ) → value_at self.new other ≡ (if block == other then None else value_at self.old other) }
@@ -281,6 +283,7 @@ impl<V: Copy + Drop> BlockMap<V> {
     }
 
     /// Gives the block a value, or takes its value away, without more places.
+    #[inline(always)]
     fn assign(&mut self, block: u64, value: Option<V>) -> Result<Option<V>, AllocError>
         ensures old { IfOk result (λ old. old ≡ value_at self.old block) }
         ensures ok { OnOk result ((other : ℕ) → value_at self.new other ≡ (if block == other then value else value_at self.old other)) }
@@ -296,6 +299,7 @@ impl<V: Copy + Drop> BlockMap<V> {
 
     /// Gives the block a value, or takes its value away, and answers the value that it had. Only a value of a block that has none can find
     /// no memory, and then nothing has changed.
+    #[inline(always)]
     pub fn set(&mut self, block: u64, value: Option<V>) -> Result<Option<V>, AllocError>
         ensures old { IfOk result (λ old. old ≡ value_at self.old block) }
         ensures ok { OnOk result ((other : ℕ) → value_at self.new other ≡ (if block == other then value else value_at self.old other)) }

@@ -22,6 +22,7 @@ pub struct Slots<V: Copy + Drop> {
 
 /// Gives a place this value, and answers the value that it had. Only a value of a place that has none can find no memory, and then nothing
 /// has changed.
+#[inline(always)]
 fn put<V: Copy + Drop>(
     low: &mut Vec<Option<V>>,
     number: u16,
@@ -57,6 +58,7 @@ impl<V: Copy + Drop> Slots<V> {
     }
 
     /// The value of a number.
+    #[inline(always)]
     pub fn get(&self, key: u16) -> Option<V>
         ensures { result ≡ slot_of self.now key }
     {
@@ -84,6 +86,7 @@ impl<V: Copy + Drop> Slots<V> {
     /// Gives the number this value, or takes its value away, and answers the value that it had. Only a value of a number that has none
     /// can find no memory, and then nothing has changed.
     #[tactic(auto, using(crate::proofs::SlotLaws::low_set, crate::proofs::SlotLaws::low_kept))]
+    #[inline(always)]
     pub fn set(&mut self, key: u16, value: Option<V>) -> Result<Option<V>, AllocError>
         ensures old { IfOk result (λ old. old ≡ slot_of self.old key) }
         ensures ok { OnOk result ((other : ℕ) → slot_of self.new other ≡ (if key == other then value else slot_of self.old other)) }
@@ -99,6 +102,7 @@ impl<V: Copy + Drop> Slots<V> {
     }
 
     /// Takes the value of a number away, and answers it.
+    #[inline(always)]
     pub fn take(&mut self, key: u16) -> Option<V>
         ensures value { result ≡ slot_of self.old key }
         ensures after { (other : ℕ) → slot_of self.new other ≡ (if key == other then None else slot_of self.old other) }
@@ -134,6 +138,7 @@ impl<V: Copy + Drop> Slots<V> {
     }
 
     /// The value at a place.
+    #[inline(always)]
     fn at(&self, place: usize) -> Option<V>
         ensures { result ≡ slice_index_or self.now.low.items place None }
     {

@@ -12,7 +12,7 @@ returns-clause-next c s shows =
     let head = c.args.head.now in
     let held = next_law {E = Unit {0}} (Ok (tt {0})) terms.exponent c.args.self.now.client c.pass-2.new.self s.past p.beat head.request _ shows.client
     (answered s c.args.self.now p.beat _ head.op head.request terms.exponent shows c.requires.message c.requires.request) c.in_ok-pass-2.ensures.next in
-    message_next (alone terms) s p c.args.self.now _ shows c.pass-3.ensures c.requires.head head.op c.requires.message head.request c.requires.request c.in_ok-pass.ensures.next held c.in_ok-keep_granted.ensures
+    message_next (alone terms) s p c.args.self.now _ shows c.begin.ensures c.requires.head head.op c.requires.message head.request c.requires.request c.in_ok-pass.ensures.next held c.in_ok-keep_granted.ensures
 
 pub returns-clause-formed : goal.returns-clause-formed
-returns-clause-formed c = still_formed c.args.terms.now.decl.now c.args.at.now.beat c.args.self.now.bursts _ c.requires.beat c.requires.formed c.pass-3.ensures
+returns-clause-formed c = still_formed c.args.terms.now.decl.now c.args.at.now.beat c.args.self.now.bursts _ c.requires.beat c.requires.formed c.begin.ensures

@@ -7,6 +7,9 @@ use Rattle.tl_check.proofs.PlainLaws.{one_plain, all_plain}
 use Rattle.tl_check.proofs.PlainLinkLaws.{head_rows, head_next, still_formed}
 use Rattle.tl_check.proofs.apart.PlainLink.step_head.Goals as goal
 
+pub begin-requires-clause-message : goal.begin-requires-clause-message
+begin-requires-clause-message c = (c.clean_message.ensures c.in-Some.op c.in-Some.is).message
+
 pub change-requires : goal.change-requires
 change-requires c = one_plain c.args.decl.now c.args.at.now.beat c.in-Some.op c.requires.plain (c.clean_message.ensures c.in-Some.op c.in-Some.is).message
 
@@ -23,12 +26,12 @@ returns-in-Some-clause-next c s shows =
     let p = c.args.at.now in
     let clean = c.clean_message.ensures c.in-Some.op c.in-Some.is in
     on_ok c.change.result
-    (λ has. head_next c.args.decl.now c.args.exponent (areas_of c.args.regions.now) s p c.args.self.now (record { bursts = c.pass.new.self; requests = c.change.new.self }) shows c.pass.ensures
+    (λ has. head_next c.args.decl.now c.args.exponent (areas_of c.args.regions.now) s p c.args.self.now (record { bursts = c.begin.new.self; requests = c.change.new.self }) shows c.begin.ensures
     (sym (shows.bursts p.beat.chan) ∙ c.requires.head) (λ source. has source ∙ sym (ap (λ found. (flow_with s.past.flow p.beat found).source source) clean.message)))
     (c.change.ensures s.past.flow shows.requests)
 
 pub returns-in-Some-clause-formed : goal.returns-in-Some-clause-formed
-returns-in-Some-clause-formed c = whatever c.change.result (still_formed c.args.decl.now c.args.at.now.beat c.args.self.now.bursts _ c.requires.beat c.requires.formed c.pass.ensures)
+returns-in-Some-clause-formed c = whatever c.change.result (still_formed c.args.decl.now c.args.at.now.beat c.args.self.now.bursts _ c.requires.beat c.requires.formed c.begin.ensures)
 
 pub returns-clause-rows : goal.returns-clause-rows
 returns-clause-rows c s shows =

@@ -1,16 +1,12 @@
 -- Later beats of a burst that break no rule.
-use Rattle.std.proofs.Common.{◌≡◌, ℕ, zero, suc, ◌+◌, ◌-◌, ◌≤◌, true, false, cond, List, [], ◌∷◌, ◌++◌, length, take, drop, Option, Some, None, refl, sym, ap, subst, ◌∙◌, arith, append_assoc}
-use Rattle.std.specs.Prelude.{is_none, map, nat_lt}
-use Rattle.std.specs.Option.{option_map_or}
-use Rattle.std.specs.List.{All}
-use Rattle.std.proofs.lemmas.Bool.Decides.{nat_tests}
+use Rattle.std.proofs.Common.{◌≡◌, ℕ, zero, suc, ◌+◌, ◌-◌, ◌≤◌, true, false, cond, List, [], ◌∷◌, ◌++◌, length, take, drop, Option, Some, None, refl, sym, ap, subst, ◌∙◌, arith}
+use Rattle.std.specs.Prelude.{is_none, map}
 use Rattle.std.proofs.lemmas.List.Elements.{All-head, All-tail}
 use Rattle.tl_tables.specs.declared.Chan.{Chan}
 use Rattle.tl_tables.specs.Messages.{same_chan}
 use Rattle.tl_beats.specs.Beats.{IsWellFormed}
 use Rattle.tl_beats.specs.declared.Beat.{Beat}
 use Rattle.tl_beats.specs.declared.Placed.{Placed}
-use Rattle.tl_beats.specs.declared.Row.{Row}
 use Rattle.tl_definitions.specs.declared.Unfinished.{Unfinished}
 use Rattle.tl_definitions.specs.Breaks.{row_of}
 use Rattle.tl_definitions.specs.Events.{event_of, place_event, with_event, link_events}
@@ -26,6 +22,8 @@ use Rattle.tl_link_rules.specs.Bursts as bursts
 use Rattle.tl_link_rules.specs.Flow as flow_state
 use Rattle.tl_client_rules.specs.Client as client_state
 use Rattle.tl_state.specs.Slots.{slot_of}
+use Rattle.std.proofs.lemmas.List.{drop-drop}
+use Rattle.tl_check.proofs.RunStates.{later_formed}
 use Rattle.tl_check.proofs.RunLaws.{same_is, same_itself, run_tail, left_more}
 use Rattle.tl_apart.specs.Events.{said}
 use Rattle.tl_apart.specs.LinkJudge.{Shows, AreFormed, HasRun, with_burst}
@@ -88,17 +86,6 @@ module _ (m : Manager) (link number : ℕ) (c : Chan) where
 
 -- ---- the judge
 
-later_formed : (n : ℕ) (slot : Option Unfinished) (burst : Unfinished) → ((b : Unfinished) → slot ≡ Some b → IsWellFormed b.head) → later_left n slot ≡ Some burst → IsWellFormed burst.head
-later_formed zero slot burst known h = known burst h
-later_formed (suc n) None burst known h = cc
-later_formed (suc n) (Some b) burst known h = one b.head _ (known b refl) h
-  where
-    one : (head : Beat) (missing : ℕ) → IsWellFormed head → left head missing ≡ Some burst → IsWellFormed burst.head
-    one head missing formed = elim (nat_lt 0 missing) as (λ t. cond t (Some (record { head = head; missing = missing })) None ≡ Some burst → IsWellFormed burst.head) [
-      | true ↦ λ h. subst IsWellFormed (ap (λ o. option_map_or (λ (u : Unfinished). u.head) o head) h) formed
-      | false ↦ λ h. cc
-    ]
-
 module _ (old new : LinkJudge) (c : Chan) (count : ℕ) (slots : (d : Chan) → slot_at new.bursts d ≡ slots_with c count (slot_at old.bursts) d) where
   pub run_formed : AreFormed old → AreFormed new
   run_formed formed d burst h =
@@ -152,15 +139,6 @@ goes_past m s exponent old new entry found all rest run beats on is ran =
           ∙ sym (ap (λ ps. map said found.events.items ++ link_events m here ps) is) ∙ on.events;
     }
 
-drop_nil : {X : Type 0} (k : ℕ) → drop {A = X} k [] ≡ []
-drop_nil zero = refl
-drop_nil (suc k) = refl
-
-drop_drop : {X : Type 0} (i n : ℕ) (xs : List X) → drop n (drop i xs) ≡ drop (i + n) xs
-drop_drop zero n xs = ap (λ k. drop k xs) (let e : n ≡ 0 + n = omega arith in e)
-drop_drop (suc i) n [] = drop_nil n ∙ sym (drop_nil (suc i + n))
-drop_drop (suc i) n (x ∷ xs) = drop_drop i n xs ∙ ap (λ k. drop k (x ∷ xs)) (let e : suc (i + n) ≡ suc i + n = omega arith in e)
-
 -- Those that are left after one beat, and those after it that were taken with it.
 pub after_run : (link number place n : ℕ) (beats : List Beat) → placed_from link number (place + 2 + 1) (drop (place + 1) beats)
     ≡ placed_from link number (place + 2 + 1) (take n (drop (place + 1) beats)) ++ placed_from link number (place + 1 + n + 2) (drop (place + 1 + n) beats)
@@ -168,4 +146,4 @@ after_run link number place n beats =
     let run : List Placed = placed_from link number (place + 2 + 1) (take n (drop (place + 1) beats)) in
     placed_split link number (place + 2 + 1) n (drop (place + 1) beats)
     ∙ ap (λ k. run ++ placed_from link number k (drop n (drop (place + 1) beats))) (let e : place + 2 + 1 + n ≡ place + 1 + n + 2 = omega arith in e)
-    ∙ ap (λ bs. run ++ placed_from link number (place + 1 + n + 2) bs) (drop_drop (place + 1) n beats)
+    ∙ ap (λ bs. run ++ placed_from link number (place + 1 + n + 2) bs) (drop-drop n (place + 1) beats)

@@ -1,5 +1,5 @@
 -- Links without caches judged one after the other leave and find what their beats in the order of positions do.
-use Rattle.std.proofs.Common.{◌≡◌, ℕ, ◌+◌, ◌==◌, ◌&&◌, Bool, true, false, cond, List, [], ◌∷◌, ◌++◌, get_or, Some, None, refl, sym, ap, subst, ◌∙◌}
+use Rattle.std.proofs.Common.{◌≡◌, ℕ, ◌==◌, ◌&&◌, Bool, true, false, cond, List, [], ◌∷◌, ◌++◌, get_or, Some, None, refl, sym, ap, subst, ◌∙◌}
 use Rattle.std.specs.Prelude.{map, filter, not, ◌↔◌}
 use Rattle.std.specs.Option.{option_map_or}
 use Rattle.std.specs.List.{Contains}
@@ -32,7 +32,7 @@ use Rattle.tl_capture.specs.Windows.{lies_in, beats_in, AreBeatsOf}
 use Rattle.tl_capture.proofs.LawLemmas.{links_are_kept, one_link_is_its_own}
 use Rattle.tl_check.specs.Jobs.{GoesOn, Judges}
 use Rattle.tl_check.specs.Managers.{IsPlain}
-use Rattle.tl_check.specs.States.{shown, IsOf, SameSpan}
+use Rattle.tl_check.specs.States.{shown, IsOf}
 use Rattle.tl_check.specs.declared.state.SpanState.{SpanState}
 use Rattle.tl_check.proofs.WalkedLaws.{judged}
 use Rattle.tl_check.specs.LinkByLink.{one_after_other}
@@ -120,22 +120,22 @@ not_begun m state rows is none = record { is_of = is; left = refl; found = none 
 
 -- ---- the check
 
-pub judged_apart : (topo : Topology) (manager : ℕ) (areas : List Area) (entry copy exit : SpanState) (beats : List Placed) (lists : List (List Placed)) (found rows : List Row)
-    → IsStrictlySortedBy nat_cmp (clients_of manager (declared_links topo)) → IsParted topo manager beats lists → SameSpan entry copy
-    → GoesOn (manager_at topo manager areas) copy (one_after_other lists) exit found → IsStrictlySortedBy row_order rows → ((row : Row) → Contains rows row ↔ Contains found row)
+pub judged_apart : (topo : Topology) (manager : ℕ) (areas : List Area) (entry exit : SpanState) (beats : List Placed) (lists : List (List Placed)) (found rows : List Row)
+    → IsStrictlySortedBy nat_cmp (clients_of manager (declared_links topo)) → IsParted topo manager beats lists
+    → GoesOn (manager_at topo manager areas) entry (one_after_other lists) exit found → IsStrictlySortedBy row_order rows → ((row : Row) → Contains rows row ↔ Contains found row)
     → Judges (manager_at topo manager areas) entry beats exit rows
-judged_apart topo manager areas entry copy exit beats lists found rows up parted same gone sorted members =
+judged_apart topo manager areas entry exit beats lists found rows up parted gone sorted members =
     let m : Manager = manager_at topo manager areas in
     let links : List ℕ = clients_of manager (declared_links topo) in
     let mixed : List Placed = one_after_other lists in
     let linked : (p : Placed) → Contains beats p → Contains links p.link = λ p h. All-contains (λ (q : Placed). Contains links q.link) beats p parted.all.linked h in
     let alike : (link : ℕ) → on_link link mixed ≡ on_link link beats = λ link. ap (λ ls. on_link link (one_after_other ls)) parted.each ∙ each_stays links beats up linked link in
     let plain : ArePlain m beats = λ p h. All-contains (IsPlain topo) links p.link parted.plain (linked p h) in
-    let mixed_plain : ArePlain m mixed = plain_there m (shown copy) beats mixed (λ link. sym (alike link)) plain in
-    let all : List Row = rows_judged (judging m) (shown copy) beats in
-    judged m entry copy exit beats all rows parted.all.rise same
-    (record { is_of = gone.is_of; left = gone.left ∙ same_left m (shown copy) mixed beats alike; found = refl }) sorted
+    let mixed_plain : ArePlain m mixed = plain_there m (shown entry) beats mixed (λ link. sym (alike link)) plain in
+    let all : List Row = rows_judged (judging m) (shown entry) beats in
+    judged m entry exit beats all rows parted.all.rise
+    (record { is_of = gone.is_of; left = gone.left ∙ same_left m (shown entry) mixed beats alike; found = refl }) sorted
     (λ row. (
-      (λ h. same_rows m (shown copy) mixed beats alike mixed_plain row (subst (λ rs. Contains rs row) gone.found ((members row).0 h))),
-      (λ h. (members row).1 (subst (λ rs. Contains rs row) (sym gone.found) (same_rows m (shown copy) beats mixed (λ link. sym (alike link)) plain row h))),
+      (λ h. same_rows m (shown entry) mixed beats alike mixed_plain row (subst (λ rs. Contains rs row) gone.found ((members row).0 h))),
+      (λ h. (members row).1 (subst (λ rs. Contains rs row) (sym gone.found) (same_rows m (shown entry) beats mixed (λ link. sym (alike link)) plain row h))),
     ))

@@ -10,6 +10,7 @@ pub mod WindowLemmas
 pub mod TouchLemmas
 pub mod TouchedLemmas
 pub mod EditLemmas
+pub mod LiveLemmas
 pub mod RecheckLemmas
 pub mod TicketLemmas
 mod MonitorLemmas

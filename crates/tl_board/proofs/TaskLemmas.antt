@@ -5,9 +5,12 @@ use Rattle.std.proofs.lemmas.List.Elements.{Contains-get_or}
 use Rattle.tl_topology.specs.Topology.{Topology}
 use Rattle.tl_beats.specs.declared.Placed.{Placed}
 use Rattle.tl_beats.specs.declared.Row.{Row}
+use Rattle.tl_definitions.specs.Judging.{judging}
 use Rattle.tl_definitions.specs.LinkPasses.{on_link}
 use Rattle.tl_definitions.specs.Managers.{declared_links}
+use Rattle.tl_definitions.specs.Passes.{IsPass}
 use Rattle.tl_definitions.specs.Positions.{clients_of}
+use Rattle.tl_definitions.specs.Rules.{Manager}
 use Rattle.tl_definitions.proofs.Lists.{mapped_from}
 use Rattle.tl_capture.specs.Windows.{AreBeatsOf}
 use Rattle.tl_check.specs.Managers.{IsPlain}
@@ -28,6 +31,11 @@ passed task own exit rows judges = record {
   ends = (judges.0, refl);
   pass = judges.1;
 }
+
+-- Beats are judged alike from states that show the same.
+pub judged_alike : (m : Manager) (entry state exit : SpanState) (beats : List Placed) (rows : List Row) → SameSpan entry state → Judges m state beats exit rows → Judges m entry beats exit rows
+judged_alike m entry state exit beats rows same judges =
+    (judges.0, subst (λ s. IsPass (judging m) (record { entry = s; beats = beats; exit = shown exit; rows = rows })) (sym (same_shown entry state same)) judges.1)
 
 -- A state that is the same may stand for the one that a window leaves.
 pub settled : (task : TaskData) (entry exit kept : SpanState) (rows : List Row) → SameSpan exit kept → (IsOf (manager_of task) exit → IsOf (manager_of task) kept)

@@ -2,6 +2,7 @@ pub mod Apart
 pub mod Tasks
 pub mod Covers
 pub mod Spans
+pub mod Live
 pub mod Rows
 pub mod Touch
 pub mod Touched

@@ -73,23 +73,22 @@ fn go_through(
 }
 
 /// The check of a window of a manager without caches: judges the beats of its links, one link after the other, from a state of the
-/// manager, as `check_window` does in the order of positions. Answers the state after them, and the rows of what they break in the order
-/// of reports, each once. AllocError where memory is refused.
+/// manager, which goes on after them, as `check_window` does in the order of positions. Answers the rows of what they break, in the order
+/// of reports, each once. AllocError where memory is refused: then the state is for nothing more.
 pub(crate) fn check_apart(
     alloc: Global,
     topo: &Topo,
     manager: u16,
     regions: &RegionMap,
     lists: &[WindowBeats],
-    entry: &SpanState,
-) -> Result<(SpanState, Vec<Row>), AllocError>
+    state: &mut SpanState,
+) -> Result<Vec<Row>, AllocError>
     requires manager { manager < length topo.now.managers }
     requires each { All (AreBeatsOf (clients_of manager (declared_links topo.now))) lists.now }
-    requires entry { IsOf (manager_at topo.now manager (areas_of regions.now)) entry.now }
+    requires state { IsOf (manager_at topo.now manager (areas_of regions.now)) state.old }
     ensures { (beats : List AnyPlaced) → IsParted topo.now manager beats lists.now
-        → IfOk result (λ x. Judges (manager_at topo.now manager (areas_of regions.now)) entry.now beats x.0 x.1.items) }
+        → IfOk result (λ rows. Judges (manager_at topo.now manager (areas_of regions.now)) state.old beats state.new rows.items) }
 {
-    let mut state = entry.copy(alloc)?;
-    let rows = go_through(alloc, topo, manager, regions, lists, &mut state)?;
-    Ok((state, sort_rows(rows)))
+    let rows = go_through(alloc, topo, manager, regions, lists, state)?;
+    Ok(sort_rows(rows))
 }

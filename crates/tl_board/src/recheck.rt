@@ -20,8 +20,9 @@ impl Spans {
         // The keys rise, and they are fewer than 2^64.
         let _ = self.pieces.len();
         let mut count = 0;
+        let mut live = None;
         while !self.settled() {
-            self.check_first(alloc)?;
+            live = self.check_first(alloc, live)?;
             count += 1;
         }
         Ok(count)

@@ -6,7 +6,7 @@ ghost use Rattle.tl_topology.specs.Regions.{areas_of};
 ghost use Rattle.tl_definitions.specs.Managers.{manager_at};
 ghost use Rattle.tl_pieces.specs.Marks.{pass_of};
 ghost use Rattle.tl_check.specs.Jobs.{Judges};
-ghost use Rattle.tl_check.specs.States.{IsOf};
+ghost use Rattle.tl_check.specs.States.{IsOf, SameSpan};
 ghost use Rattle.tl_board.specs.Tasks.{IsPassOf, HasNumbers, manager_of, task_for};
 
 use crate::apart::{beats_apart, check_apart};
@@ -105,16 +105,49 @@ impl SpanTask {
         self.window
     }
 
-    /// The state after its beats, and the rows of what they break: link by link, where its manager has no caches.
-    fn judged(&self, alloc: Global) -> Result<(SpanState, Vec<Row>), AllocError>
-        ensures { IfOk result (λ x. Judges (manager_of self.now) self.now.entry self.now.beats x.0 x.1.items) }
+    /// The rows of what its beats break, judged by a state that shows what its entry shows, and that goes on after them: link by link, where
+    /// its manager has no caches. AllocError where memory is refused: then the state is for nothing more.
+    fn judged(&self, alloc: Global, state: &mut SpanState) -> Result<Vec<Row>, AllocError>
+        requires { SameSpan self.now.entry state.old }
+        ensures { IfOk result (λ rows. Judges (manager_of self.now) state.old self.now.beats state.new rows.items) }
     {
         let (topo, regions) = (&self.topo, &self.regions);
         if self.apart.is_empty() {
             let walk = self.beats.walk(alloc)?;
-            return check_window(alloc, topo, self.manager, regions, walk, &self.entry);
+            return check_window(alloc, topo, self.manager, regions, walk, state);
         }
-        check_apart(alloc, topo, self.manager, regions, &self.apart, &self.entry)
+        check_apart(alloc, topo, self.manager, regions, &self.apart, state)
+    }
+
+    /// A state that shows what its entry shows. AllocError where memory is refused.
+    pub(crate) fn begin(&self, alloc: Global) -> Result<SpanState, AllocError>
+        ensures { IfOk result (SameSpan self.now.entry) }
+    {
+        self.entry.copy(alloc)
+    }
+
+    /// The pass of its beats by a state that shows what its entry shows, and that goes on after them: it then shows what the pass leaves. What
+    /// is kept of that is settled, so that the states of windows share what is held. AllocError where memory is refused: then the state is
+    /// for nothing more.
+    pub(crate) fn check_on(
+        &self,
+        alloc: Global,
+        state: &mut SpanState,
+    ) -> Result<Stored<SpanState, Rows>, AllocError>
+        requires { SameSpan self.now.entry state.old }
+        ensures pass { IfOk result (λ stored. IsPassOf self.now (pass_of stored)) }
+        ensures entry { IfOk result (λ stored. arc_value stored.entry ≡ self.now.entry) }
+        ensures left { IfOk result (λ stored. SameSpan (arc_value stored.exit) state.new) }
+    {
+        let rows = self.judged(alloc, state)?;
+        state.settle()?;
+        // A copy takes no more memory than what it shows.
+        let kept = state.copy(alloc)?;
+        Ok(Stored {
+            entry: Arc::try_clone(&self.entry)?,
+            exit: Arc::new(alloc, kept)?,
+            rows: Rows::new(rows),
+        })
     }
 
     /// The pass of its beats from its entry. What it leaves is settled, so that the states of windows share what is held.
@@ -123,14 +156,8 @@ impl SpanTask {
         ensures pass { IfOk result (λ stored. IsPassOf self.now (pass_of stored)) }
         ensures entry { IfOk result (λ stored. arc_value stored.entry ≡ self.now.entry) }
     {
-        let (mut exit, rows) = self.judged(alloc)?;
-        exit.settle()?;
-        // A copy takes no more memory than what it shows.
-        let kept = exit.copy(alloc)?;
-        Ok(Stored {
-            entry: Arc::try_clone(&self.entry)?,
-            exit: Arc::new(alloc, kept)?,
-            rows: Rows::new(rows),
-        })
+        let mut state = self.begin(alloc)?;
+        let stored = self.check_on(alloc, &mut state)?;
+        Ok(stored)
     }
 }

@@ -28,7 +28,7 @@ use Rattle.tl_check.proofs.RunLaws.{same_is}
 use Rattle.tl_check.proofs.StateLaws.{get_set_same, get_set_other, link_cases}
 
 -- What is left of a burst has its head.
-later_formed : (n : ℕ) (slot : Option Unfinished) (burst : Unfinished) → ((b : Unfinished) → slot ≡ Some b → IsWellFormed b.head) → later_left n slot ≡ Some burst → IsWellFormed burst.head
+pub later_formed : (n : ℕ) (slot : Option Unfinished) (burst : Unfinished) → ((b : Unfinished) → slot ≡ Some b → IsWellFormed b.head) → later_left n slot ≡ Some burst → IsWellFormed burst.head
 later_formed zero slot burst known h = known burst h
 later_formed (suc n) None burst known h = cc
 later_formed (suc n) (Some b) burst known h = one b.head _ (known b refl) h

@@ -322,6 +322,18 @@ same_is_of m one two of same = record {
 }
 
 -- A state with other clients, which show the same.
+pub same_back : (one two : SpanState) → SameSpan one two → SameSpan two one
+same_back one two same = record {
+  links = record {
+    count = sym same.links.count;
+    each = λ n d within.
+        let inside : n < length one.links.items = (let many = same.links.count in omega (arith, many, within)) in
+        let link = same.links.each n d inside in
+        record { bursts = λ chan. sym (link.bursts chan); flow = sym link.flow };
+  };
+  clients = sym same.clients;
+}
+
 pub same_clients : (state : SpanState) (clients : ManagerState) → managers.SameManager state.clients clients → SameSpan state (record { links = state.links; clients = clients })
 same_clients state clients same = record {
   links = record { count = refl; each = λ n d within. record { bursts = λ chan. refl; flow = refl } };

@@ -21,9 +21,8 @@ use Rattle.tl_definitions.specs.Report.{row_order}
 use Rattle.tl_definitions.proofs.PassLaws.{sorted_rows_are_a_pass}
 use Rattle.tl_client_rules.proofs.ClientsLaws.{clients_below}
 use Rattle.tl_check.specs.Jobs.{GoesOn, Judges, manager_from}
-use Rattle.tl_check.specs.States.{shown, IsOf, SameSpan}
+use Rattle.tl_check.specs.States.{shown, IsOf}
 use Rattle.tl_check.specs.declared.state.SpanState.{SpanState}
-use Rattle.tl_check.proofs.StateLaws.{same_shown}
 
 pub rows_on : (m : Manager) (s next : Snapshot) (ps rest : List Placed) (p : Placed) (rows more total : List Row) → ps ≡ p ∷ rest
     → more ≡ rows ++ map (row_of p) (judged_rules m s p) → next ≡ judged_next m s p → rows ++ rows_judged (judging m) s ps ≡ total
@@ -55,15 +54,13 @@ linked_within topo manager links beats are linked k d below =
     let less = clients_below manager 0 (declared_links topo) (get_or beats k d).link (linked k d below) in
     let many : length links ≡ length (declared_links topo) = ap length are in omega (arith, less, many)
 
--- Rows that are sorted, of beats judged from a state that is the same.
-pub judged : (m : Manager) (entry copy exit : SpanState) (beats : List Placed) (found rows : List Row) → IsStrictlySortedBy position_order beats → SameSpan entry copy → GoesOn m copy beats exit found
+-- Rows that are sorted, of beats judged from a state.
+pub judged : (m : Manager) (entry exit : SpanState) (beats : List Placed) (found rows : List Row) → IsStrictlySortedBy position_order beats → GoesOn m entry beats exit found
     → IsStrictlySortedBy row_order rows → ((row : Row) → Contains rows row ↔ Contains found row) → Judges m entry beats exit rows
-judged m entry copy exit beats found rows rises same gone sorted members =
-    let begins : shown copy ≡ shown entry = sym (same_shown entry copy same) in
-    let all : found ≡ rows_judged (judging m) (shown entry) beats = gone.found ∙ ap (λ s. rows_judged (judging m) s beats) begins in
+judged m entry exit beats found rows rises gone sorted members =
     let pass = sorted_rows_are_a_pass m (shown entry) beats rows rises sorted
     (λ row. (
-      (λ h. subst (λ rs. Contains rs row) all ((members row).0 h)),
-      (λ h. (members row).1 (subst (λ rs. Contains rs row) (sym all) h)),
+      (λ h. subst (λ rs. Contains rs row) gone.found ((members row).0 h)),
+      (λ h. (members row).1 (subst (λ rs. Contains rs row) (sym gone.found) h)),
     )) in
-    (gone.is_of, record { rises = pass.rises; members = pass.members; exit = gone.left ∙ ap (λ s. left_after (judging m) s beats) begins })
+    (gone.is_of, record { rises = pass.rises; members = pass.members; exit = gone.left })

@@ -103,8 +103,8 @@ fn merged_rows(
     ensures { IfOk result (λ rows. AreMerged (manager_at topo.now manager (areas_of regions.now)) (beats_of_all links.now present.now) rows.items) }
 {
     let walk = present.walk(alloc, links)?;
-    let entry = SpanState::opening(alloc, topo, manager)?;
-    let (_, rows) = check_window(alloc, topo, manager, regions, walk, &entry)?;
+    let mut state = SpanState::opening(alloc, topo, manager)?;
+    let rows = check_window(alloc, topo, manager, regions, walk, &mut state)?;
     Ok(rows)
 }
 

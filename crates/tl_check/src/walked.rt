@@ -103,24 +103,23 @@ pub fn go_on<'a>(
 }
 
 /// The check of a window of a manager of a topology: judges the beats that a walk has left with these regions from a state of the
-/// manager. That may be a guess: the pass is true of it whatever it is. Answers the state after the beats, and the rows of what they
-/// break in the order of reports, each once. AllocError where memory is refused.
+/// manager, which goes on after them. That may be a guess: the pass is true of it whatever it is. Answers the rows of what they break, in
+/// the order of reports, each once. AllocError where memory is refused: then the state is for nothing more.
 pub fn check_window<'a>(
     alloc: Global,
     topo: &Topo,
     manager: u16,
     regions: &RegionMap,
     walk: Merged<'a>,
-    entry: &SpanState,
-) -> Result<(SpanState, Vec<Row>), AllocError>
+    state: &mut SpanState,
+) -> Result<Vec<Row>, AllocError>
     requires manager { manager < length topo.now.managers }
     requires formed { All (λ p. IsWellFormed p.beat) walk }
     requires linked { All (λ p. Contains (clients_of manager (declared_links topo.now)) p.link) walk }
     requires rises { IsStrictlySortedBy position_order walk }
-    requires entry { IsOf (manager_at topo.now manager (areas_of regions.now)) entry.now }
-    ensures { IfOk result (λ x. Judges (manager_at topo.now manager (areas_of regions.now)) entry.now walk.entry x.0 x.1.items) }
+    requires state { IsOf (manager_at topo.now manager (areas_of regions.now)) state.old }
+    ensures { IfOk result (λ rows. Judges (manager_at topo.now manager (areas_of regions.now)) state.old walk.entry state.new rows.items) }
 {
-    let mut state = entry.copy(alloc)?;
-    let rows = go_on(alloc, topo, manager, regions, walk, &mut state)?;
-    Ok((state, sort_rows(rows)))
+    let rows = go_on(alloc, topo, manager, regions, walk, state)?;
+    Ok(sort_rows(rows))
 }

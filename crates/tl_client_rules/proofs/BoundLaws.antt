@@ -7,12 +7,12 @@ use Rattle.std.specs.List.{AllByRecursion}
 use Rattle.std.specs.Map.{lookup}
 use Rattle.std.specs.Ordering.{nat_cmp}
 use Rattle.tl_tables.specs.declared.Perm.{Perm}
+use Rattle.tl_tables.specs.declared.Perm.TheVariants.{Nothing}
 use Rattle.tl_state.specs.BlockMap.{BlockData, blocks_of, is_among}
 use Rattle.tl_state.specs.Map.{value_at}
 use Rattle.tl_state.proofs.BlockMapLaws.{has_none, all_agree, same_on}
-use Rattle.tl_client_rules.specs.Bounds.{bound_by, bound_at, settled_at, SameBounds, AgreeOn, AgreeOnBlocks}
-use Rattle.tl_client_rules.specs.Holds.{perm_of}
-use Rattle.tl_client_rules.specs.declared.bounds.Hold.{Hold}
+use Rattle.tl_client_rules.specs.Bounds.{bound_by, bound_at, settled_at, SameBounds, AgreeOn, AgreeOnBase, AgreeOnBlocks}
+use Rattle.tl_client_rules.specs.Settled.{SettledData, perm_of, perm_at}
 use Rattle.tl_client_rules.specs.declared.bounds.Bounds.{Bounds}
 
 agree_at : {V : Type 0} (f g : ℕ → Perm) (entries : List (ℕ × V)) (block : ℕ) → AllByRecursion (λ e. f e.0 ≡ g e.0) entries
@@ -33,19 +33,33 @@ pub agreeing_blocks : (one two : Bounds) (blocks : List ℕ) → SameBounds one 
 agreeing_blocks one two blocks same = all_agree (λ block. bound_at one block ≡ bound_at two block) blocks same
 
 -- Where nothing was set, the bound is the settled one.
-pub settled_first : (recent : BlockData Perm) (base : List (ℕ × Hold)) (block : ℕ) → is_among block (blocks_of recent) ≡ false → perm_of (value_at nat_cmp base block) ≡ bound_by recent base block
-settled_first recent base block not = sym (ap (λ o. unwrap_or o (perm_of (value_at nat_cmp base block))) (has_none recent block not))
+pub settled_first : (recent : BlockData Perm) (base : SettledData) (block : ℕ) → is_among block (blocks_of recent) ≡ false → perm_at base block ≡ bound_by recent base block
+settled_first recent base block not = sym (ap (λ o. unwrap_or o (perm_at base block)) (has_none recent block not))
 
-module _ (one two : Bounds) (here : AgreeOnBlocks one two (blocks_of one.recent)) (here_settled : AgreeOn one two one.base)
-    (there : AgreeOnBlocks two one (blocks_of two.recent)) (there_settled : AgreeOn two one two.base) where
-  settled_agree : (block : ℕ) → settled_at one block ≡ bound_at one block → settled_at two block ≡ bound_at two block → bound_at one block ≡ bound_at two block
-  settled_agree block first second = elim (value_at nat_cmp one.base block) as (λ o. value_at nat_cmp one.base block ≡ o → bound_at one block ≡ bound_at two block) [
-    | Some p ↦ λ g. agree_at (bound_at one) (bound_at two) one.base block here_settled (subst IsSome (sym g) refl)
-    | None ↦ λ g. elim (value_at nat_cmp two.base block) as (λ o. value_at nat_cmp two.base block ≡ o → bound_at one block ≡ bound_at two block) [
-      | Some p ↦ λ h. sym (agree_at (bound_at two) (bound_at one) two.base block there_settled (subst IsSome (sym h) refl))
-      | None ↦ λ h. sym first ∙ ap perm_of g ∙ sym (ap perm_of h) ∙ second
-    ] refl
+pub agreeing_base : (one two : Bounds) → SameBounds one two → AgreeOnBase one two
+agreeing_base one two same = (agreeing one two one.base.trunks same, agreeing one two one.base.branches same)
+
+-- A block is among the trunks, or among the branches, or has no bound.
+settled_cases : (bounds : Bounds) (block : ℕ) (P : Type 0) → (IsSome (value_at nat_cmp bounds.base.trunks block) → P) → (IsSome (value_at nat_cmp bounds.base.branches block) → P)
+    → (settled_at bounds block ≡ Nothing → P) → P
+settled_cases bounds block P trunk branch neither = elim (value_at nat_cmp bounds.base.trunks block) as (λ o. value_at nat_cmp bounds.base.trunks block ≡ o → P) [
+  | Some held ↦ λ g. trunk (subst IsSome (sym g) refl)
+  | None ↦ λ g. elim (value_at nat_cmp bounds.base.branches block) as (λ o. value_at nat_cmp bounds.base.branches block ≡ o → P) [
+    | Some held ↦ λ h. branch (subst IsSome (sym h) refl)
+    | None ↦ λ h. neither (ap (λ o. perm_of o (value_at nat_cmp bounds.base.branches block)) g ∙ ap (perm_of None) h)
   ] refl
+] refl
+
+module _ (one two : Bounds) (here : AgreeOnBlocks one two (blocks_of one.recent)) (here_settled : AgreeOnBase one two)
+    (there : AgreeOnBlocks two one (blocks_of two.recent)) (there_settled : AgreeOnBase two one) where
+  settled_agree : (block : ℕ) → settled_at one block ≡ bound_at one block → settled_at two block ≡ bound_at two block → bound_at one block ≡ bound_at two block
+  settled_agree block first second = settled_cases one block (bound_at one block ≡ bound_at two block)
+      (agree_at (bound_at one) (bound_at two) one.base.trunks block here_settled.0)
+      (agree_at (bound_at one) (bound_at two) one.base.branches block here_settled.1)
+      (λ nothing. settled_cases two block (bound_at one block ≡ bound_at two block)
+      (λ is. sym (agree_at (bound_at two) (bound_at one) two.base.trunks block there_settled.0 is))
+      (λ is. sym (agree_at (bound_at two) (bound_at one) two.base.branches block there_settled.1 is))
+      (λ nothing_there. sym first ∙ nothing ∙ sym nothing_there ∙ second))
 
   pub same_by_entries : SameBounds one two
   same_by_entries = same_on (bound_at one) (bound_at two) (blocks_of one.recent) (blocks_of two.recent) here there

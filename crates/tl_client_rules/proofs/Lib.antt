@@ -1,5 +1,5 @@
 pub mod CountLaws
-pub mod HoldLaws
+pub mod SettledLaws
 pub mod BoundLaws
 pub mod Blocks
 pub mod Carried

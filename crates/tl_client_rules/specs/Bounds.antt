@@ -1,22 +1,19 @@
 -- Bounds by block.
 use Rattle.std.specs.Prelude.{ℕ, ◌≡◌, List, Option, None, unwrap_or}
 use Rattle.std.specs.List.{AllByRecursion}
-use Rattle.std.specs.Ordering.{nat_cmp}
 use Rattle.tl_tables.specs.declared.Perm.{Perm}
 use Rattle.tl_state.specs.BlockMap as set
-use Rattle.tl_state.specs.Map.{value_at}
-use Rattle.tl_client_rules.specs.Holds.{perm_of}
+use Rattle.tl_client_rules.specs.Settled.{SettledData, perm_at}
 use Rattle.tl_state.specs.BlockMap.{BlockData}
-use Rattle.tl_client_rules.specs.declared.bounds.Hold.{Hold}
 use Rattle.tl_client_rules.specs.declared.bounds.Bounds.{Bounds}
 
 -- The bound of a block by what was set of it and what is settled: what was set comes first.
-abbrev pub bound_by : BlockData Perm → List (ℕ × Hold) → ℕ → Perm
-bound_by recent base block = unwrap_or (set.value_at recent block) (perm_of (value_at nat_cmp base block))
+abbrev pub bound_by : BlockData Perm → SettledData → ℕ → Perm
+bound_by recent base block = unwrap_or (set.value_at recent block) (perm_at base block)
 
 -- The bound of a block as it was last settled.
 abbrev pub settled_at : Bounds → ℕ → Perm
-settled_at bounds block = perm_of (value_at nat_cmp bounds.base block)
+settled_at bounds block = perm_at bounds.base block
 
 -- The bound that was set since then, if one was.
 abbrev pub recent_at : Bounds → ℕ → Option Perm
@@ -41,3 +38,7 @@ AgreeOnBlocks one two blocks = AllByRecursion (λ block. bound_at one block ≡ 
 -- Both have the same bound of the block of each of these entries.
 abbrev pub AgreeOn : Bounds → Bounds → {V : Type 0} → List (ℕ × V) → Type 0
 AgreeOn one two entries = AllByRecursion (λ e. bound_at one e.0 ≡ bound_at two e.0) entries
+
+-- Both have the same bound of each block that is settled here.
+abbrev pub AgreeOnBase : Bounds → Bounds → Type 0
+AgreeOnBase one two = AgreeOn one two one.base.trunks × AgreeOn one two one.base.branches

@@ -1,6 +1,6 @@
 pub mod Counts
 pub mod OpenBlocks
-pub mod Holds
+pub mod Settled
 pub mod Bounds
 pub mod Client
 pub mod ClientLaws

@@ -1,110 +1,71 @@
 //! The most that a client can hold of each block.
 
-ghost use Rattle.std.specs.Prelude.{◌≡◌, ℕ, ◌==◌, true, None, unwrap_or, IsSome, IfOk, OnOk, OnErr, if◌then◌else◌};
+ghost use Rattle.std.specs.Prelude.{◌≡◌, ℕ, ◌==◌, true, false, None, unwrap_or, IsSome, IfOk, OnOk, OnErr, if◌then◌else◌};
 ghost use Rattle.std.specs.Bool.{Decides};
-ghost use Rattle.std.proofs.Common.{rules};
-ghost use Rattle.tl_tables.specs.declared.Perm.TheVariants.{Nothing};
-ghost use Rattle.std.specs.Ordering.{nat_cmp};
+ghost use Rattle.tl_tables.specs.declared.Perm.TheVariants.{Nothing, Trunk};
 ghost use Rattle.tl_state.specs.BlockMap as set;
 ghost use Rattle.tl_state.specs.BlockMap.{blocks_of};
-ghost use Rattle.tl_state.specs.Map.{value_at};
 ghost use Rattle.tl_client_rules.specs.Bounds.{bound_by};
-ghost use Rattle.tl_client_rules.specs.Holds.{perm_of};
+ghost use Rattle.tl_client_rules.specs.Settled.{perm_at};
 
+use crate::settled::Settled;
 use std::alloc::{AllocError, Global};
-use tl_same::{Exact, Faithful, Same};
 use tl_state::{BlockMap, ShareMap};
 use tl_tables::Perm;
-
-/// What a client can hold of a block at most, where that is something.
-#[derive(Clone, Copy, Debug, PartialEq, Eq)]
-pub enum Hold {
-    Branch,
-    Trunk,
-}
-
-impl Exact for Hold {
-    ghost exact = { Prim.search rules };
-}
-
-impl Faithful for Hold {
-    ghost faithful = { λ x y h. h };
-}
-
-fn perm_of(hold: Option<Hold>) -> Perm
-    ensures { result ≡ perm_of hold }
-{
-    match hold {
-        None => Perm::Nothing,
-        Some(Hold::Branch) => Perm::Branch,
-        Some(Hold::Trunk) => Perm::Trunk,
-    }
-}
-
-fn hold_of(perm: Perm) -> Option<Hold>
-    ensures { perm_of result ≡ perm }
-{
-    match perm {
-        Perm::Nothing => None,
-        Perm::Branch => Some(Hold::Branch),
-        Perm::Trunk => Some(Hold::Trunk),
-    }
-}
 
 /// The bound of each block.
 #[derive(Drop)]
 pub struct Bounds {
-    /// The bounds that were last settled, which copies share. A block without an entry has the bound Nothing.
-    base: ShareMap<u64, Hold>,
+    /// The bounds that were last settled, which copies share.
+    base: Settled,
     /// The bounds that were set since then. They come first, Nothing too.
     recent: BlockMap<Perm>,
 }
 
 /// The bound of a block, of which what was set comes first.
 #[inline(always)]
-fn bound_in(recent: &BlockMap<Perm>, base: &ShareMap<u64, Hold>, block: u64) -> Perm
+fn bound_in(recent: &BlockMap<Perm>, base: &Settled, block: u64) -> Perm
     ensures { result ≡ bound_by recent.now base.now block }
 {
     match recent.get(block) {
         Some(perm) => perm,
-        None => perm_of(base.get(&block)),
+        None => base.get(block),
     }
 }
 
-/// Settles the bound of a block. At want of memory nothing has changed.
-fn settle_block(base: &mut ShareMap<u64, Hold>, block: u64, perm: Perm) -> Result<(), AllocError>
-    ensures ok { OnOk result ((other : ℕ) → perm_of (value_at nat_cmp base.new other) ≡ (if block == other then perm else perm_of (value_at nat_cmp base.old other))) }
-    ensures err { OnErr result ((other : ℕ) → value_at nat_cmp base.new other ≡ value_at nat_cmp base.old other) }
+/// Settles the bound of a block where it was set. All bounds stay the same, at want of memory too.
+fn settle_block(base: &mut Settled, recent: &BlockMap<Perm>, block: u64) -> Result<(), AllocError>
+    ensures same { (other : ℕ) → bound_by recent.now base.new other ≡ bound_by recent.now base.old other }
+    ensures settled { OnOk result (perm_at base.new block ≡ bound_by recent.now base.new block) }
+    ensures others { (other : ℕ) → (block == other) ≡ false → perm_at base.new other ≡ perm_at base.old other }
 {
-    match hold_of(perm) {
-        Some(hold) => base.set(block, hold)?,
-        None => base.remove(&block)?,
-    };
-    Ok(())
+    match recent.get(block) {
+        Some(perm) => base.set(block, perm),
+        None => Ok(()),
+    }
 }
 
 /// Settles the bounds of all blocks that were set. They stay the same, at want of memory too.
 #[tactic(auto, using(crate::proofs::BoundLaws::settled_first))]
-fn settle_base(base: &mut ShareMap<u64, Hold>, recent: &BlockMap<Perm>) -> Result<(), AllocError>
+fn settle_base(base: &mut Settled, recent: &BlockMap<Perm>) -> Result<(), AllocError>
     ensures same { (block : ℕ) → bound_by recent.now base.new block ≡ bound_by recent.now base.old block }
-    ensures settled { OnOk result ((block : ℕ) → perm_of (value_at nat_cmp base.new block) ≡ bound_by recent.now base.new block) }
+    ensures settled { OnOk result ((block : ℕ) → perm_at base.new block ≡ bound_by recent.now base.new block) }
 {
     for block in recent.blocks() {
-        let perm = bound_in(recent, base, block);
-        settle_block(base, block, perm)?;
+        settle_block(base, recent, block)?;
     }
     Ok(())
 }
 
 impl Bounds {
-    ghost use Rattle.tl_client_rules.specs.Bounds.{bound_at, settled_at, recent_at, SameBounds, IsSettled, AgreeOn, AgreeOnBlocks};
+    ghost use Rattle.tl_client_rules.specs.Bounds.{bound_at, settled_at, recent_at, SameBounds, IsSettled, AgreeOn, AgreeOnBase, AgreeOnBlocks};
 
     /// No block can be held.
     pub fn new(alloc: Global) -> Bounds
         ensures { (block : ℕ) → bound_at result block ≡ Nothing }
     {
         Bounds {
-            base: ShareMap::new(alloc),
+            base: Settled::new(alloc),
             recent: BlockMap::new(alloc),
         }
     }
@@ -115,6 +76,17 @@ impl Bounds {
         ensures { result ≡ bound_at self.now block }
     {
         bound_in(&self.recent, &self.base, block)
+    }
+
+    /// Whether the bound of the block is Trunk.
+    #[inline(always)]
+    pub fn has_trunk(&self, block: u64) -> bool
+        ensures { Decides result (bound_at self.now block ≡ Trunk) }
+    {
+        match self.recent.get(block) {
+            Some(perm) => perm == Perm::Trunk,
+            None => self.base.has_trunk(block),
+        }
     }
 
     /// Whether to forget what was set of the block leaves it this bound; false says nothing, so that nothing is searched for.
@@ -175,7 +147,6 @@ impl Bounds {
     }
 
     /// Whether both have the same bound of each block.
-    #[tactic(auto, using(crate::proofs::HoldLaws::hold_by_perm))]
     pub fn same_bounds(&self, other: &Self) -> bool
         ensures { Decides result (SameBounds self.now other.now) }
     {
@@ -187,7 +158,7 @@ impl Bounds {
 
     /// Whether both have the same bound of each block that has an entry here.
     fn agrees(&self, other: &Self) -> bool
-        ensures { Decides result (AgreeOnBlocks self.now other.now (blocks_of self.now.recent) × AgreeOn self.now other.now self.now.base) }
+        ensures { Decides result (AgreeOnBlocks self.now other.now (blocks_of self.now.recent) × AgreeOnBase self.now other.now) }
     {
         self.agrees_on_recent(other) && self.agrees_on_base(other)
     }
@@ -204,9 +175,16 @@ impl Bounds {
     }
 
     fn agrees_on_base(&self, other: &Self) -> bool
-        ensures { Decides result (AgreeOn self.now other.now self.now.base) }
+        ensures { Decides result (AgreeOnBase self.now other.now) }
     {
-        for (block, _) in self.base.iter() {
+        self.agrees_on(other, self.base.trunks()) && self.agrees_on(other, self.base.branches())
+    }
+
+    /// Whether both have the same bound of each of these blocks.
+    fn agrees_on(&self, other: &Self, blocks: &ShareMap<u64, ()>) -> bool
+        ensures { Decides result (AgreeOn self.now other.now blocks.now) }
+    {
+        for (block, _) in blocks.iter() {
             if self.get(*block) != other.get(*block) {
                 return false;
             }

@@ -3,6 +3,7 @@
 ghost use Rattle.std.specs.Prelude.{◌≡◌, ◌≤◌, ℕ, List, [], None, Some, filter, length, nat_lt, is_some, true, false, IfOk, OnOk, OnErr};
 ghost use Rattle.std.specs.Bool.{Decides};
 ghost use Rattle.std.specs.Option.{option_copied, option_map_or};
+ghost use Rattle.tl_tables.specs.declared.Perm.TheVariants.{Trunk};
 ghost use Rattle.tl_definitions.specs.Heads.{message_of};
 ghost use Rattle.tl_definitions.specs.Messages.{Message, bound_of};
 ghost use Rattle.tl_definitions.specs.Past.{LinkPast, client_past};
@@ -73,6 +74,16 @@ impl ClientState {
         ensures shown { result ≡ (shown self.now).past.bound block }
     {
         self.bounds.get(block)
+    }
+
+    /// Whether the client can hold the block that begins at this address as a Trunk; never where no block begins there.
+    /// [TileLink 1.8: permission transitions]
+    #[inline(always)]
+    pub fn has_trunk(&self, block: u64) -> bool
+        ensures stands { (exponent : ℕ) (before : List Message) → StandsFor exponent self.now before → Decides result (bound_of exponent before block ≡ Trunk) }
+        ensures shown { Decides result ((shown self.now).past.bound block ≡ Trunk) }
+    {
+        self.bounds.has_trunk(block)
     }
 
     /// Whether a Probe of the block that begins at this address awaits its ProbeAck; never where no block begins there.

@@ -10,6 +10,7 @@ mod counts;
 mod manager;
 pub mod manager_laws;
 mod open_blocks;
+mod settled;
 
 pub use claims::{acquired_block, block_of, claim, granted_block};
 pub use client::{ClientState, is_wrong};

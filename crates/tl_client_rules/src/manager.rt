@@ -5,6 +5,7 @@ ghost use Rattle.std.specs.Bool.{Decides};
 ghost use Rattle.std.specs.Option.{option_copied};
 ghost use Rattle.std.specs.List.{AllByRecursion, list_any};
 ghost use Rattle.tl_tables.specs.Kinds.{conflicts};
+ghost use Rattle.tl_tables.specs.declared.Perm.TheVariants.{Trunk};
 ghost use Rattle.tl_topology.specs.Regions.{Area};
 ghost use Rattle.tl_definitions.specs.Positions.{clients_of};
 ghost use Rattle.tl_definitions.specs.Managers.{declared_links, manager_at};
@@ -137,6 +138,27 @@ impl ManagerState {
         }
     }
 
+    /// Whether the client at a place can hold the block that begins at this address as a Trunk.
+    fn has_trunk(&self, place: usize, block: u64) -> bool
+        ensures { Decides result ((client_there self.now place).past.bound block ≡ Trunk) }
+    {
+        match self.states.get(place) {
+            Some(state) => state.has_trunk(block),
+            None => false,
+        }
+    }
+
+    /// Whether the bound of the client at a place forbids what is set on the block.
+    fn conflicts_at(&self, place: usize, block: u64, set: Perm) -> bool
+        ensures { result ≡ conflicts set ((client_there self.now place).past.bound block) }
+    {
+        match set {
+            Perm::Nothing => false,
+            Perm::Branch => self.has_trunk(place, block),
+            Perm::Trunk => conflicts(set, self.bound(place, block)),
+        }
+    }
+
     /// Whether a Probe of the block is open at the client at a place.
     fn probe_open(&self, place: usize, block: u64) -> bool
         ensures { result ≡ is_some ((client_there self.now place).past.probe block) }
@@ -162,7 +184,7 @@ impl ManagerState {
         ensures { result ≡ conflicts_with_other self.now.clients (past_at self.now) link (block, set) }
     {
         for (place, client) in self.clients.numbers().iter().enumerate() {
-            if *client != link && conflicts(set, self.bound(place, block)) {
+            if *client != link && self.conflicts_at(place, block, set) {
                 return true;
             }
         }

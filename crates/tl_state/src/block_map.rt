@@ -367,11 +367,18 @@ impl<V: Copy + Drop> BlockMap<V> {
         blocks.next().is_none()
     }
 
-    /// Takes all values away.
+    /// Takes all values away. The places stay, so that values that come need no memory for them.
+    #[tactic(auto, unfolding(crate::specs::BlockMap::value_at))]
     pub fn clear(&mut self)
         ensures { (block : ℕ) → value_at self.new block ≡ None }
     {
-        *self = BlockMap::new(*self.near.allocator());
+        let near = self.near.len();
+        let told = self.told.len();
+        self.near.clear();
+        self.told.clear();
+        self.far.clear();
+        let _ = self.near.resize(near, Place::free());
+        let _ = self.told.resize(told, false);
     }
 
     /// The same values, with few places. AllocError where memory is refused.

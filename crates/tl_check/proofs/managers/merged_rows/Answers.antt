@@ -23,10 +23,10 @@ check_window-requires-clause-linked c k d below =
     (kept_from (has_caches c.args.topo.now) (clients_of c.args.manager (declared_links c.args.topo.now)) link
     (subst (λ links. Contains links link) c.requires.links (c.in_ok-walk.ensures.kept.linked k d below))).0
 
-pub check_window-requires-clause-entry : goal.check_window-requires-clause-entry
-check_window-requires-clause-entry c = (c.in_ok-entry.ensures (areas_of c.args.regions.now)).is_of
+pub check_window-requires-clause-state : goal.check_window-requires-clause-state
+check_window-requires-clause-state c = (c.in_ok-state.ensures (areas_of c.args.regions.now)).is_of
 
 pub returns : goal.returns
 returns c =
-    merged_are (manager_at c.args.topo.now c.args.manager (areas_of c.args.regions.now)) c.in_ok-entry.entry c.in_ok-rows.field-0-0 c.in_ok-walk.walk _ c.in_ok-rows.rows.items
-    (c.in_ok-entry.ensures (areas_of c.args.regions.now)).shows c.in_ok-walk.ensures.exact c.in_ok-rows.ensures
+    merged_are (manager_at c.args.topo.now c.args.manager (areas_of c.args.regions.now)) c.in_ok-state.state c.check_window.new.state c.in_ok-walk.walk _ c.in_ok-rows.rows.items
+    (c.in_ok-state.ensures (areas_of c.args.regions.now)).shows c.in_ok-walk.ensures.exact c.in_ok-rows.ensures

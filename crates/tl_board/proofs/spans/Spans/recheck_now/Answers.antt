@@ -1,19 +1,20 @@
 use Rattle.std.proofs.Common.{◌≡◌, ◌+◌, ◌≤◌, ◌<◌, [], ◌++◌, ◌∷◌, true, false, arith, length, refl, subst, ◌∙◌, sym, ap}
 use Rattle.tl_pieces.specs.Pieces.{IsBoard}
 use Rattle.tl_check.specs.States.{SameSpan}
+use Rattle.tl_board.specs.Live.{window_of}
 use Rattle.tl_board.specs.Spans.{SpansData}
 use Rattle.tl_board.specs.Recheck.{ChecksThese, ChecksSome}
 use Rattle.tl_board.proofs.RecheckLemmas.{OneMore, begun, checks_one, few, one_longer, ended, in_error}
 use Rattle.tl_board.proofs.spans.Spans.recheck_now.Goals as goal
 
 -- the window that is checked
-one : (c : goal.In_ok-check_first) → OneMore c.loop-alloc.invariant.keys c.args.self.now c.loop-alloc.self c.check_first.new.self
+one : (c : goal.In_ok-live) → OneMore c.loop-alloc.invariant.keys c.args.self.now c.loop-alloc.self c.check_first.new.self
 one c =
-    checks_one c.loop-alloc.invariant.keys c.args.self.now c.loop-alloc.self c.check_first.new.self c.in_ok-check_first.field-0 c.loop-alloc.invariant.way
-    (λ settled. let never : false ≡ true = sym c.loop-alloc-test.true ∙ c.settled.ensures.1 settled in cc) c.in_ok-check_first.ensures.first c.in_ok-check_first.ensures.entry c.in_ok-check_first.ensures.checked
+    checks_one c.loop-alloc.invariant.keys c.args.self.now c.loop-alloc.self c.check_first.new.self (window_of c.in_ok-live.live) c.loop-alloc.invariant.way
+    (λ settled. let never : false ≡ true = sym c.loop-alloc-test.true ∙ c.settled.ensures.1 settled in cc) c.in_ok-live.ensures.first c.in_ok-live.ensures.entry c.in_ok-live.ensures.checked
 
 -- not yet all are checked
-room : (c : goal.In_ok-check_first) → c.loop-alloc.count + 1 ≤ length c.args.self.now.board.pieces
+room : (c : goal.In_ok-live) → c.loop-alloc.count + 1 ≤ length c.args.self.now.board.pieces
 room c =
     let more = one c in
     let old : SpansData = c.args.self.now in
@@ -23,15 +24,18 @@ room c =
     omega (arith, many, next, c.loop-alloc.invariant.number)
 
 pub loop-alloc-init : goal.loop-alloc-init
-loop-alloc-init c = record { log = refl; keys = []; number = refl; way = begun SameSpan c.args.self.now.board (subst (λ (s : SpansData). IsBoard s.board) c.self.view_is c.len.ensures.kept) }
+loop-alloc-init c = record { live = tt; log = refl; keys = []; number = refl; way = begun SameSpan c.args.self.now.board (subst (λ (s : SpansData). IsBoard s.board) c.self.view_is c.len.ensures.kept) }
 
-pub returns-in_err-check_first-clause-log : goal.returns-in_err-check_first-clause-log
-returns-in_err-check_first-clause-log c = ap (λ (s : SpansData). s.log) (c.in_err-check_first.ensures.err) ∙ c.loop-alloc.invariant.log
+pub check_first-requires : goal.check_first-requires
+check_first-requires c = record { live = c.loop-alloc.invariant.live }
 
-pub returns-in_err-check_first-clause-err : goal.returns-in_err-check_first-clause-err
-returns-in_err-check_first-clause-err c =
+pub returns-in_err-live-clause-log : goal.returns-in_err-live-clause-log
+returns-in_err-live-clause-log c = ap (λ (s : SpansData). s.log) (c.in_err-live.ensures.err) ∙ c.loop-alloc.invariant.log
+
+pub returns-in_err-live-clause-err : goal.returns-in_err-live-clause-err
+returns-in_err-live-clause-err c =
     in_error c.from_residual.result (ChecksSome SameSpan c.args.self.now.board c.check_first.new.self.board)
-    (c.loop-alloc.invariant.keys, subst (λ (s : SpansData). ChecksThese SameSpan c.loop-alloc.invariant.keys c.args.self.now.board s.board) (sym c.in_err-check_first.ensures.err) c.loop-alloc.invariant.way.checked)
+    (c.loop-alloc.invariant.keys, subst (λ (s : SpansData). ChecksThese SameSpan c.loop-alloc.invariant.keys c.args.self.now.board s.board) (sym c.in_err-live.ensures.err) c.loop-alloc.invariant.way.checked)
 
 pub overflow_add-count : goal.overflow_add-count
 overflow_add-count c =
@@ -45,6 +49,7 @@ pub loop-alloc-preserved : goal.loop-alloc-preserved
 loop-alloc-preserved c =
     let more = one c in
     record {
+      live = c.in_ok-live.ensures.live;
       log = more.log ∙ c.loop-alloc.invariant.log;
       keys = c.loop-alloc.invariant.keys ++ more.key ∷ [];
       number = ap (λ n. n + 1) c.loop-alloc.invariant.number ∙ sym (one_longer c.loop-alloc.invariant.keys more.key);

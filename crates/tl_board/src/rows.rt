@@ -1,6 +1,7 @@
 //! The rows of a result.
 
-ghost use Rattle.std.specs.Prelude.{◌≡◌};
+ghost use Rattle.std.specs.Prelude.{◌≡◌, []};
+ghost use Rattle.std.specs.Bool.{Decides};
 
 use std::marker::Model;
 use tl_beats::Row;
@@ -26,6 +27,14 @@ impl Rows {
         ensures { result ≡ rows.items }
     {
         Rows { rows }
+    }
+
+    /// Whether there are none.
+    #[inline(always)]
+    pub fn is_empty(&self) -> bool
+        ensures { Decides result (self.now ≡ []) }
+    {
+        self.rows.is_empty()
     }
 
     /// The rows.

@@ -136,7 +136,10 @@ pub fn gathered<S: Same + Drop>(
 {
     let mut rows = Vec::new(alloc);
     for piece in pieces.iter() {
-        if let Some(stored) = piece.result {
+        // Most have none.
+        if let Some(stored) = piece.result
+            && !stored.rows.is_empty()
+        {
             rows.extend_from_slice(stored.rows.as_slice())?;
         }
     }

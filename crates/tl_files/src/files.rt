@@ -94,7 +94,8 @@ pub fn fill_page<R: Files + AllocGlobal, G: Gauge>(
     let Ok(file) = fs::open(rt, path) else {
         return Err(Fault::FILE);
     };
-    if let Err(fault) = page.fill(&mut CountedReader::new(file), Role::Fragment.most()) {
+    let (expected, most) = (bytes_of(rt, path), Role::Fragment.most());
+    if let Err(fault) = page.fill(&mut CountedReader::new(file), expected, most) {
         return Err(FragmentFault::from(fault).into());
     }
     read.count(page.text().len() as u64);

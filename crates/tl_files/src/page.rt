@@ -2,7 +2,7 @@
 
 ghost use Rattle.std.specs.Prelude.{◌≤◌, ◌<◌, ◌^◌};
 
-use std::alloc::Global;
+use std::alloc::{AllocError, Global};
 use tl_text::{ByteIn, TextFault};
 
 /// How many bytes it has room for at first.
@@ -33,13 +33,31 @@ impl Page {
         }
     }
 
-    /// Reads the input to its end, of at most so many bytes. The faults are those of `read_text`; then the text is that of no file.
-    pub fn fill<I: ByteIn>(&mut self, input: &mut I, limit: u64) -> Result<(), TextFault>
+    /// Has room for a text of so many bytes, and for the byte more that a read wants to tell its end.
+    fn widen(&mut self, bytes: u64) -> Result<(), AllocError>
+        requires { bytes ≤ 2 ^ 32 }
+    {
+        let room = FIRST_BYTES.max(bytes as usize + 1);
+        if self.bytes.len() < room {
+            self.bytes.resize(room, 0)?;
+        }
+        Ok(())
+    }
+
+    /// Reads the input to its end, of at most so many bytes; so many are expected, which saves room. The faults are those of `read_text`;
+    /// then the text is that of no file.
+    pub fn fill<I: ByteIn>(
+        &mut self,
+        input: &mut I,
+        expected: u64,
+        limit: u64,
+    ) -> Result<(), TextFault>
         requires limit { limit ≤ 2 ^ 32 }
         requires reads { I.read_count input.old < 2 ^ 63 }
         requires failures { I.failure_count input.old < 2 ^ 63 }
     {
         self.used = 0;
+        self.widen(expected.min(limit))?;
         for _ in 0..=limit + 1 {
             if self.used >= self.bytes.len() {
                 let room = FIRST_BYTES.max(self.used.saturating_mul(2));

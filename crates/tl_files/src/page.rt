@@ -5,8 +5,12 @@ ghost use Rattle.std.specs.Prelude.{◌≤◌, ◌<◌, ◌^◌};
 use std::alloc::{AllocError, Global};
 use tl_text::{ByteIn, TextFault};
 
-/// How many bytes it has room for at first.
+/// How many bytes it has room for at least.
 const FIRST_BYTES: usize = 65_536;
+
+/// Of a longer text it has room for a multiple of so many bytes. glibc maps these apart from other memory, so that beats beside them grow in
+/// place.
+const STEP: usize = 131_072;
 
 /// The text of the last file that was read into it. Its room is used again for the next.
 #[derive(Drop)]
@@ -34,10 +38,12 @@ impl Page {
     }
 
     /// Has room for a text of so many bytes, and for the byte more that a read wants to tell its end.
-    fn widen(&mut self, bytes: u64) -> Result<(), AllocError>
-        requires { bytes ≤ 2 ^ 32 }
-    {
-        let room = FIRST_BYTES.max(bytes as usize + 1);
+    fn widen(&mut self, bytes: usize) -> Result<(), AllocError> {
+        let room = if bytes < FIRST_BYTES {
+            FIRST_BYTES
+        } else {
+            (bytes / STEP).saturating_add(1).saturating_mul(STEP)
+        };
         if self.bytes.len() < room {
             self.bytes.resize(room, 0)?;
         }
@@ -57,7 +63,7 @@ impl Page {
         requires failures { I.failure_count input.old < 2 ^ 63 }
     {
         self.used = 0;
-        self.widen(expected.min(limit))?;
+        self.widen(expected.min(limit) as usize)?;
         for _ in 0..=limit + 1 {
             if self.used >= self.bytes.len() {
                 let room = FIRST_BYTES.max(self.used.saturating_mul(2));

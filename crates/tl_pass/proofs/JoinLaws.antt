@@ -35,7 +35,7 @@ use Rattle.tl_capture.proofs.EntryLemmas.{all_kept}
 use Rattle.tl_capture.proofs.LawLemmas.{links_are_kept, one_link_is_its_own}
 use Rattle.tl_capture.proofs.PresentLemmas.{no_ranges}
 use Rattle.tl_check.specs.Apart.{judged_rows, rows_of_links}
-use Rattle.tl_check.specs.Captured.{areas_at, captures_with}
+use Rattle.tl_check.specs.Captured.{areas_at}
 use Rattle.tl_check.specs.Managers.{has_caches, cached_links, plain_links, AreMerged}
 use Rattle.tl_check.proofs.CaptureLaws.{capture_with, linked_in}
 use Rattle.tl_check.proofs.PassLaws.{links_are_found}
@@ -70,9 +70,24 @@ strict_both (x ∷ xs) ys s t above = (
   strict_both xs ys s.1 t (λ z y h g. above z y (contains_there x xs z h) g),
 )
 
+-- ---- numbers of links
+
+any_is : (n : ℕ) (ls : List ℕ) → list_any (λ l. n == l) ls ≡ true → Contains ls n
+any_is n [] h = absurd (cc)
+any_is n (l ∷ ls) h = elim (n == l) as (λ b. (n == l) ≡ b → (b || list_any (λ l. n == l) ls) ≡ true → Contains (l ∷ ls) n) [
+  | true ↦ λ e g. (let same : n ≡ l = grind (arith, nat_tests) in subst (Contains (l ∷ ls)) (sym same) (contains_here l ls))
+  | false ↦ λ e g. contains_there l ls n (any_is n ls g)
+] refl h
+
+pub not_any : (n : ℕ) (ls : List ℕ) → (Contains ls n → ⊥) → list_any (λ l. n == l) ls ≡ false
+not_any n ls other = elim (list_any (λ l. n == l) ls) as (λ t. list_any (λ l. n == l) ls ≡ t → list_any (λ l. n == l) ls ≡ false) [
+  | true ↦ λ e. absurd (other (any_is n ls e))
+  | false ↦ λ e. e
+] refl
+
 -- ---- the captures of managers
 
-abbrev none : ℕ → List Area
+abbrev pub none : ℕ → List Area
 none = areas_at []
 
 capture_from : {X : Type 0} (topo : Topology) (fs : List Recorded) (number : ℕ) (managers : List X) (row : Row) → FindsIn (captures_from topo none fs number managers ++ []) row
@@ -107,29 +122,29 @@ abbrev pub FoundOf : Option Midway → Manager → List Placed → Row → Type 
 FoundOf None m beats row = Finds (of_manager m beats) row
 FoundOf (Some law) m beats row = Contains (rows_by law m beats) row
 
-abbrev FoundAt : Option Midway → Topology → List Recorded → ℕ → Row → Type 0
+abbrev pub FoundAt : Option Midway → Topology → List Recorded → ℕ → Row → Type 0
 FoundAt midway topo fs k row = FoundOf midway (manager_at topo k (none k)) (manager_beats topo fs k) row
 
-of_some_manager : (midway : Option Midway) (topo : Topology) (fs : List Recorded) (row : Row) → IsFound midway topo fs row → (k : ℕ) × (k < length topo.managers) × FoundAt midway topo fs k row
+pub of_some_manager : (midway : Option Midway) (topo : Topology) (fs : List Recorded) (row : Row) → IsFound midway topo fs row → (k : ℕ) × (k < length topo.managers) × FoundAt midway topo fs k row
 of_some_manager None topo fs row is = let at = capture_from topo fs 0 topo.managers row is in (at.0, omega (arith, at.2), at.3)
 of_some_manager (Some law) topo fs row is = is
 
-of_a_manager : (midway : Option Midway) (topo : Topology) (fs : List Recorded) (row : Row) (k : ℕ) → k < length topo.managers → FoundAt midway topo fs k row → IsFound midway topo fs row
+pub of_a_manager : (midway : Option Midway) (topo : Topology) (fs : List Recorded) (row : Row) (k : ℕ) → k < length topo.managers → FoundAt midway topo fs k row → IsFound midway topo fs row
 of_a_manager None topo fs row k below h = capture_there topo fs 0 topo.managers row k (omega arith) (omega (arith, below)) h
 of_a_manager (Some law) topo fs row k below h = (k, below, h)
 
-no_row : (midway : Option Midway) (m : Manager) (beats : List Placed) (row : Row) → beats ≡ [] → FoundOf midway m beats row → ⊥
+pub no_row : (midway : Option Midway) (m : Manager) (beats : List Placed) (row : Row) → beats ≡ [] → FoundOf midway m beats row → ⊥
 no_row None m beats row empty h = let stands = stands_in (of_manager m beats) row h in contains_none stands.0 (subst (λ ps. Contains ps stands.0) empty stands.1)
 no_row (Some law) m beats row empty h = contains_none row (subst (λ ps. Contains (rows_by law m ps) row) empty h)
 
 -- ---- a manager of links without caches
 
 -- The same of the beats of one of its links.
-abbrev OnLink : Option Midway → Manager → List Placed → Row → Type 0
+abbrev pub OnLink : Option Midway → Manager → List Placed → Row → Type 0
 OnLink None m beats row = Contains (judged_rows m beats) row
 OnLink (Some law) m beats row = Contains (rows_by law m beats) row
 
-no_row_on : (midway : Option Midway) (m : Manager) (beats : List Placed) (row : Row) → beats ≡ [] → OnLink midway m beats row → ⊥
+pub no_row_on : (midway : Option Midway) (m : Manager) (beats : List Placed) (row : Row) → beats ≡ [] → OnLink midway m beats row → ⊥
 no_row_on None m beats row empty h = contains_none row (subst (λ ps. Contains (judged_rows m ps) row) empty h)
 no_row_on (Some law) m beats row empty h = contains_none row (subst (λ ps. Contains (rows_by law m ps) row) empty h)
 
@@ -221,16 +236,16 @@ module _ (topo : Topology) (plain : HasNoCaches topo) where
         (subst (λ rows. Contains rows row) (sym (rows_own (served k) start [] beats link (client_plain k link on)))
         (subst (λ ps. Contains (printed_after (served k) start [] ps) row) (sym (own_of link on)) h))).0
 
-    on_some : (midway : Option Midway) → FoundAt midway topo fs k row → (link : ℕ) × Contains (links k) link × OnLink midway (served k) (beats_of link fs) row
+    pub on_some : (midway : Option Midway) → FoundAt midway topo fs k row → (link : ℕ) × Contains (links k) link × OnLink midway (served k) (beats_of link fs) row
     on_some None h = on_some_whole h
     on_some (Some law) h = on_some_middle law h
 
-    from_link : (midway : Option Midway) (link : ℕ) → Contains (links k) link → OnLink midway (served k) (beats_of link fs) row → FoundAt midway topo fs k row
+    pub from_link : (midway : Option Midway) (link : ℕ) → Contains (links k) link → OnLink midway (served k) (beats_of link fs) row → FoundAt midway topo fs k row
     from_link None link on h = from_link_whole link on h
     from_link (Some law) link on h = from_link_middle law link on h
 
 -- A link of a manager's is of that manager.
-manager_is : (topo : Topology) (k link : ℕ) → Contains (clients_of k (declared_links topo)) link → manager_of topo link ≡ k
+pub manager_is : (topo : Topology) (k link : ℕ) → Contains (clients_of k (declared_links topo)) link → manager_of topo link ≡ k
 manager_is topo k link h =
     let decls : List LinkDecl = declared_links topo in
     let found = client_is_declared k link decls h in
@@ -322,18 +337,8 @@ module _ (link : ℕ) (fs gs : List Recorded) (below_it : (f : Recorded) → Con
     abbrev on_own : Recorded → Bool
     on_own f = list_any (λ l. f.link == l) own
 
-    any_is : (n : ℕ) (ls : List ℕ) → list_any (λ l. n == l) ls ≡ true → Contains ls n
-    any_is n [] h = absurd (cc)
-    any_is n (l ∷ ls) h = elim (n == l) as (λ b. (n == l) ≡ b → (b || list_any (λ l. n == l) ls) ≡ true → Contains (l ∷ ls) n) [
-      | true ↦ λ e g. (let same : n ≡ l = grind (arith, nat_tests) in subst (Contains (l ∷ ls)) (sym same) (contains_here l ls))
-      | false ↦ λ e g. contains_there l ls n (any_is n ls g)
-    ] refl h
-
     not_own : (f : Recorded) → (Contains own f.link → ⊥) → on_own f ≡ false
-    not_own f other = elim (on_own f) as (λ t. on_own f ≡ t → on_own f ≡ false) [
-      | true ↦ λ e. absurd (other (any_is f.link own e))
-      | false ↦ λ e. e
-    ] refl
+    not_own f other = not_any f.link own other
 
     on_first : ((l : ℕ) → Contains own l → l < link) → manager_beats topo (fs ++ gs) k ≡ manager_beats topo fs k
     on_first low = ap (λ hs. in_order (all_placed hs)) (filter-append on_own fs gs

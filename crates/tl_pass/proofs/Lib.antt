@@ -3,4 +3,5 @@ pub mod JoinLaws
 pub mod LinkPassLaws
 pub mod LinkPassOwn
 pub mod ManagerPassLaws
+pub mod SoloLaws
 pub mod StandingLaws

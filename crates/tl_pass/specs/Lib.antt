@@ -3,3 +3,4 @@ pub mod LinkPass
 pub mod ManagerPass
 pub mod Parts
 pub mod Reports
+pub mod Solo

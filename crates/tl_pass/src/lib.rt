@@ -7,6 +7,7 @@ mod link_pass;
 mod manager_pass;
 mod part;
 mod pass;
+mod solo;
 mod supply;
 
 pub use beside::{Beside, Lanes, feed_all};
@@ -14,4 +15,5 @@ pub use link_pass::{LinkPass, has_no_caches};
 pub use manager_pass::ManagerPass;
 pub use part::{Links, Part, Whole, can_part};
 pub use pass::{Found, Hitch, Pass};
+pub use solo::report_of_pieces;
 pub use supply::{Supply, Taken, report_of};

@@ -23,7 +23,7 @@ pub trait Supply {
     /// From what it was first to what it is now, it gave these fragments.
     ghost has_given: { Self → Self → List Frag → Type 0 };
 
-    /// The next fragment; None where the next one is passed over.
+    /// The next fragment; None where the next one is passed over, and after the last piece where they are those of one fragment.
     fn next(&mut self, alloc: Global) -> Result<Option<Arc<Fragment>>, Hitch>
         ensures { IfOk result (λ next. (first : Self) (before : List Frag) → has_given first self.old before → has_given first self.new (with_next before next)) };
 }

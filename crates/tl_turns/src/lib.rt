@@ -4,6 +4,7 @@
 mod beside;
 mod heads;
 mod lanes;
+mod pieces;
 mod turns;
 
 pub use turns::report_in_turn;

@@ -7,15 +7,16 @@ ghost use Rattle.tl_pass.specs.Reports.{IsTaken};
 use crate::beside::{groups_of, rows_beside};
 use crate::heads::{Queue, in_turn};
 use crate::lanes::{are_lanes, rows_of_lanes};
+use crate::pieces::FilePieces;
 use std::alloc::Global;
 use std::rt::Files;
 use std::sync::Arc;
 use std::thread::Threads;
 use tl_beats::Fragment;
-use tl_files::{Fault, FilesRead, Gauge, Page, are_files, fragment_at, listed};
+use tl_files::{Fault, FilesRead, Gauge, Page, are_files, bytes_of, fragment_at, listed};
 use tl_midway::Midway;
 use tl_options::How;
-use tl_pass::{Hitch, Supply, Taken, report_of};
+use tl_pass::{Hitch, Supply, Taken, report_of, report_of_pieces};
 use tl_stream::Sieve;
 
 /// The most fragments that are edits of one log.
@@ -114,9 +115,58 @@ where
     )
 }
 
+/// What is found in the fragment of a file, which is read and judged in pieces, and forgotten. A hitch where it can't be, and where the
+/// capture begins in the middle of a run.
+fn taken_in_pieces<R: Files + AllocGlobal, G: Gauge>(
+    rt: &R,
+    sieve: Sieve<'_>,
+    path: &str,
+    midway: Option<Midway>,
+    read: &mut FilesRead<'_, G>,
+) -> Result<Taken, Hitch>
+    ensures { IfOk result (λ taken. (fs : List Frag) × IsTaken midway sieve.entry.topo.now fs taken) }
+{
+    match midway {
+        None => {
+            let mut pieces = FilePieces::open(rt, path, sieve)?;
+            let taken = report_of_pieces(rt.alloc(), sieve.topo, &mut pieces)?;
+            read.count(bytes_of(rt, path));
+            Ok(taken)
+        }
+        Some(_) => Err(Hitch::Fault),
+    }
+}
+
+/// The same of files, in an order in which few fragments are held. A hitch where there is no such order.
+fn taken_in_turn<R: Files + Threads + Sync + AllocGlobal, G: Gauge>(
+    rt: &R,
+    sieve: Sieve<'_>,
+    files: &[String],
+    how: How,
+    read: &mut FilesRead<'_, G>,
+) -> Result<Taken, Hitch>
+where
+    R::File: Send,
+    R::Dir: Send,
+    ensures { IfOk result (λ taken. (fs : List Frag) × IsTaken how.midway sieve.entry.topo.now fs taken) }
+{
+    match in_turn(rt, sieve.topo, files)? {
+        Some(heads) => taken_of(
+            rt,
+            sieve,
+            Queue::new(files, &heads),
+            how.midway,
+            how.workers,
+            read,
+        ),
+        None => Err(Hitch::Fault),
+    }
+}
+
 /// What is found in the fragments of the files that words stand for, of a whole run or of a capture that begins so, which are read in an
-/// order in which few are held, and judged by so many threads beside this one; None where they have to be held together: where a file can't
-/// be read again or has a fault, fragments don't rise, or some links of a capture from the middle of a run have caches and others none.
+/// order in which few are held, and judged by so many threads beside this one; a file by itself is read in pieces. None where they have to
+/// be held together: where a file can't be read again or has a fault, fragments don't rise, some links of a capture from the middle of a
+/// run have caches and others none, or such a capture is one file.
 pub fn report_in_turn<R: Files + Threads + Sync + AllocGlobal + Clone + Drop, G: Gauge>(
     rt: &R,
     sieve: Sieve<'_>,
@@ -130,16 +180,17 @@ where
     ensures { IfOk result (λ found. IfSome found (λ taken. (fs : List Frag) × IsTaken how.midway sieve.entry.topo.now fs taken)) }
 {
     let (files, fault) = listed(rt, words)?;
-    let is_fit = fault.is_none() && files.len() > 1 && files.len() <= MOST_EDITS;
+    let is_fit = fault.is_none() && !files.is_empty() && files.len() <= MOST_EDITS;
     if !is_fit || !are_files(rt, &files) {
         return Ok(None);
     }
-    let Some(heads) = in_turn(rt, sieve.topo, &files)? else {
-        return Ok(None);
-    };
-    let queue = Queue::new(&files, &heads);
     let mut read = FilesRead::none_of(files.len(), gauge);
-    match taken_of(rt, sieve, queue, how.midway, how.workers, &mut read) {
+    let taken = if files.len() == 1 {
+        taken_in_pieces(rt, sieve, files[0].as_str(), how.midway, &mut read)
+    } else {
+        taken_in_turn(rt, sieve, &files, how, &mut read)
+    };
+    match taken {
         Ok(taken) => Ok(Some(taken)),
         Err(Hitch::Memory) => Err(Fault::MEMORY),
         Err(Hitch::Fault) => Ok(None),

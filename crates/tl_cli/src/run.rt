@@ -80,9 +80,7 @@ fn tell<E: ByteOut>(alloc: Global, err: &mut E, fault: Fault) -> u8
     requires { E.failure_count err.old < 2 ^ 63 }
     ensures { result ≡ 2 }
 {
-    if let Ok(line) = format!(in alloc; "{fault}\n") {
-        let _ = write_all(err, line.as_bytes());
-    }
+    let _ = fault.tell(alloc, err);
     FAULT
 }
 
@@ -109,13 +107,9 @@ fn tell_both<E: ByteOut>(
     requires { E.failure_count err.old < 2 ^ 63 }
     ensures { result ≡ 2 }
 {
-    let Ok(line) = format!(in alloc; "{fault}\n") else {
-        return FAULT;
-    };
-    let Ok(()) = write_all(err, line.as_bytes()) else {
-        return FAULT;
-    };
-    if let Ok(behind) = told_behind(alloc, fault, sentence) {
+    if fault.tell(alloc, err).is_ok()
+        && let Ok(behind) = told_behind(alloc, fault, sentence)
+    {
         let _ = write_all(err, behind.as_bytes());
     }
     FAULT

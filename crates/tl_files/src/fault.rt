@@ -1,14 +1,14 @@
 //! The faults that end the program.
 
-ghost use Rattle.std.specs.Prelude.{◌≡◌};
+ghost use Rattle.std.specs.Prelude.{◌≡◌, ◌<◌, ◌^◌, OnOk};
 
-use std::alloc::{AllocError, AllocFailed};
+use std::alloc::{AllocError, AllocFailed, Global};
 use std::fmt;
 use tl_beats::FragmentFault;
 use tl_check::OnceFault;
 use tl_script::AuditFault;
 use tl_stream::TellFault;
-use tl_text::{TextFault, WriteFault};
+use tl_text::{ByteOut, TextFault, WriteFault, write_all};
 use tl_topology::TopoFault;
 
 /// A fault outside a report and a script's output, told in one line on standard error: `tlcheck: CODE` or `tlcheck: CODE NUMBER`.
@@ -38,6 +38,16 @@ impl Fault {
         code: 45,
         number: None,
     };
+
+    /// Tells of it in one line. A fault where that finds no memory, or can't be written.
+    pub fn tell<E: ByteOut>(self, alloc: Global, err: &mut E) -> Result<(), Fault>
+        requires { E.failure_count err.old < 2 ^ 63 }
+        ensures { OnOk result (E.failure_count err.new ≡ E.failure_count err.old) }
+    {
+        let line = format!(in alloc; "{self}\n")?;
+        write_all(err, line.as_bytes())?;
+        Ok(())
+    }
 }
 
 impl fmt::Display for Fault {

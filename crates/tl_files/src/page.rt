@@ -66,8 +66,7 @@ impl Page {
         self.widen(expected.min(limit) as usize)?;
         for _ in 0..=limit + 1 {
             if self.used >= self.bytes.len() {
-                let room = FIRST_BYTES.max(self.used.saturating_mul(2));
-                self.bytes.resize(room, 0)?;
+                self.bytes.resize(self.used.saturating_mul(2), 0)?;
             }
             match input.read(&mut self.bytes[self.used..]) {
                 Err(_) => return Err(TextFault::ReadFault),

@@ -1,7 +1,7 @@
 //! A fragment's file in pieces, each of which has the first line, some of the beats, and the last line.
 
 use crate::turns::hitch_of;
-use std::alloc::{AllocError, Global};
+use std::alloc::Global;
 use std::fs;
 use std::io::Read;
 use std::rt::Files;
@@ -15,20 +15,18 @@ use tl_stream::Sieve;
 const HELD_BYTES: usize = 32_768;
 
 /// The last line of a fragment.
-const END: &[u8] = b"end\n";
+const END: [u8; 4] = *b"end\n";
 
 /// A fragment's file, of which a part is held.
 #[derive(Drop)]
 pub struct FilePieces<'a, R: Files> {
     file: R::File,
     sieve: Sieve<'a>,
-    /// What was read and is in no piece so far, then room.
+    /// The first line of the file, what was read and is in no piece so far, and room, of which the last line of a piece takes the end.
     held: Vec<u8>,
     used: usize,
-    /// The first line of the file, once it was read.
-    head: Vec<u8>,
-    /// The text of the newest piece.
-    text: Vec<u8>,
+    /// How many bytes the first line has, once it was read.
+    head: usize,
     /// Whether the file is at its end, and whether the last piece was made.
     is_at_end: bool,
     is_done: bool,
@@ -45,8 +43,7 @@ impl<'a, R: Files + AllocGlobal> FilePieces<'a, R> {
                 sieve,
                 held,
                 used: 0,
-                head: Vec::new(rt.alloc()),
-                text: Vec::new(rt.alloc()),
+                head: 0,
                 is_at_end: false,
                 is_done: false,
             }),
@@ -54,13 +51,14 @@ impl<'a, R: Files + AllocGlobal> FilePieces<'a, R> {
         }
     }
 
-    /// Reads until there is no room, or the file is at its end.
+    /// Reads until there is room for the last line alone, or the file is at its end.
     fn fill(&mut self) -> Result<(), Hitch> {
         for _ in 0..=HELD_BYTES {
-            if self.used >= self.held.len() {
+            let most = self.held.len().saturating_sub(END.len());
+            if self.used >= most {
                 return Ok(());
             }
-            match self.file.read(&mut self.held[self.used..]) {
+            match self.file.read(&mut self.held[self.used..most]) {
                 Ok(0) => {
                     self.is_at_end = true;
                     return Ok(());
@@ -72,30 +70,20 @@ impl<'a, R: Files + AllocGlobal> FilePieces<'a, R> {
         Err(Hitch::Fault)
     }
 
-    /// Lets go of so many bytes that are held.
-    fn pass(&mut self, bytes: usize) {
-        if bytes <= self.used && self.used <= self.held.len() {
-            self.held.copy_within(bytes..self.used, 0);
-            self.used -= bytes;
+    /// Finds the end of the first line, where that was not done before. A hitch where it isn't held.
+    fn find_head(&mut self) -> Result<(), Hitch> {
+        if self.head == 0 {
+            let held = self.held.get(..self.used).unwrap_or(&[]);
+            match held.iter().position(|byte| *byte == b'\n') {
+                Some(place) => self.head = place + 1,
+                None => return Err(Hitch::Fault),
+            }
         }
-    }
-
-    /// Puts the first line of the file apart, where that was not done before. A hitch where it does not end in what is held.
-    fn part_head(&mut self) -> Result<(), Hitch> {
-        if !self.head.is_empty() {
-            return Ok(());
-        }
-        let held = self.held.get(..self.used).unwrap_or(&[]);
-        let Some(place) = held.iter().position(|byte| *byte == b'\n') else {
-            return Err(Hitch::Fault);
-        };
-        self.head.extend_from_slice(&held[..=place])?;
-        self.pass(place + 1);
         Ok(())
     }
 
-    /// How many bytes the lines have that come into the next piece: those of which none is the last of the file, or all.
-    fn line_bytes(&self) -> usize {
+    /// How many bytes of what is held come into the next piece: whole lines, of which none is the last of the file, or all.
+    fn piece_bytes(&self) -> usize {
         if self.is_at_end {
             return self.used;
         }
@@ -108,26 +96,36 @@ impl<'a, R: Files + AllocGlobal> FilePieces<'a, R> {
         0
     }
 
-    /// Writes the text of a piece with so many bytes of lines.
-    fn write_piece(&mut self, lines: usize) -> Result<(), AllocError> {
-        self.text.clear();
-        self.text.extend_from_slice(&self.head)?;
-        self.text
-            .extend_from_slice(self.held.get(..lines).unwrap_or(&[]))?;
-        if !self.is_at_end {
-            self.text.extend_from_slice(END)?;
-        }
-        Ok(())
-    }
-
-    /// The fragment that the text of a piece is. A hitch where it is none, or is not checked.
-    fn fragment(&self, alloc: Global) -> Result<Arc<Fragment>, Hitch> {
-        if is_passed(alloc, self.sieve, &self.text)? {
+    /// The fragment that so many bytes are. A hitch where they are none, or it is not checked.
+    fn fragment(&self, alloc: Global, bytes: usize) -> Result<Arc<Fragment>, Hitch> {
+        let text = self.held.get(..bytes).unwrap_or(&[]);
+        if is_passed(alloc, self.sieve, text)? {
             return Err(Hitch::Fault);
         }
-        match parse_whole_fragment(alloc, &self.text) {
+        match parse_whole_fragment(alloc, text) {
             Ok(fragment) => Ok(Arc::new(alloc, fragment)?),
             Err(fault) => Err(hitch_of(Fault::from(fault))),
+        }
+    }
+
+    /// The fragment that so many bytes are with the last line after them, which takes the place of what is held there while it is parsed.
+    fn ended(&mut self, alloc: Global, bytes: usize) -> Result<Arc<Fragment>, Hitch> {
+        let mut line = END;
+        let end = bytes.saturating_add(line.len());
+        if end > self.held.len() {
+            return Err(Hitch::Fault);
+        }
+        self.held[bytes..end].swap_with_slice(&mut line);
+        let fragment = self.fragment(alloc, end);
+        self.held[bytes..end].swap_with_slice(&mut line);
+        fragment
+    }
+
+    /// Lets go of so many bytes, but for the first line.
+    fn pass(&mut self, bytes: usize) {
+        if self.head <= bytes && bytes <= self.used && self.used <= self.held.len() {
+            self.held.copy_within(bytes..self.used, self.head);
+            self.used = self.head + (self.used - bytes);
         }
     }
 }
@@ -140,14 +138,17 @@ impl<'a, R: Files + AllocGlobal> Supply for FilePieces<'a, R> {
             return Ok(None);
         }
         self.fill()?;
-        self.part_head()?;
-        let lines = self.line_bytes();
-        if lines == 0 {
+        self.find_head()?;
+        let bytes = self.piece_bytes();
+        if bytes <= self.head {
             return Err(Hitch::Fault);
         }
-        self.write_piece(lines)?;
-        let piece = self.fragment(alloc)?;
-        self.pass(lines);
+        let piece = if self.is_at_end {
+            self.fragment(alloc, bytes)?
+        } else {
+            self.ended(alloc, bytes)?
+        };
+        self.pass(bytes);
         self.is_done = self.is_at_end;
         Ok(Some(piece))
     }

@@ -1,4 +1,4 @@
-//! `once` of files, with `--show` or without, and nothing else: small enough to run from its source within a minute. Until the program is
+//! `once` of files, with `--show` or without, and nothing else: small enough to run from its source in about a minute. Until the program is
 //! built, `./tlcheck` asks this one where it can.
 #![tactic(auto)]
 
